@@ -1,0 +1,6 @@
+pub mod Heads
+pub mod Meanings
+pub mod Permits
+pub mod Streams
+pub mod Taking
+pub mod Serving

@@ -1,0 +1,4 @@
+pub mod Rows
+pub mod Derivation
+pub mod Verdict
+pub mod History
