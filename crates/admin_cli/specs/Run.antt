@@ -1,0 +1,59 @@
+use Rattle.std.specs.Prelude.{◌≡◌, ℕ, ◌⊎◌, ◌++◌, List, [], ◌∷◌, Some, take, codes}
+use Rattle.host_base.specs.Outside.{Inlet, Outlet, Rose}
+use Rattle.cloud_serve.specs.declared.serve.End.{End}
+use Rattle.cloud_serve.specs.declared.serve.End.TheVariants as end
+use Rattle.cloud_serve.specs.Book.{Book}
+use Rattle.cloud_serve.specs.Line.{Line}
+use Rattle.cloud_serve.specs.Served.{Served, Stands}
+use Rattle.cloud_serve.specs.SmallBook.{small_book}
+use Rattle.cloud_serve.specs.Stream.{Requests, Ending, Done, BadHead, IsStream}
+
+-- the status of each end of a connection
+abbrev pub status_by : End → ℕ
+status_by end.Done = 0
+status_by (end.Refused status at) = 3
+status_by end.ReadFault = 4
+status_by end.WriteFault = 5
+status_by end.Memory = 7
+
+-- One connection was served from the small book, over the program's input, output and link: the headline.
+pub record ServesPlay (inlet inlet' : Inlet) (outlet outlet' : Outlet) (line line' : Line) (status : ℕ) : Type 0 where
+  pub end : End
+  pub places : List ℕ
+  pub served : ℕ
+  pub forwarded : ℕ
+  pub final : Book
+  pub headline : Served (record { inlet = inlet; outlet = outlet; line = line; book = record { start = small_book; seen = [] } })
+      (record { inlet = inlet'; outlet = outlet'; line = line'; book = final }) end 0 places served forwarded
+  pub status_is : status ≡ status_by end
+
+-- nothing was done
+pub record Unchanged (inlet inlet' : Inlet) (outlet outlet' : Outlet) (line line' : Line) : Type 0 where
+  pub inlet_is : inlet' ≡ inlet
+  pub outlet_is : outlet' ≡ outlet
+  pub line_is : line' ≡ line
+
+-- what `play` does, or want of memory before the connection
+abbrev pub Plays : Inlet → Inlet → Outlet → Outlet → Line → Line → ℕ → Type 0
+Plays inlet inlet' outlet outlet' line line' status = ServesPlay inlet inlet' outlet outlet' line line' status ⊎ ((status ≡ 7) × Unchanged inlet inlet' outlet outlet' line line')
+
+-- the status that the end of a stream asks for
+abbrev pub status_of_stream : Ending → ℕ
+status_of_stream Done = 0
+status_of_stream (BadHead at) = 3
+
+-- Where neither count rose, the status is that of the stream's end, or memory ran out.
+abbrev pub Completes : Inlet → Inlet → Outlet → Outlet → ℕ → Type 0
+Completes inlet inlet' outlet outlet' status = (bytes : List ℕ) (requests : Requests) → inlet.left ≡ Some bytes → IsStream bytes requests → Stands inlet.faults inlet'.faults → Stands outlet.faults outlet'.faults
+    → (status ≡ 7) ⊎ (status ≡ status_of_stream requests.end)
+
+-- the usage line
+abbrev pub usage_line : List ℕ
+usage_line = codes "usage: admin_cli play | serve FILE PORT COUNT | gen N SEED | check FILE | grain SOCKET COUNT\n"
+
+-- Nothing is taken or asked, and the usage line is written: whole at status 2, and at 5 as far as the sink took it.
+pub record TellsUsage (inlet inlet' : Inlet) (outlet outlet' : Outlet) (line line' : Line) (status : ℕ) : Type 0 where
+  pub inlet_is : inlet' ≡ inlet
+  pub line_is : line' ≡ line
+  pub told : ((status ≡ 2) × ((text : List ℕ) → outlet.written ≡ Some text → outlet'.written ≡ Some (text ++ usage_line)))
+      ⊎ ((status ≡ 5) × Rose outlet.faults outlet'.faults × ((text : List ℕ) → outlet.written ≡ Some text → (n : ℕ) × (outlet'.written ≡ Some (text ++ take n usage_line))))
