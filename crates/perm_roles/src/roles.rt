@@ -1,6 +1,6 @@
 //! Roles, assignments, and what an assignment gives.
 
-ghost use Rattle.std.specs.Prelude.{◌≡◌, ◌↔◌, ◌≤◌, ℕ, length, IfOk, IfErr, IsOk, IsTrue, option_copied};
+ghost use Rattle.std.specs.Prelude.{◌≡◌, ◌↔◌, ◌⊎◌, ◌≤◌, ℕ, length, IfOk, IfErr, IsOk, IsTrue, option_copied};
 ghost use Rattle.std.specs.List.{find};
 ghost use Rattle.perm_roles.specs.PermSet.{Has, IsWithin};
 ghost use Rattle.perm_roles.specs.Roles.{Gives, HasFault, HasNoFault, IsInBase, IsInDefault, IsListed, SetsFit};
@@ -40,6 +40,15 @@ pub struct Assignment {
     pub remove: PermSet,
 }
 
+impl Assignment {
+    /// The positions of the base and those added, without those removed.
+    fn applied_to(&self, base: &PermSet) -> PermSet
+        ensures { (p : ℕ) → Has result p ↔ ((Has base.now p ⊎ Has self.now.add p) × ¬ Has self.now.remove p) }
+    {
+        base.union(&self.add).minus(&self.remove)
+    }
+}
+
 /// Why there is no set of permissions.
 #[derive(Clone, Copy, Debug, PartialEq, Eq)]
 pub enum RoleFault {
@@ -77,7 +86,7 @@ pub fn granted(roles: &[Role], count: u8, assignment: &Assignment) -> Result<Per
         return Err(RoleFault::LongSet);
     }
     let base = base_set(roles, count, assignment.base)?;
-    Ok(base.union(&assignment.add).minus(&assignment.remove))
+    Ok(assignment.applied_to(&base))
 }
 
 fn sets_fit(roles: &[Role], count: u8, assignment: &Assignment) -> bool

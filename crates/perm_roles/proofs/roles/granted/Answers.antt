@@ -6,8 +6,7 @@ use Rattle.perm_roles.proofs.roles.granted.Goals as goal
 pub returns-clause-within : goal.returns-clause-within
 returns-clause-within c p here =
     let fit : SetsFit c.args.roles.now c.args.count c.args.assignment.now = c.sets_fit.ensures.0 (search rules) in
-    let left = (c.minus.ensures p).0 here in
-    elim ((c.union.ensures.members p).0 left.0) [
+    elim ((c.applied_to.ensures p).0 here).0 [
       | inl in_base ↦ base_within c.args.roles.now c.args.count c.args.assignment.now.base p fit.roles_fit ((c.in_ok-base.ensures.members p).0 in_base)
       | inr added ↦ fit.add_fits p added
     ]
