@@ -1,0 +1,4 @@
+mod Bits
+pub mod Giving
+mod Listing
+pub mod Sets

@@ -1,0 +1,3 @@
+pub mod Name2
+pub mod PermSet
+pub mod Roles
