@@ -1,4 +1,4 @@
-use Rattle.std.specs.Prelude.{◌≡◌, ℕ, ◌++◌, ◌==◌, ◌||◌, ◌&&◌, Bool, List, [], ◌∷◌, Option, Some, None, take, nat_le, codes, decimal, if◌then◌else◌, bytes_eq}
+use Rattle.std.specs.Prelude.{ℕ, ◌++◌, ◌==◌, ◌||◌, ◌&&◌, Bool, List, [], ◌∷◌, Option, Some, None, take, nat_le, codes, decimal, if◌then◌else◌, bytes_eq}
 use Rattle.std.specs.List.{flat_map, join_with_byte}
 use Rattle.std.specs.Int.{to_be_bytes, w64}
 use Rattle.hex.specs.Hex.{encode_lower}

@@ -1,4 +1,4 @@
-use Rattle.std.proofs.Common.{◌≡◌, ℕ, suc, zero, ◌+◌, ◌<◌, ◌↔◌, List, [], ◌∷◌, Option, Some, None, length, slice_index_or, refl, sym, ap, ◌∙◌, subst, arith, Contains}
+use Rattle.std.proofs.Common.{◌≡◌, ℕ, suc, ◌+◌, ◌<◌, List, [], ◌∷◌, Option, Some, length, refl, sym, ap, ◌∙◌, subst, arith, Contains}
 use Rattle.std.specs.List.{filter_map, slice_get, range_with_len, cons_option}
 use Rattle.std.proofs.lemmas.List.FromFn.{length-range_with_len, get_or-range_with_len}
 use Rattle.std.specs.List.Sorted.{IsStrictlyIncreasing}
@@ -17,8 +17,8 @@ use Rattle.share_graph.specs.declared.rows.Session.{Session}
 use Rattle.share_graph.specs.declared.state.Tables.{Tables}
 use Rattle.share_graph.specs.declared.state.State.{State}
 use Rattle.share_graph.specs.Rows.{IsAccount, IsRunOf}
-use Rattle.share_graph.specs.Derivation.{Derivation, own, Owns, Holds, IsFactOf, IsAccess}
-use Rattle.share_graph.specs.Verdict.{IsPermit, behind, names_at}
+use Rattle.share_graph.specs.Derivation.{Derivation, own, Owns, Holds, IsFactOf}
+use Rattle.share_graph.specs.Verdict.{IsPermit, names_at}
 use Rattle.cloud_serve.specs.Judging.{IsOwnership}
 
 -- an owner holds each fact of the application

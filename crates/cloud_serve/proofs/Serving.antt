@@ -1,23 +1,17 @@
-use Rattle.std.proofs.Common.{◌≡◌, ◌≢◌, ℕ, ◌+◌, ◌<◌, ◌++◌, ◌⊎◌, List, [], ◌∷◌, Option, Some, None, Result, Ok, Err, length, map, take, refl, sym, ap, ◌∙◌, subst, inl, inr, arith, length-append}
-use Rattle.std.specs.List.{flat_map}
-use Rattle.std.proofs.lemmas.List.{length-map}
-use Rattle.host_base.specs.Outside.{Inlet, Outlet, Rose}
+use Rattle.std.proofs.Common.{◌≡◌, ◌≢◌, ℕ, ◌++◌, List, [], ◌∷◌, Some, length, take, refl, sym, ap, ◌∙◌, subst, inl, inr, arith}
+use Rattle.host_base.specs.Outside.{Outlet, Rose}
 use Rattle.host_base.specs.declared.request.Request.{Request}
 use Rattle.cloud_serve.specs.declared.link.Ask.{Ask}
-use Rattle.cloud_serve.specs.declared.reader.FrontFault.TheVariants as fault
 use Rattle.cloud_serve.specs.declared.serve.ConnEnd.{ConnEnd}
 use Rattle.cloud_serve.specs.declared.serve.End.{End}
 use Rattle.cloud_serve.specs.declared.serve.End.TheVariants as end
 use Rattle.cloud_serve.specs.Book.{Book, Later}
 use Rattle.cloud_serve.specs.Line.{Line}
-use Rattle.cloud_serve.specs.Stream.{Requests, Ending, Done, BadHead, IsHead, IsNoHead, IsStream, Splits, request_of}
-use Rattle.cloud_serve.specs.Reading.{Reads}
-use Rattle.cloud_serve.specs.Served.{World, AskedOf, InHand, Nothing, Refusal, Answer, Broken, NoRoom, request_in, asked_in, text_in, IsLawfulIn, HandAt, CauseAt, StreamAt, WrittenAt, Served, IsEndOf, Stands, Complete}
-use Rattle.cloud_serve.specs.Serving.{Refuses, ServesOneBy, ServesOne, WritesWhole, WritesPart, IsEnded}
-use Rattle.cloud_serve.specs.Taking.{Answers, BreaksOff}
-use Rattle.cloud_serve.specs.Texts.{bad_head_text}
-use Rattle.cloud_serve.specs.Turns.{Turn, AreLawful}
-use Rattle.cloud_serve.proofs.Meanings.{meaning, one_meaning}
+use Rattle.cloud_serve.specs.Stream.{Requests, Done, BadHead, IsHead, IsNoHead, IsStream, request_of}
+use Rattle.cloud_serve.specs.Served.{World, AskedOf, InHand, Nothing, Refusal, Answer, Broken, NoRoom, request_in, asked_in, text_in, IsLawfulIn, HandAt, CauseAt, StreamAt, WrittenAt, Served}
+use Rattle.cloud_serve.specs.Serving.{Refuses, ServesOneBy, ServesOne, IsEnded}
+use Rattle.cloud_serve.specs.Turns.{Turn}
+use Rattle.cloud_serve.proofs.Meanings.{meaning}
 use Rattle.cloud_serve.proofs.Streams.{append-nil}
 use Rattle.cloud_serve.proofs.Taking.{later_refl, asked_none, breaks_first}
 

@@ -1,4 +1,4 @@
-use Rattle.std.proofs.Common.{◌≡◌, ℕ, ◌+◌, ◌≤◌, List, [], ◌∷◌, Option, Some, None, Result, Ok, Err, IfOk, length, refl, sym, ap, ◌∙◌, subst, inl, inr, arith}
+use Rattle.std.proofs.Common.{◌≡◌, ℕ, List, [], ◌∷◌, Option, Some, Result, Ok, Err, IfOk, length, refl, sym, ap, ◌∙◌, inl, inr, arith}
 use Rattle.host_base.specs.declared.bytes.Memory.{Memory}
 use Rattle.host_base.specs.declared.ids.GrainId.{GrainId}
 use Rattle.host_base.specs.declared.ids.RunId.{RunId}
@@ -14,7 +14,7 @@ use Rattle.cloud_serve.specs.Stream.{key_of}
 use Rattle.cloud_serve.specs.Served.{AskedOf}
 use Rattle.cloud_serve.specs.Taking.{RelayBy, Relays, ForwardBy, Forwards, Answers, BreaksOff}
 use Rattle.cloud_serve.specs.Texts.{denial_text, relay_text}
-use Rattle.cloud_serve.specs.Turns.{Turn, IsBegun, ask_of}
+use Rattle.cloud_serve.specs.Turns.{IsBegun}
 use Rattle.cloud_serve.proofs.Streams.{append-nil}
 
 pub later_refl : (book : Book) → Later book book

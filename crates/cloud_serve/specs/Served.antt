@@ -1,4 +1,4 @@
-use Rattle.std.specs.Prelude.{◌≡◌, ℕ, ◌+◌, ◌<◌, ◌≤◌, ◌⊎◌, ◌++◌, List, [], ◌∷◌, Option, Some, length, take, map, count_by, is_none}
+use Rattle.std.specs.Prelude.{◌≡◌, ℕ, ◌+◌, ◌<◌, ◌≤◌, ◌++◌, List, [], ◌∷◌, Option, Some, length, take, map, count_by, is_none}
 use Rattle.std.specs.List.{flat_map}
 use Rattle.host_base.specs.Outside.{Inlet, Outlet, Rose}
 use Rattle.host_base.specs.declared.request.Request.{Request}

@@ -1,15 +1,13 @@
-use Rattle.std.specs.Prelude.{◌≡◌, ℕ, ◌+◌, ◌++◌, List, [], ◌∷◌, Option, Some, Result, Ok, Err, length, take}
+use Rattle.std.specs.Prelude.{◌≡◌, ℕ, ◌++◌, List, [], ◌∷◌, Some, Result, Ok, Err, take}
 use Rattle.host_base.specs.Outside.{Outlet, Rose}
 use Rattle.host_base.specs.declared.request.Request.{Request}
 use Rattle.cloud_serve.specs.declared.serve.ConnEnd.{ConnEnd}
 use Rattle.cloud_serve.specs.declared.serve.End.{End}
 use Rattle.cloud_serve.specs.declared.serve.End.TheVariants as end
-use Rattle.cloud_serve.specs.Book.{Book, Later}
+use Rattle.cloud_serve.specs.Book.{Book}
 use Rattle.cloud_serve.specs.Line.{Line}
-use Rattle.cloud_serve.specs.Served.{AskedOf}
 use Rattle.cloud_serve.specs.Taking.{Answers, BreaksOff}
 use Rattle.cloud_serve.specs.Texts.{bad_head_text}
-use Rattle.cloud_serve.specs.Turns.{Turn}
 
 -- the text was written whole, or a prefix of it
 abbrev pub WritesWhole : Outlet → Outlet → List ℕ → Type 0

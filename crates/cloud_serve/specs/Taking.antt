@@ -6,7 +6,6 @@ use Rattle.host_base.specs.declared.permit.Permit.{Permit}
 use Rattle.host_base.specs.declared.request.Request.{Request}
 use Rattle.cloud_serve.specs.declared.link.Ask.{Ask}
 use Rattle.cloud_serve.specs.declared.turn.Answered.{Answered}
-use Rattle.bridge_headers.specs.Text.{grain_text}
 use Rattle.cloud_serve.specs.Book.{Book, Later}
 use Rattle.cloud_serve.specs.Line.{Line}
 use Rattle.cloud_serve.specs.Served.{AskedOf}

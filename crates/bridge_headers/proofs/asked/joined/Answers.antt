@@ -1,5 +1,4 @@
-use Rattle.std.proofs.Common.{◌≡◌, ◌++◌, ◌∷◌, [], List, ℕ, sym, ap, ◌∙◌, take, arith}
-use Rattle.std.specs.List.{join_with_byte}
+use Rattle.std.proofs.Common.{◌≡◌}
 use Rattle.bridge_headers.proofs.Texts.{joined_first, joined_next}
 use Rattle.bridge_headers.proofs.asked.joined.Goals as goal
 use Rattle.bridge_headers.proofs.asked.joined.Goals.{then-i-gt0+in_ok-put, else-i-gt0}

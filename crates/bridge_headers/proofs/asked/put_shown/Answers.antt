@@ -1,4 +1,4 @@
-use Rattle.std.proofs.Common.{◌≡◌, ◌++◌, codes, List, ℕ}
+use Rattle.std.proofs.Common.{◌≡◌, ◌++◌, codes}
 use Rattle.bridge_headers.proofs.Texts.{three_pieces}
 use Rattle.bridge_headers.specs.Text.{field, name_text, user_id_text}
 use Rattle.bridge_headers.proofs.asked.put_shown.Goals as goal

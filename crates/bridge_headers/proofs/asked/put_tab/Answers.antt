@@ -1,5 +1,5 @@
 use Rattle.bridge_headers.proofs.Texts.{two_pieces}
-use Rattle.std.proofs.Common.{◌≡◌, ◌++◌, codes, List, ℕ}
+use Rattle.std.proofs.Common.{◌≡◌, ◌++◌, codes}
 use Rattle.bridge_headers.specs.Text.{field, number_text}
 use Rattle.bridge_headers.proofs.asked.put_tab.Goals as goal
 

@@ -1,4 +1,4 @@
-use Rattle.std.proofs.Common.{◌≡◌, ◌<◌, ◌++◌, [], List, ℕ, String, string_bytes, sym, ap, ◌∙◌, arith, Fits, w8}
+use Rattle.std.proofs.Common.{◌≡◌, string_bytes, ◌∙◌, arith}
 use Rattle.percent_encoding.specs.Percent.{percent_encode}
 use Rattle.bridge_headers.specs.declared.text.TheConstants.{ESCAPED}
 use Rattle.bridge_headers.proofs.Texts.{percent_encode-name}

@@ -1,4 +1,4 @@
-use Rattle.std.proofs.Common.{◌≡◌, ◌++◌, List, ℕ, codes, sym, ◌∙◌, ap}
+use Rattle.std.proofs.Common.{◌++◌, codes, sym, ◌∙◌}
 use Rattle.std.proofs.lemmas.List.{append_cancel_left}
 use Rattle.cloud_serve.proofs.Heads.{target_is, parts_are}
 use Rattle.cloud_serve.proofs.head.parts.Goals as goal

@@ -3,7 +3,6 @@ use Rattle.host_base.specs.declared.key.Key.{Key}
 use Rattle.host_base.specs.declared.verdict.Verdict.{Verdict}
 use Rattle.host_base.specs.declared.verdict.Verdict.TheVariants as verdict
 use Rattle.cloud_serve.specs.Book.{Judged}
-use Rattle.cloud_serve.specs.Stream.{key_of}
 use Rattle.cloud_serve.proofs.Taking.{breaks_first, answers_denied, answers_forwarded, breaks_forwarded}
 use Rattle.cloud_serve.proofs.turn.take_turn.Goals as goal
 

@@ -1,4 +1,3 @@
-use Rattle.std.proofs.Common.{sym}
 use Rattle.cloud_serve.specs.Stream.{is_key_end}
 use Rattle.cloud_serve.proofs.Heads.{at_some, at_none}
 use Rattle.cloud_serve.proofs.turn.up_to_end.Goals as goal
