@@ -1,0 +1,4 @@
+pub mod Text
+pub mod Value
+pub mod Descriptor
+pub mod Matching

@@ -1,0 +1,6 @@
+//! The powerbox's vocabulary: tag values, descriptors and queries, and when a query matches an offer.
+#![tactic(auto)]
+
+pub mod text;
+pub mod value;
+mod matching;
