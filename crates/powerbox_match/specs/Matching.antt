@@ -77,7 +77,21 @@ matches_with quality query offers = list_any (λ offer. descriptor_matches query
 abbrev pub some_match : Quality → List DescriptorData → List DescriptorData → Bool
 some_match quality query offers = list_any (λ wanted. matches_with quality wanted offers) query
 
--- the quality with which a query matches offers: none where a pair that matches is unacceptable, or no pair matches
+-- of the qualities that occur, the strongest: unacceptable before preferred before acceptable
+abbrev pub strongest : (Quality → Bool) → Option Quality
+strongest occurs =
+    if occurs Unacceptable then Some Unacceptable
+    else (if occurs Preferred then Some Preferred
+    else (if occurs Acceptable then Some Acceptable else None))
+
+-- the stronger of two qualities, either of which may be missing
+abbrev pub stronger : Option Quality → Option Quality → Option Quality
+stronger None other = other
+stronger (Some one) None = Some one
+stronger (Some one) (Some other) = Some (pair_quality one other)
+
+-- the quality with which a query matches offers: none where a pair that matches is unacceptable or no pair
+-- matches, else preferred where a pair that matches is, else acceptable
 abbrev pub match_of : List DescriptorData → List DescriptorData → Option Quality
 match_of query offers =
     if some_match Unacceptable query offers then None

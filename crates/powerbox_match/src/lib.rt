@@ -3,4 +3,4 @@
 
 pub mod text;
 pub mod value;
-mod matching;
+pub mod matching;

@@ -3,12 +3,12 @@ use Rattle.powerbox_match.specs.Value.{is_ascending, are_fields_tidy, tag_data, 
 use Rattle.powerbox_match.specs.Matching.{value_matches, fields_match, items_match, any_item}
 use Rattle.powerbox_match.proofs.matching.+matching.Given as goal
 
-abbrev pub invariant-fields_match-loop-name : goal.invariant-fields_match-loop-name
-invariant-fields_match-loop-name l =
+abbrev pub invariant-fields_match-loop-field : goal.invariant-fields_match-loop-field
+invariant-fields_match-loop-field l =
     record {
       ascending : IsTrue (is_ascending (fields_data l.rest));
       tidy : IsTrue (are_fields_tidy (fields_data l.rest));
-      same : fields_match (fields_data (drop l.name-index l.wanted)) (fields_data l.rest) ≡ fields_match (fields_data l.wanted) (fields_data l.given);
+      same : fields_match (fields_data (drop l.field-index l.wanted)) (fields_data l.rest) ≡ fields_match (fields_data l.wanted) (fields_data l.given);
     }
 
 abbrev pub invariant-items_match-loop-item : goal.invariant-items_match-loop-item

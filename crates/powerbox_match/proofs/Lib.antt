@@ -1,0 +1,5 @@
+pub mod Tidy
+pub mod Merge
+pub mod Steps
+pub mod Views
+pub mod Strongest
