@@ -3,3 +3,4 @@ pub mod Merge
 pub mod Steps
 pub mod Views
 pub mod Strongest
+pub mod Insertion

@@ -2,3 +2,4 @@ pub mod Text
 pub mod Value
 pub mod Descriptor
 pub mod Matching
+pub mod Choices

@@ -1,6 +1,9 @@
 //! The powerbox's vocabulary: tag values, descriptors and queries, and when a query matches an offer.
 #![tactic(auto)]
 
+pub mod choices;
+pub mod fault;
+pub mod matching;
+mod order;
 pub mod text;
 pub mod value;
-pub mod matching;

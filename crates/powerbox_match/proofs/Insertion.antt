@@ -1,0 +1,47 @@
+-- An insertion keeps the order.
+use Rattle.std.proofs.Common.{◌≡◌, ◌≢◌, ℕ, Bool, true, false, ◌&&◌, ◌||◌, cond, eqb, ltb, List, [], ◌∷◌, All, refl, sym, ap, ◌∙◌, arith}
+use Rattle.std.specs.Cmp.{first_so, second_so}
+use Rattle.std.specs.List.{list_all}
+use Rattle.std.proofs.lemmas.Bool.Decides.{nat_tests}
+use Rattle.std.proofs.lemmas.List.Elements.{All-head, All-tail}
+use Rattle.powerbox_match.specs.declared.choices.Choice.{Choice}
+use Rattle.powerbox_match.specs.Choices.{rank_of, stands_before, is_in_order, insertion}
+
+before_trans : (r n s m t k : ℕ) → (ltb r s || (eqb r s && ltb n m)) ≡ true → (ltb s t || (eqb s t && ltb m k)) ≡ true → (ltb r t || (eqb r t && ltb n k)) ≡ true
+before_trans r n s m t k h g = grind (arith, nat_tests)
+
+before_total : (r n s m : ℕ) → (ltb r s || (eqb r s && ltb n m)) ≡ false → n ≢ m → (ltb s r || (eqb s r && ltb m n)) ≡ true
+before_total r n s m h other = grind (arith, nat_tests)
+
+-- what stands before a choice stands before all that the choice stands before
+stands_before-all : (c d : Choice) (ds : List Choice) → stands_before c d ≡ true → list_all (stands_before d) ds ≡ true → list_all (stands_before c) ds ≡ true
+stands_before-all c d [] h k = refl
+stands_before-all c d (e ∷ es) h k =
+    let here : stands_before c e ≡ true = before_trans (rank_of c.quality) c.num (rank_of d.quality) d.num (rank_of e.quality) e.num h (first_so _ _ k) in
+    rw here (stands_before-all c d es h (second_so _ _ k))
+
+list_all-insertion_at : (b : Bool) (d c e : Choice) (es : List Choice) → stands_before d c ≡ true → list_all (stands_before d) (e ∷ es) ≡ true → list_all (stands_before d) (insertion c es) ≡ true
+    → list_all (stands_before d) (cond b (c ∷ e ∷ es) (e ∷ insertion c es)) ≡ true
+list_all-insertion_at true d c e es h k later = rw h k
+list_all-insertion_at false d c e es h k later = let here : stands_before d e ≡ true = first_so _ _ k in rw here later
+
+list_all-insertion : (d c : Choice) (ds : List Choice) → stands_before d c ≡ true → list_all (stands_before d) ds ≡ true → list_all (stands_before d) (insertion c ds) ≡ true
+list_all-insertion d c [] h k = rw h
+list_all-insertion d c (e ∷ es) h k = list_all-insertion_at (stands_before c e) d c e es h k (list_all-insertion d c es h (second_so _ _ k))
+
+is_in_order-insertion_at : (b : Bool) (c d : Choice) (ds : List Choice) → stands_before c d ≡ b → d.num ≢ c.num → is_in_order (d ∷ ds) ≡ true → is_in_order (insertion c ds) ≡ true
+    → is_in_order (cond b (c ∷ d ∷ ds) (d ∷ insertion c ds)) ≡ true
+is_in_order-insertion_at true c d ds h other up later =
+    let all : list_all (stands_before c) ds ≡ true = stands_before-all c d ds h (first_so _ _ up) in
+    rw (h, all) up
+is_in_order-insertion_at false c d ds h other up later =
+    let apart : c.num ≢ d.num = λ e. other (sym e) in
+    let above : stands_before d c ≡ true = before_total (rank_of c.quality) c.num (rank_of d.quality) d.num h apart in
+    rw (list_all-insertion d c ds above (first_so _ _ up)) later
+
+-- a list in order stays in order where a choice with a new number is put in its place
+pub is_in_order-insertion : (c : Choice) (cs : List Choice) → All (λ d. d.num ≢ c.num) cs → is_in_order cs ≡ true → is_in_order (insertion c cs) ≡ true
+is_in_order-insertion c [] other up = refl
+is_in_order-insertion c (d ∷ ds) other up =
+    is_in_order-insertion_at (stands_before c d) c d ds refl (All-head (λ (e : Choice). e.num ≢ c.num) d ds other) up
+        (is_in_order-insertion c ds (All-tail (λ (e : Choice). e.num ≢ c.num) d ds other) (second_so _ _ up))
