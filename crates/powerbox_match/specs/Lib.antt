@@ -3,3 +3,4 @@ pub mod Value
 pub mod Descriptor
 pub mod Matching
 pub mod Choices
+pub mod Shape

@@ -2,6 +2,7 @@
 #![tactic(auto)]
 
 pub mod choices;
+mod depth;
 pub mod fault;
 pub mod matching;
 mod order;
