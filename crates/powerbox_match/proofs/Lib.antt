@@ -1,3 +1,5 @@
+pub mod Ends
+pub mod Stated
 pub mod Tidy
 pub mod Merge
 pub mod Steps

@@ -6,5 +6,6 @@ mod depth;
 pub mod fault;
 pub mod matching;
 mod order;
+mod reading;
 pub mod text;
 pub mod value;
