@@ -1,4 +1,6 @@
 pub mod Ends
+pub mod Nesting
+pub mod Listed
 pub mod Stated
 pub mod Tidy
 pub mod Merge

@@ -18,16 +18,16 @@ use Rattle.powerbox_match.specs.Shape.{map_both, value_of, items_stated, fields_
 use Rattle.powerbox_match.proofs.Tidy.{Entry as Field}
 
 -- both parts are there where they are put together
-both_there : {A B C : Type 0} (f : A → B → C) (a : Option A) (b : Option B) (c : C) → map_both f a b ≡ Some c → (x : A) × (y : B) × (a ≡ Some x) × (b ≡ Some y) × (c ≡ f x y)
+pub both_there : {A B C : Type 0} (f : A → B → C) (a : Option A) (b : Option B) (c : C) → map_both f a b ≡ Some c → (x : A) × (y : B) × (a ≡ Some x) × (b ≡ Some y) × (c ≡ f x y)
 both_there f (Some x) (Some y) c e = (x, y, refl, refl, cc)
 both_there f (Some x) None c e = absurd (cc)
 both_there f None b c e = absurd (cc)
 
-none_first : {A B C : Type 0} (f : A → B → C) (a : Option A) (b : Option B) → a ≡ None → map_both f a b ≡ None
+pub none_first : {A B C : Type 0} (f : A → B → C) (a : Option A) (b : Option B) → a ≡ None → map_both f a b ≡ None
 none_first f (Some a) b e = absurd (cc)
 none_first f None b e = refl
 
-none_second : {A B C : Type 0} (f : A → B → C) (a : Option A) (b : Option B) → b ≡ None → map_both f a b ≡ None
+pub none_second : {A B C : Type 0} (f : A → B → C) (a : Option A) (b : Option B) → b ≡ None → map_both f a b ≡ None
 none_second f (Some a) (Some b) e = absurd (cc)
 none_second f (Some a) None e = refl
 none_second f None b e = refl
@@ -80,7 +80,7 @@ under_name true o fs e = (refl, e)
 under_name false o fs e = absurd (cc)
 
 -- the first field that is stated, and those after it
-fields_there : (k : List ℕ) (d : Data) (ms : Members) (fs : FieldsData) → fields_stated (Members.member k d ms) ≡ Some fs
+pub fields_there : (k : List ℕ) (d : Data) (ms : Members) (fs : FieldsData) → fields_stated (Members.member k d ms) ≡ Some fs
     → (v : TagData) × (rest : FieldsData) × (is_text k ≡ true) × (value_of d ≡ Some v) × (fields_stated ms ≡ Some rest) × (fs ≡ field k v rest)
 fields_there k d ms fs e =
     let p = under_name (is_text k) (map_both (field k) (value_of d) (fields_stated ms)) fs e in

@@ -7,5 +7,6 @@ pub mod fault;
 pub mod matching;
 mod order;
 mod reading;
+pub mod shape;
 pub mod text;
 pub mod value;

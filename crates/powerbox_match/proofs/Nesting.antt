@@ -1,0 +1,56 @@
+-- A value of a tag nests as deep as the JSON value that states it.
+use Rattle.std.proofs.Common.{◌≡◌, ℕ, suc, max, ◌<◌, ◌≤◌, Bool, true, false, leb, cond, List, [], ◌∷◌, Option, Some, None, option_map, length, get_or, refl, sym, ap, ◌∙◌, arith}
+use Rattle.std.specs.Prelude.{codes, ℤ}
+use Rattle.std.specs.Option.{option_map_or}
+use Rattle.std.proofs.lemmas.Bool.Decides.{nat_tests}
+use Rattle.std.proofs.lemmas.List.Recursion.{max_bounds}
+use Rattle.serde_json.specs.Data.{Data, Items, Members}
+use Rattle.serde_json.specs.Events.{items_len, members_len}
+use Rattle.serde_json.specs.Find.{get, as_integer}
+use Rattle.serde_json.specs.View.{view, items_view}
+use Rattle.serde_json.specs.declared.value.Value.{Value}
+use Rattle.powerbox_match.specs.Text.{is_text, text_of}
+use Rattle.powerbox_match.specs.Value.{TagData, any, number, text, fields, items, FieldsData, no_fields, field, ItemsData, no_items, item, nesting, fields_nesting, items_nesting}
+use Rattle.powerbox_match.specs.Shape.{json_nesting, json_items_nesting, json_members_nesting, value_of, items_stated, fields_stated, deepest_value, value_or_any}
+use Rattle.powerbox_match.proofs.Stated.{both_there, fields_there}
+
+mapped_there : {A : Type 0} (f : A → TagData) (o : Option A) (t : TagData) → option_map f o ≡ Some t → (x : A) × (o ≡ Some x) × (t ≡ f x)
+mapped_there f (Some x) t e = (x, refl, cc)
+mapped_there f None t e = absurd (cc)
+
+under_count : {A : Type 0} (b : Bool) (f : A → TagData) (o : Option A) (t : TagData) → cond b (option_map f o) None ≡ Some t → (x : A) × (o ≡ Some x) × (t ≡ f x)
+under_count true f o t e = mapped_there f o t e
+under_count false f o t e = absurd (cc)
+
+mutual
+  pub nesting-value_of : (d : Data) (t : TagData) → value_of d ≡ Some t → nesting t ≡ json_nesting d
+  nesting-value_of Data.null t e = let is : t ≡ any = cc in rw is
+  nesting-value_of (Data.boolean b) t e = absurd (cc)
+  nesting-value_of (Data.number n) t e = let p = mapped_there number (as_integer n) t e in rw p.2
+  nesting-value_of (Data.string s) t e = let p = mapped_there text (text_of s) t e in rw p.2
+  nesting-value_of (Data.array ds) t e =
+      let p = under_count (leb (items_len ds) 1000) items (items_stated ds) t e in rw p.2 (ap suc (items_nesting-stated ds p.0 p.1))
+  nesting-value_of (Data.object ms) t e =
+      let p = under_count (leb (members_len ms) 1000) fields (fields_stated ms) t e in rw p.2 (ap suc (fields_nesting-stated ms p.0 p.1))
+
+  items_nesting-stated : (ds : Items) (vs : ItemsData) → items_stated ds ≡ Some vs → items_nesting vs ≡ json_items_nesting ds
+  items_nesting-stated Items.no_items vs e = let is : vs ≡ no_items = cc in rw is
+  items_nesting-stated (Items.item d ds) vs e =
+      let p = both_there item (value_of d) (items_stated ds) vs e in
+      rw (p.4, nesting-value_of d p.0 p.2, items_nesting-stated ds p.1 p.3)
+
+  fields_nesting-stated : (ms : Members) (fs : FieldsData) → fields_stated ms ≡ Some fs → fields_nesting fs ≡ json_members_nesting ms
+  fields_nesting-stated Members.no_members fs e = let is : fs ≡ no_fields = cc in rw is
+  fields_nesting-stated (Members.member k d ms) fs e =
+      let p = fields_there k d ms fs e in
+      rw (p.5, nesting-value_of d p.0 p.3, fields_nesting-stated ms p.1 p.4)
+
+-- a tag's value nests no deeper than the deepest
+pub nests_at_most : (ds : List Value) (i : ℕ) (d : Value) → i < length ds → option_map_or json_nesting (get (codes "value") (view (get_or ds i d))) 0 ≤ deepest_value (items_view ds)
+nests_at_most ds i d within =
+    max_bounds (λ (xs : List Value). deepest_value (items_view xs)) (λ (x : Value). option_map_or json_nesting (get (codes "value") (view x)) 0) refl (λ _ _. refl) ds i d within
+
+-- a value that is stated, or anything, nests at most 16 deep where the JSON value does
+pub nesting-value_or_any : (o : Option Data) (t : TagData) → option_map_or json_nesting o 0 ≤ 16 → value_or_any o ≡ Some t → nesting t ≤ 16
+nesting-value_or_any None t few e = let is : t ≡ any = cc in rw is (omega arith)
+nesting-value_or_any (Some d) t few e = omega (arith, nesting-value_of d t e)
