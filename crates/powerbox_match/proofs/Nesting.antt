@@ -1,5 +1,5 @@
 -- A value of a tag nests as deep as the JSON value that states it.
-use Rattle.std.proofs.Common.{◌≡◌, ℕ, suc, max, ◌<◌, ◌≤◌, Bool, true, false, leb, cond, List, [], ◌∷◌, Option, Some, None, option_map, length, get_or, refl, sym, ap, ◌∙◌, arith}
+use Rattle.std.proofs.Common.{◌≡◌, ℕ, suc, max, ◌<◌, ◌≤◌, Bool, true, false, leb, cond, List, [], ◌∷◌, ◌++◌, Option, Some, None, option_map, length, get_or, refl, sym, ap, ◌∙◌, arith}
 use Rattle.std.specs.Prelude.{codes, ℤ}
 use Rattle.std.specs.Option.{option_map_or}
 use Rattle.std.proofs.lemmas.Bool.Decides.{nat_tests}
@@ -7,11 +7,12 @@ use Rattle.std.proofs.lemmas.List.Recursion.{max_bounds}
 use Rattle.serde_json.specs.Data.{Data, Items, Members}
 use Rattle.serde_json.specs.Events.{items_len, members_len}
 use Rattle.serde_json.specs.Find.{get, as_integer}
-use Rattle.serde_json.specs.View.{view, items_view}
+use Rattle.serde_json.specs.View.{view, items_view, members_view}
 use Rattle.serde_json.specs.declared.value.Value.{Value}
+use Rattle.serde_json.proofs.Views.{Entry}
 use Rattle.powerbox_match.specs.Text.{is_text, text_of}
 use Rattle.powerbox_match.specs.Value.{TagData, any, number, text, fields, items, FieldsData, no_fields, field, ItemsData, no_items, item, nesting, fields_nesting, items_nesting}
-use Rattle.powerbox_match.specs.Shape.{json_nesting, json_items_nesting, json_members_nesting, value_of, items_stated, fields_stated, deepest_value, value_or_any}
+use Rattle.powerbox_match.specs.Shape.{json_nesting, json_items_nesting, json_members_nesting, value_of, items_stated, fields_stated, tag_nesting, deepest_value, value_or_any}
 use Rattle.powerbox_match.proofs.Stated.{both_there, fields_there}
 
 mapped_there : {A : Type 0} (f : A → TagData) (o : Option A) (t : TagData) → option_map f o ≡ Some t → (x : A) × (o ≡ Some x) × (t ≡ f x)
@@ -46,11 +47,21 @@ mutual
       rw (p.5, nesting-value_of d p.0 p.3, fields_nesting-stated ms p.1 p.4)
 
 -- a tag's value nests no deeper than the deepest
-pub nests_at_most : (ds : List Value) (i : ℕ) (d : Value) → i < length ds → option_map_or json_nesting (get (codes "value") (view (get_or ds i d))) 0 ≤ deepest_value (items_view ds)
+pub nests_at_most : (ds : List Value) (i : ℕ) (d : Value) → i < length ds → tag_nesting (view (get_or ds i d)) ≤ deepest_value (items_view ds)
 nests_at_most ds i d within =
-    max_bounds (λ (xs : List Value). deepest_value (items_view xs)) (λ (x : Value). option_map_or json_nesting (get (codes "value") (view x)) 0) refl (λ _ _. refl) ds i d within
+    max_bounds (λ (xs : List Value). deepest_value (items_view xs)) (λ (x : Value). tag_nesting (view x)) refl (λ _ _. refl) ds i d within
 
 -- a value that is stated, or anything, nests at most 16 deep where the JSON value does
 pub nesting-value_or_any : (o : Option Data) (t : TagData) → option_map_or json_nesting o 0 ≤ 16 → value_or_any o ≡ Some t → nesting t ≤ 16
 nesting-value_or_any None t few e = let is : t ≡ any = cc in rw is (omega arith)
 nesting-value_or_any (Some d) t few e = omega (arith, nesting-value_of d t e)
+
+-- an item nests no deeper than the deepest
+pub item_nests_at_most : (ds : List Value) (i : ℕ) (d : Value) → i < length ds → json_nesting (view (get_or ds i d)) ≤ json_items_nesting (items_view ds)
+item_nests_at_most ds i d within =
+    max_bounds (λ (xs : List Value). json_items_nesting (items_view xs)) (λ (x : Value). json_nesting (view x)) refl (λ _ _. refl) ds i d within
+
+-- a member nests no deeper than the deepest
+pub member_nests_at_most : (es : List Entry) (e : Entry) (more : List Entry) → json_nesting (view e.1) ≤ json_members_nesting (members_view (es ++ e ∷ more))
+member_nests_at_most [] e more = omega arith
+member_nests_at_most (x ∷ es) e more = omega (arith, member_nests_at_most es e more)

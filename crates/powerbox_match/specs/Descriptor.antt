@@ -19,6 +19,10 @@ tag_view t = (t.id, tag_data t.value)
 abbrev pub descriptor_view : Descriptor → DescriptorData
 descriptor_view d = record { tags = map tag_view d.tags.items; quality = d.quality }
 
+-- what a list of descriptors stands for
+abbrev pub offers_view : List Descriptor → List DescriptorData
+offers_view ds = map descriptor_view ds
+
 -- what a query stands for: its descriptors in order
 abbrev pub query_view : Query → List DescriptorData
-query_view q = map descriptor_view q.descriptors.items
+query_view q = offers_view q.descriptors.items

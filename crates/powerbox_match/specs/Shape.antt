@@ -71,10 +71,18 @@ abbrev pub tags_of : Items → Option (List (ℕ × TagData))
 tags_of Items.no_items = Some []
 tags_of (Items.item d ds) = map_both (λ t ts. t ∷ ts) (tag_of d) (tags_of ds)
 
+-- how deep the value of a tag nests, which is 0 where none is stated
+abbrev pub tag_nesting : Data → ℕ
+tag_nesting d = option_map_or json_nesting (get (codes "value") d) 0
+
 -- how deep the deepest value of a tag nests among JSON values
 abbrev pub deepest_value : Items → ℕ
 deepest_value Items.no_items = 0
-deepest_value (Items.item d ds) = max (option_map_or json_nesting (get (codes "value") d) 0) (deepest_value ds)
+deepest_value (Items.item d ds) = max (tag_nesting d) (deepest_value ds)
+
+-- the list of tags in a JSON value, if there is one
+abbrev pub tag_list : Data → Option Items
+tag_list d = option_and_then as_array (get (codes "tags") d)
 
 -- the tags of a descriptor, or why it has none: a value deeper than 16, or more than 32 tags, or another fault
 abbrev pub tags_or_fault : Option Items → Result (List (ℕ × TagData)) ShapeFault
@@ -105,7 +113,7 @@ descriptor_with (Ok tags) (Ok quality) = Ok (record { tags = tags; quality = qua
 -- the descriptor that a JSON value states, or its first fault
 abbrev pub descriptor_of : Data → Result DescriptorData ShapeFault
 descriptor_of d =
-    descriptor_with (tags_or_fault (option_and_then as_array (get (codes "tags") d))) (quality_or_fault (get (codes "quality") d))
+    descriptor_with (tags_or_fault (tag_list d)) (quality_or_fault (get (codes "quality") d))
 
 -- a first descriptor and those after it, or the first fault
 abbrev pub with_first : Result DescriptorData ShapeFault → Result (List DescriptorData) ShapeFault → Result (List DescriptorData) ShapeFault

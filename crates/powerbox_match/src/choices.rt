@@ -1,10 +1,9 @@
 //! The choices that match a query, in the order in which they are offered.
 
-ghost use Rattle.std.specs.Prelude.{◌≡◌, ◌≢◌, ◌≤◌, [], List, map, length, insert, All, IsTrue, OnOk, OnErr, IfErr};
+ghost use Rattle.std.specs.Prelude.{◌≡◌, ◌≢◌, ◌≤◌, [], length, insert, All, IsTrue, OnOk, OnErr, IfErr};
 
 use crate::fault::ShapeFault;
 use crate::matching::matches;
-use crate::order::{place_of, rank_of};
 use crate::value::{Descriptor, Quality, Query};
 use std::alloc::Global;
 use std::marker::Model;
@@ -17,14 +16,35 @@ pub struct Choice {
 }
 
 impl Choice {
-    ghost use Rattle.powerbox_match.specs.Choices.{stands_before};
+    ghost use Rattle.powerbox_match.specs.Choices.{rank_of, stands_before, insertion};
 
-    pub(crate) fn stands_before(&self, other: &Choice) -> bool
+    // Preferred choices come first.
+    fn rank(&self) -> u8
+        ensures { result ≡ rank_of self.now.quality }
+    {
+        match self.quality {
+            Quality::Preferred => 0,
+            Quality::Acceptable => 1,
+            Quality::Unacceptable => 2,
+        }
+    }
+
+    fn stands_before(&self, other: &Choice) -> bool
         ensures { result ≡ stands_before self.now other.now }
     {
-        let rank = rank_of(self.quality);
-        let other_rank = rank_of(other.quality);
-        rank < other_rank || rank == other_rank && self.num < other.num
+        self.rank() < other.rank() || self.rank() == other.rank() && self.num < other.num
+    }
+
+    fn place_in(&self, in_order: &[Choice]) -> usize
+        ensures within { result ≤ length in_order.now }
+        ensures place { insert in_order.now result self.now ≡ insertion self.now in_order.now }
+    {
+        for (place, other) in in_order.iter().enumerate() {
+            if self.stands_before(other) {
+                return place;
+            }
+        }
+        in_order.len()
     }
 }
 
@@ -47,7 +67,7 @@ impl Model for Choices {
 }
 
 impl Choices {
-    ghost use Rattle.powerbox_match.specs.Descriptor.{descriptor_view, query_view};
+    ghost use Rattle.powerbox_match.specs.Descriptor.{offers_view, query_view};
     ghost use Rattle.powerbox_match.specs.Matching.{match_of};
     ghost use Rattle.powerbox_match.specs.Choices.{is_in_order, choices_after};
 
@@ -70,8 +90,8 @@ impl Choices {
         offers: &[Descriptor],
     ) -> Result<(), ShapeFault>
         requires { All (λ choice. choice.num ≢ num) self.old }
-        ensures ok { OnOk result (self.new
-            ≡ choices_after (match_of (query_view query.now) (map descriptor_view offers.now)) num self.old) }
+        ensures ok { OnOk result
+            (self.new ≡ choices_after (match_of (query_view query.now) (offers_view offers.now)) num self.old) }
         ensures err { OnErr result (self.new ≡ self.old) }
         ensures memory { IfErr result (λ fault. fault ≡ ShapeFault.Memory) }
     {
@@ -79,7 +99,7 @@ impl Choices {
             return Ok(());
         };
         let choice = Choice { num, quality };
-        let place = place_of(&choice, &self.in_order);
+        let place = choice.place_in(&self.in_order);
         self.in_order.insert(place, choice)?;
         Ok(())
     }

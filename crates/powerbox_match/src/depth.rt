@@ -1,10 +1,8 @@
 //! How deep a JSON value nests.
 
-ghost use Rattle.std.specs.Prelude.{◌≡◌, nat_le, codes, length};
-ghost use Rattle.std.specs.Option.{option_map_or};
-ghost use Rattle.serde_json.specs.Find.{get};
+ghost use Rattle.std.specs.Prelude.{◌≡◌, nat_le};
 ghost use Rattle.serde_json.specs.View.{view, items_view, members_view};
-ghost use Rattle.powerbox_match.specs.Shape.{json_nesting, json_items_nesting, json_members_nesting, deepest_value};
+ghost use Rattle.powerbox_match.specs.Shape.{json_nesting, json_items_nesting, json_members_nesting, tag_nesting, deepest_value};
 
 use serde_json::{Map, Value};
 
@@ -51,7 +49,7 @@ fn members_nest_within(members: &Map<String, Value>, most: usize) -> bool
 }
 
 fn value_nests_within(tag: &Value, most: usize) -> bool
-    ensures { result ≡ nat_le (option_map_or json_nesting (get (codes "value") (view tag.now)) 0) most }
+    ensures { result ≡ nat_le (tag_nesting (view tag.now)) most }
 {
     match tag.get("value") {
         Some(value) => nests_within(value, most),

@@ -2,7 +2,7 @@
 
 ghost use Rattle.std.specs.Prelude.{◌≡◌, IsTrue, map, option_map};
 ghost use Rattle.powerbox_match.specs.Value.{is_tidy, is_ascending, are_fields_tidy, are_items_tidy, tag_data, fields_data, items_data};
-ghost use Rattle.powerbox_match.specs.Descriptor.{tag_view, descriptor_view, query_view};
+ghost use Rattle.powerbox_match.specs.Descriptor.{tag_view, descriptor_view, offers_view, query_view};
 ghost use Rattle.powerbox_match.specs.Matching.{value_matches, fields_match, fields_from, get_field, items_match, any_item, tag_matches, descriptor_matches, pair_quality, matches_with, strongest, stronger, match_of};
 
 use crate::text::TagText;
@@ -129,7 +129,8 @@ fn descriptor_matches(wanted: &Descriptor, given: &Descriptor) -> bool
 
 // The strongest quality with which a descriptor matches some offer.
 fn strongest_match(wanted: &Descriptor, offers: &[Descriptor]) -> Option<Quality>
-    ensures { result ≡ strongest (λ q. matches_with q (descriptor_view wanted.now) (map descriptor_view offers.now)) }
+    ensures { result ≡ strongest
+        (λ quality. matches_with quality (descriptor_view wanted.now) (offers_view offers.now)) }
 {
     let mut found = None;
     for offer in offers {
@@ -145,7 +146,7 @@ fn strongest_match(wanted: &Descriptor, offers: &[Descriptor]) -> Option<Quality
 /// It is none where no pair of a query's descriptor and an offer matches, or where a pair that
 /// matches is unacceptable, else preferred where a pair that matches is, else acceptable.
 pub fn matches(query: &Query, offers: &[Descriptor]) -> Option<Quality>
-    ensures { result ≡ match_of (query_view query.now) (map descriptor_view offers.now) }
+    ensures { result ≡ match_of (query_view query.now) (offers_view offers.now) }
 {
     let mut found = None;
     for wanted in &query.descriptors {

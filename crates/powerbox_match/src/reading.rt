@@ -4,7 +4,7 @@ ghost use Rattle.std.specs.Prelude.{◌≡◌, ◌≢◌, ◌≤◌, Some, None,
 ghost use Rattle.serde_json.specs.Data.{Data};
 ghost use Rattle.serde_json.specs.View.{view, items_view, members_view};
 ghost use Rattle.powerbox_match.specs.Value.{TagData, is_tidy, tag_data, fields_data, items_data};
-ghost use Rattle.powerbox_match.specs.Shape.{value_of};
+ghost use Rattle.powerbox_match.specs.Shape.{json_nesting, json_items_nesting, json_members_nesting, value_of};
 
 use crate::fault::ShapeFault;
 use crate::text::TagText;
@@ -19,6 +19,7 @@ const BAD_TAG: ShapeFault = ShapeFault::BadShape(1);
 
 #[cycle(reading)]
 pub(crate) fn value_from(alloc: Global, value: &Value) -> Result<TagValue, ShapeFault>
+    requires { json_nesting (view value.now) ≤ 16 }
     ensures ok { IfOk result (λ t. value_of (view value.now) ≡ Some (tag_data t)) }
     ensures tidy { IfOk result (λ t. IsTrue (is_tidy (tag_data t))) }
     ensures fault { IfErr result (λ e. e ≢ ShapeFault.Memory
@@ -42,6 +43,7 @@ pub(crate) fn value_from(alloc: Global, value: &Value) -> Result<TagValue, Shape
 
 #[cycle(reading)]
 fn items_from(alloc: Global, items: &[Value]) -> Result<Vec<TagValue>, ShapeFault>
+    requires { json_items_nesting (items_view items.now) ≤ 16 }
     ensures ok { IfOk result (λ v. value_of (Data.array (items_view items.now)) ≡ Some (TagData.items (items_data v.items))) }
     ensures tidy { IfOk result (λ v. IsTrue (is_tidy (TagData.items (items_data v.items)))) }
     ensures fault { IfErr result (λ e. e ≢ ShapeFault.Memory
@@ -62,6 +64,7 @@ fn fields_from(
     alloc: Global,
     members: &Map<String, Value>,
 ) -> Result<Vec<(TagText, TagValue)>, ShapeFault>
+    requires { json_members_nesting (members_view members.now.entries) ≤ 16 }
     ensures ok { IfOk result (λ v. value_of (Data.object (members_view members.now.entries)) ≡ Some (TagData.fields (fields_data v.items))) }
     ensures tidy { IfOk result (λ v. IsTrue (is_tidy (TagData.fields (fields_data v.items)))) }
     ensures fault { IfErr result (λ e. e ≢ ShapeFault.Memory

@@ -6,7 +6,7 @@ ghost use Rattle.serde_json.specs.Find.{get, as_array};
 ghost use Rattle.serde_json.specs.View.{view, items_view};
 ghost use Rattle.powerbox_match.specs.Value.{tag_data, nesting, is_tidy};
 ghost use Rattle.powerbox_match.specs.Descriptor.{tag_view, descriptor_view, query_view};
-ghost use Rattle.powerbox_match.specs.Shape.{json_nesting, deepest_value, value_or_any, tag_of, tags_or_fault, quality_named, quality_or_fault, descriptor_of, query_of};
+ghost use Rattle.powerbox_match.specs.Shape.{json_nesting, tag_nesting, value_or_any, tag_of, tag_list, tags_or_fault, quality_named, quality_or_fault, descriptor_of, query_of};
 
 use crate::depth::values_nest_within;
 use crate::fault::ShapeFault;
@@ -56,9 +56,9 @@ pub fn descriptor_from(alloc: Global, value: &Value) -> Result<Descriptor, Shape
 }
 
 fn tags_from(alloc: Global, value: &Value) -> Result<Vec<Tag>, ShapeFault>
-    ensures ok { IfOk result (λ tags. tags_or_fault (option_and_then as_array (get (codes "tags") (view value.now))) ≡ Ok (map tag_view tags.items)) }
+    ensures ok { IfOk result (λ tags. tags_or_fault (tag_list (view value.now)) ≡ Ok (map tag_view tags.items)) }
     ensures few { IfOk result (λ tags. length tags.items ≤ 32) }
-    ensures fault { IfErr result (λ fault. fault ≢ ShapeFault.Memory → tags_or_fault (option_and_then as_array (get (codes "tags") (view value.now))) ≡ Err fault) }
+    ensures fault { IfErr result (λ fault. fault ≢ ShapeFault.Memory → tags_or_fault (tag_list (view value.now)) ≡ Err fault) }
 {
     let Some(items) = tag_list(value) else {
         return Err(BAD_TAGS);
@@ -77,13 +77,13 @@ fn tags_from(alloc: Global, value: &Value) -> Result<Vec<Tag>, ShapeFault>
 }
 
 fn tag_list(value: &Value) -> Option<&Vec<Value>>
-    ensures { option_map (λ v. items_view v.now.items) result ≡ option_and_then as_array (get (codes "tags") (view value.now)) }
+    ensures { option_map (λ v. items_view v.now.items) result ≡ tag_list (view value.now) }
 {
     value.get("tags")?.as_array()
 }
 
 fn tag_from(alloc: Global, item: &Value) -> Result<Tag, ShapeFault>
-    requires { option_map_or json_nesting (get (codes "value") (view item.now)) 0 ≤ 16 }
+    requires { tag_nesting (view item.now) ≤ 16 }
     ensures ok { IfOk result (λ tag. tag_of (view item.now) ≡ Some (tag_view tag)) }
     ensures fault { IfErr result (λ fault. fault ≢ ShapeFault.Memory → (fault ≡ ShapeFault.BadShape 1) × (tag_of (view item.now) ≡ None)) }
 {
@@ -95,6 +95,7 @@ fn tag_from(alloc: Global, item: &Value) -> Result<Tag, ShapeFault>
 }
 
 fn stated_or_any(alloc: Global, value: Option<&Value>) -> Result<TagValue, ShapeFault>
+    requires { option_map_or json_nesting (option_map (λ d. view d.now) value) 0 ≤ 16 }
     ensures ok { IfOk result (λ v. value_or_any (option_map (λ d. view d.now) value.entry) ≡ Some (tag_data v)) }
     ensures tidy { IfOk result (λ v. IsTrue (is_tidy (tag_data v))) }
     ensures fault { IfErr result (λ fault. fault ≢ ShapeFault.Memory → (fault ≡ ShapeFault.BadShape 1) × (value_or_any (option_map (λ d. view d.now) value.entry) ≡ None)) }

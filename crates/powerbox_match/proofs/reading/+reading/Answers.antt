@@ -1,16 +1,29 @@
 use Rattle.std.proofs.Common.{◌≡◌, ◌≤◌, ◌<◌, [], ◌∷◌, ◌++◌, Bool, true, false, List, Option, Some, None, length, take, string_bytes, refl, sym, ap, ◌∙◌, append_assoc, append-nil, arith, rules}
 use Rattle.std.proofs.lemmas.List.{take_all}
 use Rattle.std.proofs.lemmas.Result.{err_from_is_err_and}
-use Rattle.serde_json.specs.View.{items_view, members_view}
+use Rattle.serde_json.specs.View.{view, items_view, members_view}
 use Rattle.serde_json.specs.declared.value.Value.{Value}
 use Rattle.serde_json.proofs.Views.{Entry}
 use Rattle.powerbox_match.specs.Text.{is_text, text_of}
 use Rattle.powerbox_match.specs.Value.{items_data, fields_data}
-use Rattle.powerbox_match.specs.Shape.{value_of, items_stated, fields_stated}
+use Rattle.powerbox_match.specs.Shape.{json_nesting, json_items_nesting, json_members_nesting, value_of, items_stated, fields_stated}
+use Rattle.powerbox_match.proofs.Nesting.{item_nests_at_most, member_nests_at_most}
 use Rattle.powerbox_match.proofs.Tidy.{Entry as Field}
 use Rattle.powerbox_match.proofs.Stated.{items_stated_more, are_items_tidy-push, items_stated_none, fields_stated-push, are_fields_tidy-push, fields_stated_none, no_field_by_name, no_field_by_value}
 use Rattle.powerbox_match.proofs.Ends.{array_stated, array_tidy, array_too_long, array_none, object_stated, object_tidy, object_too_long, object_none, no_text, a_text}
 use Rattle.powerbox_match.proofs.reading.+reading.Goals as goal
+
+pub items_from-value_from-requires : goal.items_from-value_from-requires
+items_from-value_from-requires t c =
+    let here : json_nesting (view c.item-item.result) ≤ json_items_nesting (items_view c.args.items.now) = rw c.item-item.is (item_nests_at_most c.args.items.now c.loop-item.item-index c.item-item.result (omega arith)) in
+    (omega arith, omega arith)
+
+pub fields_from-value_from-requires : goal.fields_from-value_from-requires
+fields_from-value_from-requires t c =
+    let e : Entry = (c.in-Some.name.now, c.in-Some.member.now) in
+    let all : c.args.members.now.entries ≡ c.loop-name.invariant.done ++ e ∷ c.next.new.self = c.loop-name.invariant.all ∙ ap (λ es. c.loop-name.invariant.done ++ es) c.in-Some.ensures.steps in
+    let here : json_nesting (view c.in-Some.member.now) ≤ json_members_nesting (members_view c.args.members.now.entries) = rw all (member_nests_at_most c.loop-name.invariant.done e c.next.new.self) in
+    (omega arith, omega arith)
 
 pub items_from-returns-then-items-gt-MAX_ENTRIES-clause-fault : goal.items_from-returns-then-items-gt-MAX_ENTRIES-clause-fault
 items_from-returns-then-items-gt-MAX_ENTRIES-clause-fault t c = λ other. (refl, array_too_long c.args.items.now (omega arith))
