@@ -1,13 +1,9 @@
 use Rattle.std.proofs.Common.{rules, ◌≡◌, Bool, true, false, List, Option, Some, None, get_or, drop, subst, ◌≤◌, refl, sym, ap, ◌∙◌, arith}
 use Rattle.powerbox_match.specs.declared.value.TagValue.TheViews.{the_lemmas}
 use Rattle.powerbox_match.proofs.Views.{tag_data-Fields}
-use denote.Param.Weighed.{most, at_most}
-use Rattle.powerbox_match.proofs.value.TagValue.TheLaws.{the_size}
-use Rattle.powerbox_match.specs.declared.value.TagValue.{TagValue}
-use Rattle.powerbox_match.specs.declared.value.TagValue.TheShapes.{weighed-TagValue-Fields-0-at-2}
-use Rattle.powerbox_match.specs.Value.{are_fields_tidy, is_ascending, tag_data, fields_data, items_data}
+use Rattle.powerbox_match.specs.Value.{nesting, fields_nesting, items_nesting, are_fields_tidy, is_ascending, tag_data, fields_data, items_data}
 use Rattle.powerbox_match.specs.Matching.{get_field, value_matches, fields_match, fields_from, items_match, any_item}
-use Rattle.powerbox_match.proofs.Tidy.{Entry, items_tidy_at, fields_tidy_at, first_tidy}
+use Rattle.powerbox_match.proofs.Tidy.{Entry, items_tidy_at, fields_tidy_at, items_nesting_at, fields_nesting_at}
 use Rattle.powerbox_match.proofs.Merge.{is_met, fields_match_more, get_field_tidy, fields_from_again, is_ascending-fields_from, are_fields_tidy-fields_from}
 use Rattle.powerbox_match.proofs.Steps.{and_more, or_more}
 use Rattle.powerbox_match.proofs.matching.+matching.Goals as goal
@@ -23,16 +19,19 @@ fields_match-first_named-requires t c =
 
 pub fields_match-value_matches-requires : goal.fields_match-value_matches-requires
 fields_match-value_matches-requires t c =
-    let largest = at_most (λ (x : Entry). (weighed-TagValue-Fields-0-at-2).weight _ the_size x) c.args.wanted.now c.loop-field.field-index c.field-item.result (omega arith) in
-    let within = subst (λ (x : Entry). (weighed-TagValue-Fields-0-at-2).weight _ the_size x ≤ most (λ (y : Entry). (weighed-TagValue-Fields-0-at-2).weight _ the_size y) c.args.wanted.now) (sym c.field-item.is) largest in
-    let tidy : are_fields_tidy (fields_data c.fields_from-rest.result.now) ≡ true = rw c.fields_from-rest.ensures (are_fields_tidy-fields_from c.field-item.result.0 c.loop-field.rest.now c.loop-field.invariant.tidy) in
-    (omega arith, (rw c.field-item.is (fields_tidy_at _ _ c.field-item.result (omega arith) c.requires.wanted_tidy), get_field_tidy c.field-item.result.0 (fields_data c.fields_from-rest.result.now) _ c.in-Some.ensures tidy))
+    let ws = c.args.wanted.now in
+    let i = c.loop-field.field-index in
+    let x = c.field-item.result in
+    let here : nesting (tag_data x.1) ≤ fields_nesting (fields_data ws) = rw c.field-item.is (fields_nesting_at ws i x (omega arith)) in
+    let tidy : are_fields_tidy (fields_data c.fields_from-rest.result.now) ≡ true = rw c.fields_from-rest.ensures (are_fields_tidy-fields_from x.0 c.loop-field.rest.now c.loop-field.invariant.tidy) in
+    (omega arith, (rw c.field-item.is (fields_tidy_at ws i x (omega arith) c.requires.wanted_tidy), get_field_tidy x.0 (fields_data c.fields_from-rest.result.now) _ c.in-Some.ensures tidy))
 
 pub items_match-some_item_matches-requires : goal.items_match-some_item_matches-requires
 items_match-some_item_matches-requires t c =
-    let largest = at_most the_size c.args.wanted.now c.loop-item.item-index c.item-item.result (omega arith) in
-    let within : the_size c.item-item.result ≤ most the_size c.args.wanted.now = subst (λ (x : TagValue). the_size x ≤ most the_size c.args.wanted.now) (sym c.item-item.is) largest in
-    (omega arith, (rw c.item-item.is (items_tidy_at _ _ _ (omega arith) c.requires.wanted_tidy), c.requires.given_tidy))
+    let ws = c.args.wanted.now in
+    let i = c.loop-item.item-index in
+    let here : nesting (tag_data c.item-item.result) ≤ items_nesting (items_data ws) = rw c.item-item.is (items_nesting_at ws i c.item-item.result (omega arith)) in
+    (omega arith, (rw c.item-item.is (items_tidy_at ws i c.item-item.result (omega arith) c.requires.wanted_tidy), c.requires.given_tidy))
 
 pub fields_match-returns-in-loop-field : goal.fields_match-returns-in-loop-field
 fields_match-returns-in-loop-field t c =

@@ -1,5 +1,5 @@
-use Rattle.std.proofs.Common.{◌≡◌, IsTrue, drop}
-use Rattle.powerbox_match.specs.Value.{is_ascending, are_fields_tidy, tag_data, fields_data, items_data}
+use Rattle.std.proofs.Common.{◌≡◌, ◌+◌, ◌*◌, IsTrue, drop}
+use Rattle.powerbox_match.specs.Value.{nesting, fields_nesting, items_nesting, is_ascending, are_fields_tidy, tag_data, fields_data, items_data}
 use Rattle.powerbox_match.specs.Matching.{value_matches, fields_match, items_match, any_item}
 use Rattle.powerbox_match.proofs.matching.+matching.Given as goal
 
@@ -18,3 +18,16 @@ invariant-items_match-loop-item l =
 abbrev pub invariant-some_item_matches-loop-item : goal.invariant-some_item_matches-loop-item
 invariant-some_item_matches-loop-item l =
     any_item (λ v. value_matches (tag_data l.wanted) v) (items_data (drop l.item-index l.given)) ≡ any_item (λ v. value_matches (tag_data l.wanted) v) (items_data l.given)
+
+-- a value comes after the lists that it stands in, which nest as deep at least
+abbrev pub decreases-value_matches : goal.decreases-value_matches
+decreases-value_matches l = 3 * nesting (tag_data l.wanted.now)
+
+abbrev pub decreases-some_item_matches : goal.decreases-some_item_matches
+decreases-some_item_matches l = 3 * nesting (tag_data l.wanted.now) + 1
+
+abbrev pub decreases-items_match : goal.decreases-items_match
+decreases-items_match l = 3 * items_nesting (items_data l.wanted.now) + 2
+
+abbrev pub decreases-fields_match : goal.decreases-fields_match
+decreases-fields_match l = 3 * fields_nesting (fields_data l.wanted.now) + 2
