@@ -96,9 +96,12 @@ data_step (TagValue-F.Items v) = items (items_of v.items)
 abbrev pub tag_data : TagValue → TagData
 tag_data = fold-TagValue TagData data_step
 
--- what a list of fields, and a list of values, stands for
+-- what a field, a list of fields and a list of values stand for
+abbrev pub field_data : List ℕ × TagValue → List ℕ × TagData
+field_data f = (f.0, tag_data f.1)
+
 abbrev pub fields_data : List (List ℕ × TagValue) → FieldsData
-fields_data fs = fields_of (map (λ f. (f.0, tag_data f.1)) fs)
+fields_data fs = fields_of (map field_data fs)
 
 abbrev pub items_data : List TagValue → ItemsData
 items_data vs = items_of (map tag_data vs)

@@ -2,6 +2,7 @@
 #![tactic(auto)]
 
 mod choices;
+mod clone;
 mod depth;
 mod fault;
 mod matching;

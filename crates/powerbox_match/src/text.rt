@@ -46,6 +46,15 @@ impl TagText {
     }
 }
 
+impl Clone for TagText {
+    ghost is_clone = { λ t u. u ≡ t };
+
+    fn clone(&self) -> Result<TagText, AllocError> {
+        let bytes = self.bytes.clone()?;
+        Ok(TagText { bytes })
+    }
+}
+
 fn is_text(text: &str) -> bool
     ensures { result ≡ is_text text.now }
 {
