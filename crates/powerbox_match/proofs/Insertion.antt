@@ -1,11 +1,12 @@
 -- An insertion keeps the order.
-use Rattle.std.proofs.Common.{◌≡◌, ◌≢◌, ℕ, Bool, true, false, ◌&&◌, ◌||◌, cond, eqb, ltb, List, [], ◌∷◌, All, refl, sym, ap, ◌∙◌, arith}
+use Rattle.std.proofs.Common.{◌≡◌, ◌≢◌, ℕ, Bool, true, false, ◌&&◌, ◌||◌, cond, eqb, ltb, List, [], ◌∷◌, All, Option, Some, None, refl, sym, ap, ◌∙◌, arith}
 use Rattle.std.specs.Cmp.{first_so, second_so}
 use Rattle.std.specs.List.{list_all}
 use Rattle.std.proofs.lemmas.Bool.Decides.{nat_tests}
-use Rattle.std.proofs.lemmas.List.Elements.{All-head, All-tail}
+use Rattle.std.proofs.lemmas.List.Elements.{All-cons, All-head, All-tail}
+use Rattle.powerbox_match.specs.declared.value.Quality.{Quality}
 use Rattle.powerbox_match.specs.declared.choices.Choice.{Choice}
-use Rattle.powerbox_match.specs.Choices.{rank_of, stands_before, is_in_order, insertion}
+use Rattle.powerbox_match.specs.Choices.{rank_of, stands_before, is_in_order, insertion, choices_after}
 
 before_trans : (r n s m t k : ℕ) → (ltb r s || (eqb r s && ltb n m)) ≡ true → (ltb s t || (eqb s t && ltb m k)) ≡ true → (ltb r t || (eqb r t && ltb n k)) ≡ true
 before_trans r n s m t k h g = grind (arith, nat_tests)
@@ -45,3 +46,17 @@ is_in_order-insertion c [] other up = refl
 is_in_order-insertion c (d ∷ ds) other up =
     is_in_order-insertion_at (stands_before c d) c d ds refl (All-head (λ (e : Choice). e.num ≢ c.num) d ds other) up
         (is_in_order-insertion c ds (All-tail (λ (e : Choice). e.num ≢ c.num) d ds other) (second_so _ _ up))
+
+All-insertion_at : (P : Choice → Type 0) (b : Bool) (c d : Choice) (ds : List Choice) → P c → All P (d ∷ ds) → All P (insertion c ds) → All P (cond b (c ∷ d ∷ ds) (d ∷ insertion c ds))
+All-insertion_at P true c d ds here all later = All-cons P c (d ∷ ds) here all
+All-insertion_at P false c d ds here all later = All-cons P d (insertion c ds) (All-head P d ds all) later
+
+-- what holds of a choice and of all in a list holds of all in the list with the choice in its place
+pub All-insertion : (P : Choice → Type 0) (c : Choice) (cs : List Choice) → P c → All P cs → All P (insertion c cs)
+All-insertion P c [] here all = All-cons P c [] here all
+All-insertion P c (d ∷ ds) here all = All-insertion_at P (stands_before c d) c d ds here all (All-insertion P c ds here (All-tail P d ds all))
+
+-- a number that isn't in a list isn't in the list after another number was added
+pub All-choices_after : (n num : ℕ) (quality : Option Quality) (cs : List Choice) → num ≢ n → All (λ c. c.num ≢ n) cs → All (λ c. c.num ≢ n) (choices_after quality num cs)
+All-choices_after n num None cs other all = all
+All-choices_after n num (Some quality) cs other all = All-insertion (λ (c : Choice). c.num ≢ n) (record { num = num; quality = quality }) cs other all

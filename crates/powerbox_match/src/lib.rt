@@ -17,3 +17,6 @@ pub use matching::matches;
 pub use shape::{descriptor_from, query_from};
 pub use text::TagText;
 pub use value::{Descriptor, Quality, Query, Tag, TagValue};
+
+#[cfg(test)]
+mod tests;
