@@ -45,7 +45,7 @@ pub is_in_order-insertion : (c : Choice) (cs : List Choice) → All (λ d. d.num
 is_in_order-insertion c [] other up = refl
 is_in_order-insertion c (d ∷ ds) other up =
     is_in_order-insertion_at (stands_before c d) c d ds refl (All-head (λ (e : Choice). e.num ≢ c.num) d ds other) up
-        (is_in_order-insertion c ds (All-tail (λ (e : Choice). e.num ≢ c.num) d ds other) (second_so _ _ up))
+    (is_in_order-insertion c ds (All-tail (λ (e : Choice). e.num ≢ c.num) d ds other) (second_so _ _ up))
 
 All-insertion_at : (P : Choice → Type 0) (b : Bool) (c d : Choice) (ds : List Choice) → P c → All P (d ∷ ds) → All P (insertion c ds) → All P (cond b (c ∷ d ∷ ds) (d ∷ insertion c ds))
 All-insertion_at P true c d ds here all later = All-cons P c (d ∷ ds) here all

@@ -39,4 +39,4 @@ pub strongest_more : (offers : List DescriptorData) (xs : List Descriptor) (i : 
 strongest_more offers xs i x within is =
     rw (some_match_more Unacceptable offers xs i x within is, some_match_more Preferred offers xs i x within is, some_match_more Acceptable offers xs i x within is)
     (pick-or (some_match Unacceptable (map descriptor_view (take i xs)) offers) (some_match Preferred (map descriptor_view (take i xs)) offers) (some_match Acceptable (map descriptor_view (take i xs)) offers)
-        (matches_with Unacceptable (descriptor_view x) offers) (matches_with Preferred (descriptor_view x) offers) (matches_with Acceptable (descriptor_view x) offers))
+    (matches_with Unacceptable (descriptor_view x) offers) (matches_with Preferred (descriptor_view x) offers) (matches_with Acceptable (descriptor_view x) offers))

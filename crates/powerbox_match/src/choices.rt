@@ -83,15 +83,11 @@ impl Choices {
     /// Puts a number in its place, if what it offers matches the query.
     ///
     /// Its one error is want of memory.
-    pub fn add(
-        &mut self,
-        query: &Query,
-        num: u32,
-        offers: &[Descriptor],
-    ) -> Result<(), ShapeFault>
+    pub fn add(&mut self, query: &Query, num: u32, offers: &[Descriptor]) -> Result<(), ShapeFault>
         requires { All (λ choice. choice.num ≢ num) self.old }
         ensures ok { OnOk result
-            (self.new ≡ choices_after (match_of (query_view query.now) (offers_view offers.now)) num self.old) }
+            (self.new ≡ choices_after (match_of (query_view query.now) (offers_view offers.now))
+            num self.old) }
         ensures err { OnErr result (self.new ≡ self.old) }
         ensures memory { IfErr result (λ fault. fault ≡ ShapeFault.Memory) }
     {

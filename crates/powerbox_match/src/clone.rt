@@ -40,9 +40,7 @@ fn copy_items(items: &Vec<TagValue>) -> Result<Vec<TagValue>, AllocError>
 }
 
 #[cycle(copy)]
-fn copy_fields(
-    fields: &Vec<(TagText, TagValue)>,
-) -> Result<Vec<(TagText, TagValue)>, AllocError>
+fn copy_fields(fields: &Vec<(TagText, TagValue)>) -> Result<Vec<(TagText, TagValue)>, AllocError>
     ensures { IfOk result (λ v. fields_data v.items ≡ fields_data fields.now.items) }
 {
     let mut copies = Vec::with_capacity(*fields.allocator(), fields.len())?;

@@ -47,10 +47,7 @@ fn fields_match(wanted: &[(TagText, TagValue)], given: &[(TagText, TagValue)]) -
 }
 
 // The fields without those in front whose names are below a name.
-fn fields_from<'a>(
-    name: &TagText,
-    fields: &'a [(TagText, TagValue)],
-) -> &'a [(TagText, TagValue)]
+fn fields_from<'a>(name: &TagText, fields: &'a [(TagText, TagValue)]) -> &'a [(TagText, TagValue)]
     ensures { result.now ≡ fields_from name.now fields.now }
 {
     for (place, (other, _)) in fields.iter().enumerate() {
@@ -65,7 +62,8 @@ fn fields_from<'a>(
 fn first_named<'a>(name: &TagText, fields: &'a [(TagText, TagValue)]) -> Option<&'a TagValue>
     requires ascending { IsTrue (is_ascending (fields_data fields.now)) }
     requires from_there { fields_from name.now fields.now ≡ fields.now }
-    ensures { option_map (λ v. tag_data v.now) result ≡ get_field name.now (fields_data fields.now) }
+    ensures { option_map (λ v. tag_data v.now) result
+        ≡ get_field name.now (fields_data fields.now) }
 {
     let first = fields.first()?;
     if first.0.as_str() == name.as_str() {
@@ -95,7 +93,8 @@ fn items_match(wanted: &[TagValue], given: &[TagValue]) -> bool
 fn some_item_matches(wanted: &TagValue, given: &[TagValue]) -> bool
     requires wanted_tidy { IsTrue (is_tidy (tag_data wanted.now)) }
     requires given_tidy { IsTrue (are_items_tidy (items_data given.now)) }
-    ensures { result ≡ any_item (λ v. value_matches (tag_data wanted.now) v) (items_data given.now) }
+    ensures { result
+        ≡ any_item (λ v. value_matches (tag_data wanted.now) v) (items_data given.now) }
 {
     for item in given {
         if value_matches(wanted, item) {

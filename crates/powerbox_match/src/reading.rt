@@ -44,7 +44,8 @@ pub(crate) fn value_from(alloc: Global, value: &Value) -> Result<TagValue, Shape
 #[cycle(reading)]
 fn items_from(alloc: Global, items: &[Value]) -> Result<Vec<TagValue>, ShapeFault>
     requires { json_items_nesting (items_view items.now) ≤ 16 }
-    ensures ok { IfOk result (λ v. value_of (Data.array (items_view items.now)) ≡ Some (TagData.items (items_data v.items))) }
+    ensures ok { IfOk result (λ v. value_of (Data.array (items_view items.now))
+        ≡ Some (TagData.items (items_data v.items))) }
     ensures tidy { IfOk result (λ v. IsTrue (is_tidy (TagData.items (items_data v.items)))) }
     ensures fault { IfErr result (λ e. e ≢ ShapeFault.Memory
         → (e ≡ ShapeFault.BadShape 1) × (value_of (Data.array (items_view items.now)) ≡ None)) }
@@ -65,10 +66,12 @@ fn fields_from(
     members: &Map<String, Value>,
 ) -> Result<Vec<(TagText, TagValue)>, ShapeFault>
     requires { json_members_nesting (members_view members.now.entries) ≤ 16 }
-    ensures ok { IfOk result (λ v. value_of (Data.object (members_view members.now.entries)) ≡ Some (TagData.fields (fields_data v.items))) }
+    ensures ok { IfOk result (λ v. value_of (Data.object (members_view members.now.entries))
+        ≡ Some (TagData.fields (fields_data v.items))) }
     ensures tidy { IfOk result (λ v. IsTrue (is_tidy (TagData.fields (fields_data v.items)))) }
     ensures fault { IfErr result (λ e. e ≢ ShapeFault.Memory
-        → (e ≡ ShapeFault.BadShape 1) × (value_of (Data.object (members_view members.now.entries)) ≡ None)) }
+        → (e ≡ ShapeFault.BadShape 1)
+        × (value_of (Data.object (members_view members.now.entries)) ≡ None)) }
 {
     if members.len() > MAX_ENTRIES {
         return Err(BAD_TAG);

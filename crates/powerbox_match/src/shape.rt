@@ -16,11 +16,14 @@ use serde_json::Value;
 use std::alloc::Global;
 
 const MAX_DEPTH: usize = 16;
+
 const MAX_TAGS: usize = 32;
 
 // The numbers of the fields, as faults name them.
 const BAD_QUERY: ShapeFault = ShapeFault::BadShape(0);
+
 const BAD_TAGS: ShapeFault = ShapeFault::BadShape(1);
+
 const BAD_QUALITY: ShapeFault = ShapeFault::BadShape(2);
 
 /// The query that a JSON value states.
@@ -29,7 +32,8 @@ const BAD_QUALITY: ShapeFault = ShapeFault::BadShape(2);
 /// list. Want of memory may come in place of any answer.
 pub fn query_from(alloc: Global, value: &Value) -> Result<Query, ShapeFault>
     ensures ok { IfOk result (λ query. query_of (view value.now) ≡ Ok (query_view query)) }
-    ensures fault { IfErr result (λ fault. fault ≢ ShapeFault.Memory → query_of (view value.now) ≡ Err fault) }
+    ensures fault { IfErr result (λ fault. fault ≢ ShapeFault.Memory
+        → query_of (view value.now) ≡ Err fault) }
 {
     let Some(items) = value.as_array() else {
         return Err(BAD_QUERY);
@@ -47,8 +51,10 @@ pub fn query_from(alloc: Global, value: &Value) -> Result<Query, ShapeFault>
 /// are more than 32 tags, else `BadShape` of the first field that isn't as it should be. Want of
 /// memory may come in place of any answer.
 pub fn descriptor_from(alloc: Global, value: &Value) -> Result<Descriptor, ShapeFault>
-    ensures ok { IfOk result (λ descriptor. descriptor_of (view value.now) ≡ Ok (descriptor_view descriptor)) }
-    ensures fault { IfErr result (λ fault. fault ≢ ShapeFault.Memory → descriptor_of (view value.now) ≡ Err fault) }
+    ensures ok { IfOk result
+        (λ descriptor. descriptor_of (view value.now) ≡ Ok (descriptor_view descriptor)) }
+    ensures fault { IfErr result (λ fault. fault ≢ ShapeFault.Memory
+        → descriptor_of (view value.now) ≡ Err fault) }
 {
     let tags = tags_from(alloc, value)?;
     let quality = quality_from(value)?;
@@ -56,9 +62,11 @@ pub fn descriptor_from(alloc: Global, value: &Value) -> Result<Descriptor, Shape
 }
 
 fn tags_from(alloc: Global, value: &Value) -> Result<Vec<Tag>, ShapeFault>
-    ensures ok { IfOk result (λ tags. tags_or_fault (tag_list (view value.now)) ≡ Ok (map tag_view tags.items)) }
+    ensures ok { IfOk result
+        (λ tags. tags_or_fault (tag_list (view value.now)) ≡ Ok (map tag_view tags.items)) }
     ensures few { IfOk result (λ tags. length tags.items ≤ 32) }
-    ensures fault { IfErr result (λ fault. fault ≢ ShapeFault.Memory → tags_or_fault (tag_list (view value.now)) ≡ Err fault) }
+    ensures fault { IfErr result (λ fault. fault ≢ ShapeFault.Memory
+        → tags_or_fault (tag_list (view value.now)) ≡ Err fault) }
 {
     let Some(items) = tag_list(value) else {
         return Err(BAD_TAGS);
@@ -85,7 +93,8 @@ fn tag_list(value: &Value) -> Option<&Vec<Value>>
 fn tag_from(alloc: Global, item: &Value) -> Result<Tag, ShapeFault>
     requires { tag_nesting (view item.now) ≤ 16 }
     ensures ok { IfOk result (λ tag. tag_of (view item.now) ≡ Some (tag_view tag)) }
-    ensures fault { IfErr result (λ fault. fault ≢ ShapeFault.Memory → (fault ≡ ShapeFault.BadShape 1) × (tag_of (view item.now) ≡ None)) }
+    ensures fault { IfErr result (λ fault. fault ≢ ShapeFault.Memory
+        → (fault ≡ ShapeFault.BadShape 1) × (tag_of (view item.now) ≡ None)) }
 {
     let Some(id) = item.get("id").and_then(Value::as_u64) else {
         return Err(BAD_TAGS);
@@ -96,9 +105,12 @@ fn tag_from(alloc: Global, item: &Value) -> Result<Tag, ShapeFault>
 
 fn stated_or_any(alloc: Global, value: Option<&Value>) -> Result<TagValue, ShapeFault>
     requires { option_map_or json_nesting (option_map (λ d. view d.now) value) 0 ≤ 16 }
-    ensures ok { IfOk result (λ v. value_or_any (option_map (λ d. view d.now) value.entry) ≡ Some (tag_data v)) }
+    ensures ok { IfOk result
+        (λ v. value_or_any (option_map (λ d. view d.now) value.entry) ≡ Some (tag_data v)) }
     ensures tidy { IfOk result (λ v. IsTrue (is_tidy (tag_data v))) }
-    ensures fault { IfErr result (λ fault. fault ≢ ShapeFault.Memory → (fault ≡ ShapeFault.BadShape 1) × (value_or_any (option_map (λ d. view d.now) value.entry) ≡ None)) }
+    ensures fault { IfErr result (λ fault. fault ≢ ShapeFault.Memory
+        → (fault ≡ ShapeFault.BadShape 1)
+        × (value_or_any (option_map (λ d. view d.now) value.entry) ≡ None)) }
 {
     match value {
         Some(value) => value_from(alloc, value),

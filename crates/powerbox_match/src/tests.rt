@@ -39,16 +39,43 @@ fn faults_come_in_their_order(rt: HostRuntime) -> Result<(), Fail> {
         ("{}", Some(ShapeFault::BadShape(0))),
         ("[7]", Some(ShapeFault::BadShape(1))),
         ("[{}]", Some(ShapeFault::BadShape(1))),
-        ("[{\"tags\":[{\"id\":7,\"value\":true}]}]", Some(ShapeFault::BadShape(1))),
+        (
+            "[{\"tags\":[{\"id\":7,\"value\":true}]}]",
+            Some(ShapeFault::BadShape(1)),
+        ),
         ("[{\"tags\":[{\"id\":-7}]}]", Some(ShapeFault::BadShape(1))),
-        ("[{\"tags\":[],\"quality\":\"best\"}]", Some(ShapeFault::BadShape(2))),
-        ("[{\"tags\":[],\"quality\":null}]", Some(ShapeFault::BadShape(2))),
-        ("[{\"tags\":[],\"quality\":\"best\"},{}]", Some(ShapeFault::BadShape(2))),
-        ("[{\"tags\":[{\"id\":7,\"value\":1.0}]}]", Some(ShapeFault::BadShape(1))),
-        ("[{\"tags\":[{\"id\":7,\"value\":\"\\u0007\"}]}]", Some(ShapeFault::BadShape(1))),
-        ("[{\"tags\":[{\"id\":7,\"value\":-9223372036854775809}]}]", Some(ShapeFault::BadShape(1))),
-        ("[{\"tags\":[{\"id\":7,\"value\":18446744073709551616}]}]", Some(ShapeFault::BadShape(1))),
-        ("[{\"tags\":[{\"id\":7,\"value\":null,\"more\":true}],\"quality\":\"preferred\"}]", None),
+        (
+            "[{\"tags\":[],\"quality\":\"best\"}]",
+            Some(ShapeFault::BadShape(2)),
+        ),
+        (
+            "[{\"tags\":[],\"quality\":null}]",
+            Some(ShapeFault::BadShape(2)),
+        ),
+        (
+            "[{\"tags\":[],\"quality\":\"best\"},{}]",
+            Some(ShapeFault::BadShape(2)),
+        ),
+        (
+            "[{\"tags\":[{\"id\":7,\"value\":1.0}]}]",
+            Some(ShapeFault::BadShape(1)),
+        ),
+        (
+            "[{\"tags\":[{\"id\":7,\"value\":\"\\u0007\"}]}]",
+            Some(ShapeFault::BadShape(1)),
+        ),
+        (
+            "[{\"tags\":[{\"id\":7,\"value\":-9223372036854775809}]}]",
+            Some(ShapeFault::BadShape(1)),
+        ),
+        (
+            "[{\"tags\":[{\"id\":7,\"value\":18446744073709551616}]}]",
+            Some(ShapeFault::BadShape(1)),
+        ),
+        (
+            "[{\"tags\":[{\"id\":7,\"value\":null,\"more\":true}],\"quality\":\"preferred\"}]",
+            None,
+        ),
     ] {
         assert_eq!(rt; fault(rt.alloc(), text)?, found, "{text}");
     }
@@ -67,7 +94,11 @@ fn limits_are_exact(rt: HostRuntime) -> Result<(), Fail> {
     for (count, found) in [(999, None), (1000, Some(ShapeFault::BadShape(1)))] {
         let items = repeated(alloc, "0,", count)?;
         let text = with_value(alloc, &["[", items.as_str(), "0]"])?;
-        assert_eq!(rt; fault(alloc, text.as_str())?, found, "{count} and one entries");
+        assert_eq!(rt;
+            fault(alloc, text.as_str())?,
+            found,
+            "{count} and one entries"
+        );
     }
     for (count, found) in [(31, None), (32, Some(ShapeFault::TooManyTags))] {
         let tags = repeated(alloc, "{\"id\":7},", count)?;
@@ -113,9 +144,21 @@ fn queries_match_by_their_tags(rt: HostRuntime) -> Result<(), Fail> {
     let alloc = rt.alloc();
     let any = "[{\"tags\":[{\"id\":7}]}]";
     for (wanted, given, found) in [
-        ("[{\"tags\":[{\"id\":7,\"value\":5}]}]", any, Some(Quality::Acceptable)),
-        (any, "[{\"tags\":[{\"id\":7,\"value\":5}]}]", Some(Quality::Acceptable)),
-        ("[{\"tags\":[{\"id\":7,\"value\":5}]}]", "[{\"tags\":[{\"id\":7,\"value\":\"5\"}]}]", None),
+        (
+            "[{\"tags\":[{\"id\":7,\"value\":5}]}]",
+            any,
+            Some(Quality::Acceptable),
+        ),
+        (
+            any,
+            "[{\"tags\":[{\"id\":7,\"value\":5}]}]",
+            Some(Quality::Acceptable),
+        ),
+        (
+            "[{\"tags\":[{\"id\":7,\"value\":5}]}]",
+            "[{\"tags\":[{\"id\":7,\"value\":\"5\"}]}]",
+            None,
+        ),
         (
             "[{\"tags\":[{\"id\":7,\"value\":{\"a\":1,\"b\":2}}]}]",
             "[{\"tags\":[{\"id\":7,\"value\":{\"a\":1,\"c\":3}}]}]",
@@ -136,12 +179,20 @@ fn queries_match_by_their_tags(rt: HostRuntime) -> Result<(), Fail> {
             "[{\"tags\":[{\"id\":7,\"value\":[1,2,3]}]}]",
             Some(Quality::Acceptable),
         ),
-        ("[{\"tags\":[]}]", "[{\"tags\":[]}]", Some(Quality::Acceptable)),
+        (
+            "[{\"tags\":[]}]",
+            "[{\"tags\":[]}]",
+            Some(Quality::Acceptable),
+        ),
         ("[{\"tags\":[]}]", any, Some(Quality::Acceptable)),
         ("[]", any, None),
         (any, "[]", None),
         (any, "[{\"tags\":[{\"id\":8}]}]", None),
-        (any, "[{\"tags\":[{\"id\":7}],\"quality\":\"preferred\"}]", Some(Quality::Preferred)),
+        (
+            any,
+            "[{\"tags\":[{\"id\":7}],\"quality\":\"preferred\"}]",
+            Some(Quality::Preferred),
+        ),
         (
             any,
             "[{\"tags\":[{\"id\":7}],\"quality\":\"preferred\"},\
@@ -150,7 +201,11 @@ fn queries_match_by_their_tags(rt: HostRuntime) -> Result<(), Fail> {
         ),
     ] {
         let given = query(alloc, given)?;
-        assert_eq!(rt; matches(&query(alloc, wanted)?, &given.descriptors), found, "{wanted}");
+        assert_eq!(rt;
+            matches(&query(alloc, wanted)?, &given.descriptors),
+            found,
+            "{wanted}"
+        );
     }
     Ok(())
 }
@@ -161,7 +216,10 @@ fn choices_stand_in_their_order(rt: HostRuntime) -> Result<(), Fail> {
     let wanted = query(alloc, "[{\"tags\":[{\"id\":7}]}]")?;
     let first = query(alloc, "[{\"tags\":[{\"id\":7}]}]")?;
     let second = query(alloc, "[{\"tags\":[{\"id\":7}],\"quality\":\"preferred\"}]")?;
-    let third = query(alloc, "[{\"tags\":[{\"id\":7}],\"quality\":\"unacceptable\"}]")?;
+    let third = query(
+        alloc,
+        "[{\"tags\":[{\"id\":7}],\"quality\":\"unacceptable\"}]",
+    )?;
     let mut choices = Choices::new(alloc);
     choices.add(&wanted, 1, &first.descriptors)?;
     choices.add(&wanted, 2, &second.descriptors)?;

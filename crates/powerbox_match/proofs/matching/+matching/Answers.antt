@@ -49,8 +49,9 @@ fields_match-loop-field-preserved t c =
     let left = c.fields_from-rest.result.now in
     let is : left ≡ fields_from x.0 rest = c.fields_from-rest.ensures in
     let met : is_met (tag_data x.1) (get_field x.0 (fields_data left)) ≡ true = elim c.in_default.branch [
-      fields_match-in_default-via-in-None-1 w ↦ let none : None ≡ get_field x.0 (fields_data left) = search rules in rw (← none)
-    | fields_match-in_default-via-in-Some+else-not-value_matches w ↦ rw (← w.in-Some.ensures) (sym w.value_matches.ensures ∙ w.if-not-value_matches.false) ] in
+      | fields_match-in_default-via-in-None-1 w ↦ let none : None ≡ get_field x.0 (fields_data left) = search rules in rw (← none)
+      | fields_match-in_default-via-in-Some+else-not-value_matches w ↦ rw (← w.in-Some.ensures) (sym w.value_matches.ensures ∙ w.if-not-value_matches.false)
+    ] in
     let met_there : is_met (tag_data x.1) (get_field x.0 (fields_data (fields_from x.0 rest))) ≡ true = rw (← is) met in
     let more = fields_match_more c.args.wanted.now c.loop-field.field-index x rest true (omega arith) c.field-item.is c.requires.wanted_ascending met_there in
     record {
@@ -61,14 +62,14 @@ fields_match-loop-field-preserved t c =
 
 pub items_match-returns-then-not-some_item_matches :
     goal.items_match-returns-then-not-some_item_matches
-items_match-returns-then-not-some_item_matches t c = 
-  let more = and_more (λ vs. items_match (items_data vs) (items_data c.args.given.now)) (λ v. any_item (λ w. value_matches (tag_data v) w) (items_data c.args.given.now)) (λ _ _. refl) c.args.wanted.now c.loop-item.item-index c.item-item.result false (omega arith) c.item-item.is (cc) in
-  cc
+items_match-returns-then-not-some_item_matches t c =
+    let more = and_more (λ vs. items_match (items_data vs) (items_data c.args.given.now)) (λ v. any_item (λ w. value_matches (tag_data v) w) (items_data c.args.given.now)) (λ _ _. refl) c.args.wanted.now c.loop-item.item-index c.item-item.result false (omega arith) c.item-item.is (cc) in
+    cc
 
 pub items_match-loop-item-preserved : goal.items_match-loop-item-preserved
-items_match-loop-item-preserved t c = 
-  let more = and_more (λ vs. items_match (items_data vs) (items_data c.args.given.now)) (λ v. any_item (λ w. value_matches (tag_data v) w) (items_data c.args.given.now)) (λ _ _. refl) c.args.wanted.now c.loop-item.item-index c.item-item.result true (omega arith) c.item-item.is (cc) in
-  sym more ∙ c.loop-item.invariant
+items_match-loop-item-preserved t c =
+    let more = and_more (λ vs. items_match (items_data vs) (items_data c.args.given.now)) (λ v. any_item (λ w. value_matches (tag_data v) w) (items_data c.args.given.now)) (λ _ _. refl) c.args.wanted.now c.loop-item.item-index c.item-item.result true (omega arith) c.item-item.is (cc) in
+    sym more ∙ c.loop-item.invariant
 
 pub value_matches-returns-in-Fields-Fields : goal.value_matches-returns-in-Fields-Fields
 value_matches-returns-in-Fields-Fields t c = search (rules, the_lemmas, tag_data-Fields)

@@ -32,8 +32,8 @@ pub items_from-returns-in_err-value_from-clause-fault : goal.items_from-returns-
 items_from-returns-in_err-value_from-clause-fault t c =
     let p = err_from_is_err_and c.from_residual.result c.from_residual.ensures.1 in
     rw (p.1, p.2) (λ other.
-      let q = c.in_err-value_from.ensures.fault other in
-      (q.0, array_none (items_view c.args.items.now) (items_stated_none c.args.items.now c.loop-item.item-index c.item-item.result (omega arith) c.item-item.is q.1)))
+    let q = c.in_err-value_from.ensures.fault other in
+    (q.0, array_none (items_view c.args.items.now) (items_stated_none c.args.items.now c.loop-item.item-index c.item-item.result (omega arith) c.item-item.is q.1)))
 
 pub items_from-loop-item-preserved : goal.items_from-loop-item-preserved
 items_from-loop-item-preserved t c =
@@ -80,8 +80,8 @@ fields_from-returns-in_err-value_from-clause-fault t c =
     let all : c.args.members.now.entries ≡ c.loop-name.invariant.done ++ e ∷ more = c.loop-name.invariant.all ∙ ap (λ es. c.loop-name.invariant.done ++ es) c.in-Some.ensures.steps in
     let p = err_from_is_err_and c.from_residual-in_err-value_from.result c.from_residual-in_err-value_from.ensures.1 in
     rw (p.1, p.2) (λ other.
-      let q = c.in_err-value_from.ensures.fault other in
-      (q.0, object_none (members_view c.args.members.now.entries) (rw all (fields_stated_none c.loop-name.invariant.done e more (no_field_by_value e more q.1)))))
+    let q = c.in_err-value_from.ensures.fault other in
+    (q.0, object_none (members_view c.args.members.now.entries) (rw all (fields_stated_none c.loop-name.invariant.done e more (no_field_by_value e more q.1)))))
 
 pub fields_from-loop-name-preserved : goal.fields_from-loop-name-preserved
 fields_from-loop-name-preserved t c =

@@ -32,10 +32,10 @@ returns-in_err-tag_from-clause-fault c =
     let shallow : deepest_value (items_view ds) ≤ 16 = at_most_from_leb (deepest_value (items_view ds)) 16 (rw (← c.deref.ensures.value) (sym c.values_nest_within.ensures ∙ c.if-not-values_nest_within.false)) in
     let p = err_from_is_err_and c.from_residual.result c.from_residual.ensures.1 in
     rw (p.1, p.2) (λ other.
-      let q = c.in_err-tag_from.ensures.fault other in
-      let none : tags_of (items_view c.deref-item-items.result.now) ≡ None = tags_of_none c.deref-item-items.result.now c.loop-item.item-index c.item-item.result (omega arith) c.item-item.is q.1 in
-      let none_there : tags_of (items_view ds) ≡ None = rw (← c.deref-item-items.ensures.value) none in
-      ap tags_or_fault (sym c.in-Some.ensures) ∙ tags_bad ds shallow (omega arith) none_there ∙ ap Err (sym q.0))
+    let q = c.in_err-tag_from.ensures.fault other in
+    let none : tags_of (items_view c.deref-item-items.result.now) ≡ None = tags_of_none c.deref-item-items.result.now c.loop-item.item-index c.item-item.result (omega arith) c.item-item.is q.1 in
+    let none_there : tags_of (items_view ds) ≡ None = rw (← c.deref-item-items.ensures.value) none in
+    ap tags_or_fault (sym c.in-Some.ensures) ∙ tags_bad ds shallow (omega arith) none_there ∙ ap Err (sym q.0))
 
 pub loop-item-preserved : goal.loop-item-preserved
 loop-item-preserved c =

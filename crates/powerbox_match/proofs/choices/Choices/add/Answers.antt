@@ -9,5 +9,5 @@ invariant_of-self-2 c =
     let choice : Choice = record { num = c.args.num; quality = c.in-Some.quality } in
     let old = c.self.inside.in_order.items in
     let placed : c.insert.new.self.items ≡ insertion choice old =
-        c.in_ok-insert.ensures.items ∙ ap (λ (cs : List Choice). insert cs c.place_in-place.result choice) (sym c.deref.ensures.value) ∙ c.place_in-place.ensures.place ∙ ap (insertion choice) c.deref.ensures.value in
+    c.in_ok-insert.ensures.items ∙ ap (λ (cs : List Choice). insert cs c.place_in-place.result choice) (sym c.deref.ensures.value) ∙ c.place_in-place.ensures.place ∙ ap (insertion choice) c.deref.ensures.value in
     rw placed (is_in_order-insertion choice old (rw c.self.view_is c.requires) c.self.invariant)
