@@ -1,15 +1,15 @@
 //! The powerbox's vocabulary: tag values, descriptors and queries, and when a query matches offers.
 #![tactic(auto)]
 
-mod choices;
+pub mod choices;
 mod clone;
 mod depth;
-mod fault;
-mod matching;
+pub mod fault;
+pub mod matching;
 mod reading;
-mod shape;
-mod text;
-mod value;
+pub mod shape;
+pub mod text;
+pub mod value;
 
 pub use choices::{Choice, Choices};
 pub use fault::ShapeFault;

@@ -2,7 +2,7 @@
 
 ghost use Rattle.std.specs.Prelude.{◌≡◌, IfOk, String, string_bytes};
 ghost use Rattle.std.specs.List.{list_all};
-ghost use Rattle.powerbox_match.specs.Text.{is_text, is_text_byte, text_of};
+ghost use Rattle.powerbox_match.specs.Text.{IsText, is_text, is_text_byte, text_of};
 
 use std::alloc::{AllocError, Global};
 use std::marker::Model;
@@ -40,7 +40,8 @@ impl TagText {
 
     /// The text.
     pub fn as_str(&self) -> &str
-        ensures { result.now ≡ self.now }
+        ensures text { result.now ≡ self.now }
+        ensures form { IsText self.now }
     {
         self.bytes.as_str()
     }
