@@ -1,16 +1,16 @@
 -- What a whole array or object states, by what its items or members do.
-use Rattle.std.proofs.Common.{◌≡◌, ℕ, ◌<◌, ◌≤◌, Bool, true, false, leb, cond, List, Option, Some, None, option_map, BTreeMap, String, Global, length, string_cmp, refl, sym, ap, ◌∙◌, arith}
+use Rattle.std.proofs.Common.{◌≡◌, ℕ, ◌<◌, ◌≤◌, Bool, true, false, leb, cond, List, Option, Some, None, option_map, length, string_cmp, refl, ◌∙◌, arith}
 use Rattle.std.specs.List.Sorted.{IsStrictlySortedBy}
 use Rattle.std.specs.Map.{keys_of}
 use Rattle.std.proofs.lemmas.Bool.Decides.{nat_tests}
 use Rattle.serde_json.specs.Data.{Data, Items, Members}
 use Rattle.serde_json.specs.Events.{items_len, members_len}
-use Rattle.serde_json.specs.View.{view, items_view, members_view}
+use Rattle.serde_json.specs.View.{items_view, members_view}
 use Rattle.serde_json.specs.declared.value.Value.{Value}
 use Rattle.serde_json.proofs.Views.{Entry, items_len-items_view, members_len-members_view}
 use Rattle.powerbox_match.specs.declared.value.TagValue.{TagValue}
 use Rattle.powerbox_match.specs.Text.{is_text, text_of}
-use Rattle.powerbox_match.specs.Value.{TagData, fields, items, field_count, item_count, is_ascending, are_items_tidy, are_fields_tidy, is_tidy, items_data, fields_data}
+use Rattle.powerbox_match.specs.Value.{TagData, fields, items, field_count, item_count, are_items_tidy, are_fields_tidy, is_tidy, items_data, fields_data}
 use Rattle.powerbox_match.specs.Shape.{value_of, items_stated, fields_stated}
 use Rattle.powerbox_match.proofs.Tidy.{Entry as Field}
 use Rattle.powerbox_match.proofs.Stated.{item_count-stated, field_count-stated, is_ascending-stated}

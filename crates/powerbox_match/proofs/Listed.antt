@@ -1,14 +1,12 @@
 -- What lists of JSON values state: tags and descriptors, one more at a time.
-use Rattle.std.proofs.Common.{◌≡◌, ℕ, zero, suc, ◌+◌, ◌<◌, ◌≤◌, Bool, true, false, leb, ltb, List, [], ◌∷◌, ◌++◌, Option, Some, None, Result, Ok, Err, length, get_or, take, map, refl, sym, ap, ◌∙◌, arith}
+use Rattle.std.proofs.Common.{◌≡◌, ℕ, zero, suc, ◌+◌, ◌<◌, ◌≤◌, true, false, leb, ltb, List, [], ◌∷◌, ◌++◌, Some, None, Result, Ok, Err, length, get_or, take, map, refl, sym, ap, ◌∙◌, arith}
 use Rattle.std.proofs.lemmas.Bool.Decides.{nat_tests}
 use Rattle.std.proofs.lemmas.List.{take_more, map-append}
-use Rattle.serde_json.specs.Data.{Items}
-use Rattle.serde_json.specs.Events.{items_len}
 use Rattle.serde_json.specs.View.{view, items_view}
 use Rattle.serde_json.specs.declared.value.Value.{Value}
 use Rattle.serde_json.proofs.Views.{items_len-items_view}
 use Rattle.powerbox_match.specs.declared.fault.ShapeFault.{ShapeFault}
-use Rattle.powerbox_match.specs.declared.fault.ShapeFault.TheVariants.{BadShape, TooDeep, TooManyTags}
+use Rattle.powerbox_match.specs.declared.fault.ShapeFault.TheVariants.{BadShape, TooManyTags}
 use Rattle.powerbox_match.specs.declared.value.Descriptor.{Descriptor}
 use Rattle.powerbox_match.specs.declared.value.Tag.{Tag}
 use Rattle.powerbox_match.specs.Value.{TagData}

@@ -1,7 +1,6 @@
 -- A part of a tidy value is tidy, and nests no deeper.
-use Rattle.std.proofs.Common.{◌≡◌, ℕ, zero, suc, ◌<◌, ◌≤◌, true, List, [], ◌∷◌, length, get_or, drop, Option, Some, None, refl}
-use Rattle.std.specs.Cmp.{first_so, second_so}
-use Rattle.std.specs.List.{slice_get}
+use Rattle.std.proofs.Common.{◌≡◌, ℕ, zero, suc, ◌<◌, ◌≤◌, true, List, [], ◌∷◌, length, get_or, drop, refl}
+use Rattle.std.specs.Cmp.{second_so}
 use Rattle.std.proofs.lemmas.List.Recursion.{and_at, max_bounds}
 use Rattle.powerbox_match.specs.declared.value.TagValue.{TagValue}
 use Rattle.powerbox_match.specs.Value.{nesting, items_nesting, fields_nesting, is_tidy, is_ascending, are_fields_tidy, are_items_tidy, tag_data, fields_data, items_data}

@@ -1,6 +1,6 @@
 -- A tag's value, level by level.
 use Rattle.std.proofs.Common.{◌≡◌, ℕ, ℤ, List, Vec, Global, rules}
-use Rattle.powerbox_match.specs.Value.{TagData, any, number, text, fields, items, tag_data, fields_data, items_data}
+use Rattle.powerbox_match.specs.Value.{any, number, text, fields, items, tag_data, fields_data, items_data}
 use Rattle.powerbox_match.specs.declared.value.TagValue.{TagValue, Any, Number, Text, Fields, Items, the_lemmas}
 
 pub tag_data-Any : tag_data Any ≡ any

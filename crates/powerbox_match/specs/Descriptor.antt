@@ -19,7 +19,7 @@ tag_view t = (t.id, tag_data t.value)
 abbrev pub descriptor_view : Descriptor → DescriptorData
 descriptor_view d = record { tags = map tag_view d.tags.items; quality = d.quality }
 
--- what a list of descriptors stands for
+-- what a list of descriptors stands for, as that of the offers
 abbrev pub offers_view : List Descriptor → List DescriptorData
 offers_view ds = map descriptor_view ds
 

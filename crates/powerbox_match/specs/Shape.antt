@@ -1,5 +1,5 @@
 -- What a JSON value states: the value of a tag, a descriptor, a query, or the first fault of these.
-use Rattle.std.specs.Prelude.{ℕ, suc, max, nat_lt, nat_le, Bool, List, [], ◌∷◌, codes, Option, Some, None, option_map, option_and_then, Result, Ok, Err, if◌then◌else◌}
+use Rattle.std.specs.Prelude.{ℕ, suc, max, nat_lt, nat_le, List, [], ◌∷◌, codes, Option, Some, None, option_map, option_and_then, Result, Ok, Err, if◌then◌else◌}
 use Rattle.std.specs.Option.{option_map_or, ok_or}
 use Rattle.std.specs.Str.{bytes_eq}
 use Rattle.serde_json.specs.Data.{Data, Items, Members}
@@ -126,10 +126,11 @@ abbrev pub descriptors_of : Items → Result (List DescriptorData) ShapeFault
 descriptors_of Items.no_items = Ok []
 descriptors_of (Items.item d ds) = with_first (descriptor_of d) (descriptors_of ds)
 
--- the query that a JSON value states, or its first fault
+-- the descriptors of a list, or why there is none: it is no list, or one of its values has a fault
 abbrev pub query_or_fault : Option Items → Result (List DescriptorData) ShapeFault
 query_or_fault None = Err (BadShape 0)
 query_or_fault (Some ds) = descriptors_of ds
 
+-- the query that a JSON value states, or its first fault
 abbrev pub query_of : Data → Result (List DescriptorData) ShapeFault
 query_of d = query_or_fault (as_array d)

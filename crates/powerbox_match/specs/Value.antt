@@ -1,5 +1,5 @@
 -- What a tag's value, a descriptor and a query stand for, and how large they may be.
-use Rattle.std.specs.Prelude.{ℕ, suc, max, ◌&&◌, ◌≤◌, ℤ, Bool, true, nat_le, List, [], ◌∷◌, map, length, IsTrue}
+use Rattle.std.specs.Prelude.{ℕ, suc, max, ◌&&◌, ℤ, Bool, true, nat_le, List, [], ◌∷◌, map}
 use Rattle.std.specs.Cmp.Lexicographic.{slice_cmp}
 use Rattle.std.specs.Ordering.{nat_cmp, is_lt}
 use Rattle.powerbox_match.specs.declared.value.TagValue.{TagValue, fold-TagValue}
@@ -39,11 +39,12 @@ abbrev mutual
   items_nesting no_items = 0
   items_nesting (item v vs) = max (nesting v) (items_nesting vs)
 
--- how many fields, and how many items, there are
+-- how many fields there are
 abbrev pub field_count : FieldsData → ℕ
 field_count no_fields = 0
 field_count (field name v fs) = suc (field_count fs)
 
+-- how many items there are
 abbrev pub item_count : ItemsData → ℕ
 item_count no_items = 0
 item_count (item v vs) = suc (item_count vs)
@@ -75,11 +76,12 @@ abbrev mutual
   are_items_tidy no_items = true
   are_items_tidy (item v vs) = is_tidy v && are_items_tidy vs
 
--- the fields and the items of a list, in order
+-- the fields of a list, in order
 abbrev pub fields_of : List (List ℕ × TagData) → FieldsData
 fields_of [] = no_fields
 fields_of (f ∷ fs) = field f.0 f.1 (fields_of fs)
 
+-- the items of a list, in order
 abbrev pub items_of : List TagData → ItemsData
 items_of [] = no_items
 items_of (v ∷ vs) = item v (items_of vs)
@@ -96,12 +98,14 @@ data_step (TagValue-F.Items v) = items (items_of v.items)
 abbrev pub tag_data : TagValue → TagData
 tag_data = fold-TagValue TagData data_step
 
--- what a field, a list of fields and a list of values stand for
+-- what a name and its value stand for
 abbrev pub field_data : List ℕ × TagValue → List ℕ × TagData
 field_data f = (f.0, tag_data f.1)
 
+-- what a list of names and their values stands for
 abbrev pub fields_data : List (List ℕ × TagValue) → FieldsData
 fields_data fs = fields_of (map field_data fs)
 
+-- what a list of values stands for
 abbrev pub items_data : List TagValue → ItemsData
 items_data vs = items_of (map tag_data vs)

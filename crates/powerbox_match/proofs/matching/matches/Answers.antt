@@ -1,6 +1,5 @@
-use Rattle.std.proofs.Common.{sym, ap, ◌∙◌, map, take, arith}
+use Rattle.std.proofs.Common.{sym, ◌∙◌, map, arith}
 use Rattle.powerbox_match.specs.Descriptor.{descriptor_view}
-use Rattle.powerbox_match.specs.Matching.{strongest, stronger, matches_with}
 use Rattle.powerbox_match.proofs.Strongest.{strongest_more}
 use Rattle.powerbox_match.proofs.matching.matches.Goals as goal
 

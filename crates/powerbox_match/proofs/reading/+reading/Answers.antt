@@ -1,12 +1,11 @@
-use Rattle.std.proofs.Common.{◌≡◌, ◌≤◌, ◌<◌, [], ◌∷◌, ◌++◌, Bool, true, false, List, Option, Some, None, length, take, string_bytes, refl, sym, ap, ◌∙◌, append_assoc, append-nil, arith, rules}
+use Rattle.std.proofs.Common.{◌≡◌, ◌≤◌, [], ◌∷◌, ◌++◌, false, Some, length, take, string_bytes, refl, sym, ap, ◌∙◌, append_assoc, append-nil, arith, rules}
 use Rattle.std.proofs.lemmas.List.{take_all}
 use Rattle.std.proofs.lemmas.Result.{err_from_is_err_and}
 use Rattle.serde_json.specs.View.{view, items_view, members_view}
-use Rattle.serde_json.specs.declared.value.Value.{Value}
 use Rattle.serde_json.proofs.Views.{Entry}
 use Rattle.powerbox_match.specs.Text.{is_text, text_of}
 use Rattle.powerbox_match.specs.Value.{items_data, fields_data}
-use Rattle.powerbox_match.specs.Shape.{json_nesting, json_items_nesting, json_members_nesting, value_of, items_stated, fields_stated}
+use Rattle.powerbox_match.specs.Shape.{json_nesting, json_items_nesting, json_members_nesting, items_stated, fields_stated}
 use Rattle.powerbox_match.proofs.Nesting.{item_nests_at_most, member_nests_at_most}
 use Rattle.powerbox_match.proofs.Tidy.{Entry as Field}
 use Rattle.powerbox_match.proofs.Stated.{items_stated_more, are_items_tidy-push, items_stated_none, fields_stated-push, are_fields_tidy-push, fields_stated_none, no_field_by_name, no_field_by_value}

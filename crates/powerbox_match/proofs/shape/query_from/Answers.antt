@@ -1,8 +1,8 @@
-use Rattle.std.proofs.Common.{◌≡◌, map, take, Ok, Err, sym, ap, ◌∙◌, arith, rules}
+use Rattle.std.proofs.Common.{◌≡◌, map, Err, sym, ap, ◌∙◌, arith}
 use Rattle.std.proofs.lemmas.Result.{err_from_is_err_and}
-use Rattle.serde_json.specs.View.{view, items_view}
+use Rattle.serde_json.specs.View.{items_view}
 use Rattle.powerbox_match.specs.Descriptor.{descriptor_view}
-use Rattle.powerbox_match.specs.Shape.{descriptor_of, descriptors_of, query_or_fault, query_of}
+use Rattle.powerbox_match.specs.Shape.{descriptors_of, query_or_fault}
 use Rattle.powerbox_match.proofs.Listed.{descriptors_of_more, descriptors_of_fault}
 use Rattle.powerbox_match.proofs.shape.query_from.Goals as goal
 

@@ -1,13 +1,9 @@
-use Rattle.std.proofs.Common.{◌≡◌, ◌≤◌, ◌<◌, [], ◌∷◌, Some, None, Err, length, length-append, map, take, sym, ap, ◌∙◌, subst, arith, rules}
-use Rattle.std.specs.Prelude.{codes}
-use Rattle.std.specs.Option.{option_map_or}
+use Rattle.std.proofs.Common.{◌≡◌, ◌≤◌, [], ◌∷◌, Some, None, Err, length-append, map, take, sym, ap, ◌∙◌, arith}
 use Rattle.std.proofs.lemmas.List.{take_all}
 use Rattle.std.proofs.lemmas.Result.{err_from_is_err_and}
-use Rattle.serde_json.specs.Find.{get}
-use Rattle.serde_json.specs.View.{view, items_view}
-use Rattle.serde_json.specs.declared.value.Value.{Value}
+use Rattle.serde_json.specs.View.{items_view}
 use Rattle.powerbox_match.specs.Descriptor.{tag_view}
-use Rattle.powerbox_match.specs.Shape.{json_nesting, deepest_value, tags_of, tags_or_fault}
+use Rattle.powerbox_match.specs.Shape.{deepest_value, tags_of, tags_or_fault}
 use Rattle.powerbox_match.proofs.Nesting.{nests_at_most}
 use Rattle.powerbox_match.proofs.Listed.{tags_of_more, tags_of_none, tags_stated, tags_bad, tags_too_many, at_most_from_leb}
 use Rattle.powerbox_match.proofs.shape.tags_from.Goals as goal

@@ -1,4 +1,4 @@
-use Rattle.std.proofs.Common.{◌≡◌, ◌≢◌, [], All, arith}
+use Rattle.std.proofs.Common.{◌≢◌, All, arith}
 use Rattle.std.proofs.lemmas.List.Elements.{All-nil}
 use Rattle.powerbox_match.specs.declared.choices.Choice.{Choice}
 use Rattle.powerbox_match.proofs.Insertion.{All-choices_after}

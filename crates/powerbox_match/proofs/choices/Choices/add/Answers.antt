@@ -1,6 +1,6 @@
-use Rattle.std.proofs.Common.{◌≡◌, ap, sym, ◌∙◌, subst, All, ◌≢◌, List, arith, rules, insert}
+use Rattle.std.proofs.Common.{◌≡◌, ap, sym, ◌∙◌, List, insert}
 use Rattle.powerbox_match.specs.declared.choices.Choice.{Choice}
-use Rattle.powerbox_match.specs.Choices.{is_in_order, insertion}
+use Rattle.powerbox_match.specs.Choices.{insertion}
 use Rattle.powerbox_match.proofs.Insertion.{is_in_order-insertion}
 use Rattle.powerbox_match.proofs.choices.Choices.add.Goals as goal
 
