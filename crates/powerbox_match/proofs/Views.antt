@@ -1,4 +1,4 @@
--- A tag's value, level by level.
+-- A tag's value, level by level, also for who makes a value or takes one apart.
 use Rattle.std.proofs.Common.{◌≡◌, ℕ, ℤ, List, Vec, Global, rules}
 use Rattle.powerbox_match.specs.Value.{any, number, text, fields, items, tag_data, fields_data, items_data}
 use Rattle.powerbox_match.specs.declared.value.TagValue.{TagValue, Any, Number, Text, Fields, Items, the_lemmas}

@@ -1,10 +1,10 @@
 //! The descriptor and the query that a JSON value states.
 
-ghost use Rattle.std.specs.Prelude.{◌≡◌, ◌≢◌, ◌≤◌, codes, map, length, Some, None, Ok, Err, IsTrue, IfOk, IfErr, option_map, option_and_then};
+ghost use Rattle.std.specs.Prelude.{◌≡◌, ◌≢◌, ◌≤◌, codes, map, length, Some, None, Ok, Err, IsTrue, IfOk, IfErr, option_map};
 ghost use Rattle.std.specs.Option.{option_map_or, ok_or};
 ghost use Rattle.serde_json.specs.Find.{get, as_array};
 ghost use Rattle.serde_json.specs.View.{view, items_view};
-ghost use Rattle.powerbox_match.specs.Value.{tag_data, nesting, is_tidy};
+ghost use Rattle.powerbox_match.specs.Value.{tag_data, is_tidy};
 ghost use Rattle.powerbox_match.specs.Descriptor.{tag_view, descriptor_view, query_view};
 ghost use Rattle.powerbox_match.specs.Shape.{json_nesting, tag_nesting, value_or_any, tag_of, tag_list, tags_or_fault, quality_named, quality_or_fault, descriptor_of, query_of};
 
