@@ -10,7 +10,7 @@ use Rattle.serde_json.specs.declared.value.Value.{Value}
 use Rattle.serde_json.proofs.Views.{Entry}
 use Rattle.powerbox_match.specs.Text.{text_of}
 use Rattle.powerbox_match.specs.Value.{TagData, any, number, text, fields, items, FieldsData, no_fields, ItemsData, no_items, item, nesting, fields_nesting, items_nesting}
-use Rattle.powerbox_match.specs.Shape.{json_nesting, json_items_nesting, json_members_nesting, value_of, items_stated, fields_stated, tag_nesting, deepest_value, value_or_any}
+use Rattle.powerbox_match.specs.Shape.{json_nesting, json_items_nesting, json_members_nesting, value_of, stated_items, stated_fields, tag_nesting, deepest_value, value_or_any}
 use Rattle.powerbox_match.proofs.Stated.{both_there, fields_there}
 
 mapped_there : {A : Type 0} (f : A → TagData) (o : Option A) (t : TagData) → option_map f o ≡ Some t → (x : A) × (o ≡ Some x) × (t ≡ f x)
@@ -28,17 +28,17 @@ mutual
   nesting-value_of (Data.number n) t e = let p = mapped_there number (as_integer n) t e in rw p.2
   nesting-value_of (Data.string s) t e = let p = mapped_there text (text_of s) t e in rw p.2
   nesting-value_of (Data.array ds) t e =
-      let p = under_count (leb (items_len ds) 1000) items (items_stated ds) t e in rw p.2 (ap suc (items_nesting-stated ds p.0 p.1))
+      let p = under_count (leb (items_len ds) 1000) items (stated_items ds) t e in rw p.2 (ap suc (items_nesting-stated ds p.0 p.1))
   nesting-value_of (Data.object ms) t e =
-      let p = under_count (leb (members_len ms) 1000) fields (fields_stated ms) t e in rw p.2 (ap suc (fields_nesting-stated ms p.0 p.1))
+      let p = under_count (leb (members_len ms) 1000) fields (stated_fields ms) t e in rw p.2 (ap suc (fields_nesting-stated ms p.0 p.1))
 
-  items_nesting-stated : (ds : Items) (vs : ItemsData) → items_stated ds ≡ Some vs → items_nesting vs ≡ json_items_nesting ds
+  items_nesting-stated : (ds : Items) (vs : ItemsData) → stated_items ds ≡ Some vs → items_nesting vs ≡ json_items_nesting ds
   items_nesting-stated Items.no_items vs e = let is : vs ≡ no_items = cc in rw is
   items_nesting-stated (Items.item d ds) vs e =
-      let p = both_there item (value_of d) (items_stated ds) vs e in
+      let p = both_there item (value_of d) (stated_items ds) vs e in
       rw (p.4, nesting-value_of d p.0 p.2, items_nesting-stated ds p.1 p.3)
 
-  fields_nesting-stated : (ms : Members) (fs : FieldsData) → fields_stated ms ≡ Some fs → fields_nesting fs ≡ json_members_nesting ms
+  fields_nesting-stated : (ms : Members) (fs : FieldsData) → stated_fields ms ≡ Some fs → fields_nesting fs ≡ json_members_nesting ms
   fields_nesting-stated Members.no_members fs e = let is : fs ≡ no_fields = cc in rw is
   fields_nesting-stated (Members.member k d ms) fs e =
       let p = fields_there k d ms fs e in

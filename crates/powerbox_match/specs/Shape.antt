@@ -45,16 +45,16 @@ abbrev mutual
   value_of (Data.boolean b) = None
   value_of (Data.number n) = option_map number (as_integer n)
   value_of (Data.string s) = option_map text (text_of s)
-  value_of (Data.array ds) = if nat_le (items_len ds) 1000 then option_map items (items_stated ds) else None
-  value_of (Data.object ms) = if nat_le (members_len ms) 1000 then option_map fields (fields_stated ms) else None
+  value_of (Data.array ds) = if nat_le (items_len ds) 1000 then option_map items (stated_items ds) else None
+  value_of (Data.object ms) = if nat_le (members_len ms) 1000 then option_map fields (stated_fields ms) else None
 
-  pub items_stated : Items → Option ItemsData
-  items_stated Items.no_items = Some no_items
-  items_stated (Items.item d ds) = map_both item (value_of d) (items_stated ds)
+  pub stated_items : Items → Option ItemsData
+  stated_items Items.no_items = Some no_items
+  stated_items (Items.item d ds) = map_both item (value_of d) (stated_items ds)
 
-  pub fields_stated : Members → Option FieldsData
-  fields_stated Members.no_members = Some no_fields
-  fields_stated (Members.member k d ms) = if is_text k then map_both (field k) (value_of d) (fields_stated ms) else None
+  pub stated_fields : Members → Option FieldsData
+  stated_fields Members.no_members = Some no_fields
+  stated_fields (Members.member k d ms) = if is_text k then map_both (field k) (value_of d) (stated_fields ms) else None
 
 -- the value of a tag, which is anything where none is stated
 abbrev pub value_or_any : Option Data → Option TagData

@@ -5,10 +5,10 @@ use Rattle.serde_json.specs.View.{view, items_view, members_view}
 use Rattle.serde_json.proofs.Views.{Entry}
 use Rattle.powerbox_match.specs.Text.{is_text, text_of}
 use Rattle.powerbox_match.specs.Value.{items_data, fields_data}
-use Rattle.powerbox_match.specs.Shape.{json_nesting, json_items_nesting, json_members_nesting, items_stated, fields_stated}
+use Rattle.powerbox_match.specs.Shape.{json_nesting, json_items_nesting, json_members_nesting, stated_items, stated_fields}
 use Rattle.powerbox_match.proofs.Nesting.{item_nests_at_most, member_nests_at_most}
 use Rattle.powerbox_match.proofs.Tidy.{Entry as Field}
-use Rattle.powerbox_match.proofs.Stated.{items_stated_more, are_items_tidy-push, items_stated_none, fields_stated-push, are_fields_tidy-push, fields_stated_none, no_field_by_name, no_field_by_value}
+use Rattle.powerbox_match.proofs.Stated.{stated_items_more, are_items_tidy-push, stated_items_none, stated_fields-push, are_fields_tidy-push, stated_fields_none, no_field_by_name, no_field_by_value}
 use Rattle.powerbox_match.proofs.Ends.{array_stated, array_tidy, array_too_long, array_none, object_stated, object_tidy, object_too_long, object_none, no_text, a_text}
 use Rattle.powerbox_match.proofs.reading.+reading.Goals as goal
 
@@ -32,14 +32,14 @@ items_from-returns-in_err-value_from-clause-fault t c =
     let p = err_from_is_err_and c.from_residual.result c.from_residual.ensures.1 in
     rw (p.1, p.2) (λ other.
     let q = c.in_err-value_from.ensures.fault other in
-    (q.0, array_none (items_view c.args.items.now) (items_stated_none c.args.items.now c.loop-item.item-index c.item-item.result (omega arith) c.item-item.is q.1)))
+    (q.0, array_none (items_view c.args.items.now) (stated_items_none c.args.items.now c.loop-item.item-index c.item-item.result (omega arith) c.item-item.is q.1)))
 
 pub items_from-loop-item-preserved : goal.items_from-loop-item-preserved
 items_from-loop-item-preserved t c =
     let value = c.in_ok-value_from.field-0 in
     let old = c.loop-item.values.items in
     record {
-      stated = rw c.in_ok-push.ensures.items (items_stated_more c.args.items.now c.loop-item.item-index c.item-item.result old value (omega arith) c.item-item.is c.loop-item.invariant.stated c.in_ok-value_from.ensures.ok);
+      stated = rw c.in_ok-push.ensures.items (stated_items_more c.args.items.now c.loop-item.item-index c.item-item.result old value (omega arith) c.item-item.is c.loop-item.invariant.stated c.in_ok-value_from.ensures.ok);
       tidy = rw c.in_ok-push.ensures.items (are_items_tidy-push old value c.loop-item.invariant.tidy c.in_ok-value_from.ensures.tidy);
     }
 
@@ -48,7 +48,7 @@ items_from-returns-clause-ok t c =
     let ds = c.args.items.now in
     let vs = c.loop-item.values.items in
     let all : take c.loop-item.item-index ds ≡ ds = take_all c.loop-item.item-index ds (omega arith) in
-    let stated : items_stated (items_view ds) ≡ Some (items_data vs) = rw all at c.loop-item.invariant.stated in
+    let stated : stated_items (items_view ds) ≡ Some (items_data vs) = rw all at c.loop-item.invariant.stated in
     array_stated ds vs (omega arith) stated
 
 pub items_from-returns-clause-tidy : goal.items_from-returns-clause-tidy
@@ -56,7 +56,7 @@ items_from-returns-clause-tidy t c =
     let ds = c.args.items.now in
     let vs = c.loop-item.values.items in
     let all : take c.loop-item.item-index ds ≡ ds = take_all c.loop-item.item-index ds (omega arith) in
-    let stated : items_stated (items_view ds) ≡ Some (items_data vs) = rw all at c.loop-item.invariant.stated in
+    let stated : stated_items (items_view ds) ≡ Some (items_data vs) = rw all at c.loop-item.invariant.stated in
     array_tidy ds vs (omega arith) stated c.loop-item.invariant.tidy
 
 pub fields_from-returns-then-len-gt-MAX_ENTRIES-clause-fault : goal.fields_from-returns-then-len-gt-MAX_ENTRIES-clause-fault
@@ -70,7 +70,7 @@ fields_from-returns-in_default-clause-fault t c =
     let more = c.next.new.self in
     let all : c.args.members.now.entries ≡ c.loop-name.invariant.done ++ e ∷ more = c.loop-name.invariant.all ∙ ap (λ es. c.loop-name.invariant.done ++ es) c.in-Some.ensures.steps in
     let bad : is_text (string_bytes e.0) ≡ false = no_text (string_bytes e.0) (ap text_of (sym c.as_str.ensures.value) ∙ sym c.in_ok-name.ensures ∙ c.in_default.is) in
-    λ other. (refl, object_none (members_view c.args.members.now.entries) (rw all (fields_stated_none c.loop-name.invariant.done e more (no_field_by_name e more bad))))
+    λ other. (refl, object_none (members_view c.args.members.now.entries) (rw all (stated_fields_none c.loop-name.invariant.done e more (no_field_by_name e more bad))))
 
 pub fields_from-returns-in_err-value_from-clause-fault : goal.fields_from-returns-in_err-value_from-clause-fault
 fields_from-returns-in_err-value_from-clause-fault t c =
@@ -80,7 +80,7 @@ fields_from-returns-in_err-value_from-clause-fault t c =
     let p = err_from_is_err_and c.from_residual-in_err-value_from.result c.from_residual-in_err-value_from.ensures.1 in
     rw (p.1, p.2) (λ other.
     let q = c.in_err-value_from.ensures.fault other in
-    (q.0, object_none (members_view c.args.members.now.entries) (rw all (fields_stated_none c.loop-name.invariant.done e more (no_field_by_value e more q.1)))))
+    (q.0, object_none (members_view c.args.members.now.entries) (rw all (stated_fields_none c.loop-name.invariant.done e more (no_field_by_value e more q.1)))))
 
 pub fields_from-loop-name-preserved : goal.fields_from-loop-name-preserved
 fields_from-loop-name-preserved t c =
@@ -93,7 +93,7 @@ fields_from-loop-name-preserved t c =
     record {
       done = done ++ e ∷ [];
       all = all ∙ sym (append_assoc done (e ∷ []) c.next.new.self);
-      stated = rw c.in_ok-push.ensures.items (fields_stated-push done old e f c.loop-name.invariant.stated good.1 good.0 c.in_ok-value_from.ensures.ok);
+      stated = rw c.in_ok-push.ensures.items (stated_fields-push done old e f c.loop-name.invariant.stated good.1 good.0 c.in_ok-value_from.ensures.ok);
       tidy = rw c.in_ok-push.ensures.items (are_fields_tidy-push old f c.loop-name.invariant.tidy c.in_ok-value_from.ensures.tidy);
     }
 
@@ -103,7 +103,7 @@ fields_from-returns-clause-ok t c =
     let fs = c.loop-name.fields.items in
     let len : c.len.result ≡ length es = search rules in
     let all : es ≡ c.loop-name.invariant.done = c.loop-name.invariant.all ∙ ap (λ rest. c.loop-name.invariant.done ++ rest) c.in-None.ensures.steps.0 ∙ append-nil c.loop-name.invariant.done in
-    let stated : fields_stated (members_view es) ≡ Some (fields_data fs) = rw all c.loop-name.invariant.stated in
+    let stated : stated_fields (members_view es) ≡ Some (fields_data fs) = rw all c.loop-name.invariant.stated in
     object_stated es fs (omega arith) stated
 
 pub fields_from-returns-clause-tidy : goal.fields_from-returns-clause-tidy
@@ -112,5 +112,5 @@ fields_from-returns-clause-tidy t c =
     let fs = c.loop-name.fields.items in
     let len : c.len.result ≡ length es = search rules in
     let all : es ≡ c.loop-name.invariant.done = c.loop-name.invariant.all ∙ ap (λ rest. c.loop-name.invariant.done ++ rest) c.in-None.ensures.steps.0 ∙ append-nil c.loop-name.invariant.done in
-    let stated : fields_stated (members_view es) ≡ Some (fields_data fs) = rw all c.loop-name.invariant.stated in
+    let stated : stated_fields (members_view es) ≡ Some (fields_data fs) = rw all c.loop-name.invariant.stated in
     object_tidy es fs (omega arith) c.iter-name-items.ensures.ordered stated c.loop-name.invariant.tidy

@@ -2,13 +2,13 @@ use Rattle.std.proofs.Common.{◌≡◌, ◌+◌, ◌*◌, ◌++◌, List, Some,
 use Rattle.serde_json.specs.View.{view, items_view, members_view}
 use Rattle.serde_json.proofs.Views.{Entry}
 use Rattle.powerbox_match.specs.Value.{are_items_tidy, are_fields_tidy, items_data, fields_data}
-use Rattle.powerbox_match.specs.Shape.{json_nesting, json_items_nesting, json_members_nesting, items_stated, fields_stated}
+use Rattle.powerbox_match.specs.Shape.{json_nesting, json_items_nesting, json_members_nesting, stated_items, stated_fields}
 use Rattle.powerbox_match.proofs.reading.+reading.Given as goal
 
 abbrev pub invariant-items_from-loop-item : goal.invariant-items_from-loop-item
 invariant-items_from-loop-item l =
     record {
-      stated : items_stated (items_view (take l.item-index l.items)) ≡ Some (items_data l.values.items);
+      stated : stated_items (items_view (take l.item-index l.items)) ≡ Some (items_data l.values.items);
       tidy : are_items_tidy (items_data l.values.items) ≡ true;
     }
 
@@ -17,7 +17,7 @@ invariant-fields_from-loop-name l =
     record {
       done : List Entry;
       all : l.members.entries ≡ done ++ l.name-iterator;
-      stated : fields_stated (members_view done) ≡ Some (fields_data l.fields.items);
+      stated : stated_fields (members_view done) ≡ Some (fields_data l.fields.items);
       tidy : are_fields_tidy (fields_data l.fields.items) ≡ true;
     }
 
