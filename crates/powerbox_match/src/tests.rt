@@ -1,25 +1,20 @@
-use crate::{
-    Choice, Choices, Quality, Query, ShapeFault, TagValue, descriptor_from, matches, query_from,
-};
+use crate::{Choice, Choices, Quality, Query, ShapeFault, TagValue, matches, query_from};
 use serde_json::Value;
 use std::alloc::{AllocError, Global};
 use std::test::Fail;
 
-fn repeated(alloc: Global, part: &str, count: usize) -> Result<String, AllocError> {
-    let mut text = String::new(alloc);
-    for _ in 0..count {
-        text.push_str(part)?;
-    }
-    Ok(text)
-}
+const TAG: &str = "[{\"tags\":[{\"id\":7,\"value\":";
 
-// A query of one descriptor with one tag that has the value.
-fn with_value(alloc: Global, parts: &[&str]) -> Result<String, AllocError> {
-    let mut text = String::from_str(alloc, "[{\"tags\":[{\"id\":7,\"value\":")?;
-    for part in parts {
-        text.push_str(part)?;
+const END: &str = "}]}]";
+
+// Each part as often as its number says.
+fn repeated(alloc: Global, parts: &[(&str, usize)]) -> Result<String, AllocError> {
+    let mut text = String::new(alloc);
+    for (part, count) in parts {
+        for _ in 0..*count {
+            text.push_str(*part)?;
+        }
     }
-    text.push_str("}]}]")?;
     Ok(text)
 }
 
@@ -28,114 +23,146 @@ fn query(alloc: Global, text: &str) -> Result<Query, Fail> {
     Ok(query_from(alloc, &value)?)
 }
 
-fn fault(alloc: Global, text: &str) -> Result<Option<ShapeFault>, Fail> {
-    let value = Value::from_str(alloc, text)?;
+fn fault(alloc: Global, parts: [(&str, usize); 4]) -> Result<Option<ShapeFault>, Fail> {
+    let text = repeated(alloc, &parts)?;
+    let value = Value::from_str(alloc, text.as_str())?;
     Ok(query_from(alloc, &value).err())
+}
+
+fn first_value(query: &Query) -> Option<&TagValue> {
+    let tag = query.descriptors.first()?.tags.first()?;
+    Some(&tag.value)
+}
+
+fn number(query: &Query) -> Option<i128> {
+    match first_value(query)? {
+        TagValue::Number(number) => Some(*number),
+        TagValue::Any => None,
+        TagValue::Text(_) => None,
+        TagValue::Fields(_) => None,
+        TagValue::Items(_) => None,
+    }
+}
+
+fn has_names(query: &Query, names: &[&str]) -> bool {
+    match first_value(query) {
+        Some(TagValue::Fields(fields)) => {
+            fields.len() == names.len()
+                && fields
+                    .iter()
+                    .zip(names)
+                    .all(|(field, name)| field.0.as_str() == *name)
+        }
+        _ => false,
+    }
 }
 
 #[test]
 fn faults_come_in_their_order(rt: HostRuntime) -> Result<(), Fail> {
-    for (text, found) in [
-        ("{}", Some(ShapeFault::BadShape(0))),
-        ("[7]", Some(ShapeFault::BadShape(1))),
-        ("[{}]", Some(ShapeFault::BadShape(1))),
+    for (parts, found) in [
         (
-            "[{\"tags\":[{\"id\":7,\"value\":true}]}]",
+            [("{}", 1), ("", 0), ("", 0), ("", 0)],
+            Some(ShapeFault::BadShape(0)),
+        ),
+        (
+            [("[7]", 1), ("", 0), ("", 0), ("", 0)],
             Some(ShapeFault::BadShape(1)),
         ),
-        ("[{\"tags\":[{\"id\":-7}]}]", Some(ShapeFault::BadShape(1))),
         (
-            "[{\"tags\":[],\"quality\":\"best\"}]",
+            [("[{}]", 1), ("", 0), ("", 0), ("", 0)],
+            Some(ShapeFault::BadShape(1)),
+        ),
+        (
+            [(TAG, 1), ("true", 1), (END, 1), ("", 0)],
+            Some(ShapeFault::BadShape(1)),
+        ),
+        (
+            [(TAG, 1), ("1.0", 1), (END, 1), ("", 0)],
+            Some(ShapeFault::BadShape(1)),
+        ),
+        (
+            [(TAG, 1), ("\"\\u0007\"", 1), (END, 1), ("", 0)],
+            Some(ShapeFault::BadShape(1)),
+        ),
+        (
+            [(TAG, 1), ("-9223372036854775809", 1), (END, 1), ("", 0)],
+            Some(ShapeFault::BadShape(1)),
+        ),
+        (
+            [(TAG, 1), ("18446744073709551616", 1), (END, 1), ("", 0)],
+            Some(ShapeFault::BadShape(1)),
+        ),
+        (
+            [("[{\"tags\":[{\"id\":-7}]}]", 1), ("", 0), ("", 0), ("", 0)],
+            Some(ShapeFault::BadShape(1)),
+        ),
+        (
+            [
+                ("[{\"tags\":[],\"quality\":\"best\"}]", 1),
+                ("", 0),
+                ("", 0),
+                ("", 0),
+            ],
             Some(ShapeFault::BadShape(2)),
         ),
         (
-            "[{\"tags\":[],\"quality\":null}]",
+            [
+                ("[{\"tags\":[],\"quality\":null},{}]", 1),
+                ("", 0),
+                ("", 0),
+                ("", 0),
+            ],
             Some(ShapeFault::BadShape(2)),
         ),
+        ([(TAG, 1), ("[", 16), ("]", 16), (END, 1)], None),
         (
-            "[{\"tags\":[],\"quality\":\"best\"},{}]",
-            Some(ShapeFault::BadShape(2)),
+            [(TAG, 1), ("[", 17), ("]", 17), (END, 1)],
+            Some(ShapeFault::TooDeep),
         ),
+        ([(TAG, 1), ("[", 1), ("0,", 999), ("0]}]}]", 1)], None),
         (
-            "[{\"tags\":[{\"id\":7,\"value\":1.0}]}]",
+            [(TAG, 1), ("[", 1), ("0,", 1000), ("0]}]}]", 1)],
             Some(ShapeFault::BadShape(1)),
         ),
         (
-            "[{\"tags\":[{\"id\":7,\"value\":\"\\u0007\"}]}]",
-            Some(ShapeFault::BadShape(1)),
-        ),
-        (
-            "[{\"tags\":[{\"id\":7,\"value\":-9223372036854775809}]}]",
-            Some(ShapeFault::BadShape(1)),
-        ),
-        (
-            "[{\"tags\":[{\"id\":7,\"value\":18446744073709551616}]}]",
-            Some(ShapeFault::BadShape(1)),
-        ),
-        (
-            "[{\"tags\":[{\"id\":7,\"value\":null,\"more\":true}],\"quality\":\"preferred\"}]",
+            [
+                ("[{\"tags\":[", 1),
+                ("{\"id\":7},", 31),
+                ("{\"id\":7}]}]", 1),
+                ("", 0),
+            ],
             None,
         ),
+        (
+            [
+                ("[{\"tags\":[", 1),
+                ("{\"id\":7},", 32),
+                ("{\"id\":7}]}]", 1),
+                ("", 0),
+            ],
+            Some(ShapeFault::TooManyTags),
+        ),
     ] {
-        assert_eq!(rt; fault(rt.alloc(), text)?, found, "{text}");
-    }
-    Ok(())
-}
-
-#[test]
-fn limits_are_exact(rt: HostRuntime) -> Result<(), Fail> {
-    let alloc = rt.alloc();
-    for (count, found) in [(16, None), (17, Some(ShapeFault::TooDeep))] {
-        let open = repeated(alloc, "[", count)?;
-        let close = repeated(alloc, "]", count)?;
-        let text = with_value(alloc, &[open.as_str(), close.as_str()])?;
-        assert_eq!(rt; fault(alloc, text.as_str())?, found, "{count} deep");
-    }
-    for (count, found) in [(999, None), (1000, Some(ShapeFault::BadShape(1)))] {
-        let items = repeated(alloc, "0,", count)?;
-        let text = with_value(alloc, &["[", items.as_str(), "0]"])?;
-        assert_eq!(rt;
-            fault(alloc, text.as_str())?,
-            found,
-            "{count} and one entries"
-        );
-    }
-    for (count, found) in [(31, None), (32, Some(ShapeFault::TooManyTags))] {
-        let tags = repeated(alloc, "{\"id\":7},", count)?;
-        let mut text = String::from_str(alloc, "[{\"tags\":[")?;
-        text.push_str(tags.as_str())?;
-        text.push_str("{\"id\":7}]}]")?;
-        assert_eq!(rt; fault(alloc, text.as_str())?, found, "{count} and one tags");
+        assert_eq!(rt; fault(rt.alloc(), parts)?, found, "{parts:?}");
     }
     Ok(())
 }
 
 #[test]
 fn values_are_those_of_the_text(rt: HostRuntime) -> Result<(), Fail> {
-    let text = "{\"tags\":[{\"id\":1,\"value\":-9223372036854775808},\
-        {\"id\":2,\"value\":18446744073709551615},\
-        {\"id\":3,\"value\":{\"b\":1,\"a\":\"x\",\"c\":[null]}}]}";
-    let value = Value::from_str(rt.alloc(), text)?;
-    let descriptor = descriptor_from(rt.alloc(), &value)?.clone()?;
-    assert_eq!(rt; descriptor.quality, Quality::Acceptable);
-    assert_eq!(rt; descriptor.tags.len(), 3);
-    for tag in &descriptor.tags {
-        match &tag.value {
-            TagValue::Number(number) if tag.id == 1 => {
-                assert_eq!(rt; *number, -9223372036854775808)
-            }
-            TagValue::Number(number) => assert_eq!(rt; *number, 18446744073709551615),
-            TagValue::Fields(fields) => {
-                assert_eq!(rt; fields.len(), 3);
-                for (field, name) in fields.iter().zip(["a", "b", "c"]) {
-                    assert_eq!(rt; field.0.as_str(), name);
-                }
-            }
-            TagValue::Any => assert!(rt; false),
-            TagValue::Text(_) => assert!(rt; false),
-            TagValue::Items(_) => assert!(rt; false),
-        }
+    for (text, found) in [
+        ("-9223372036854775808", -9223372036854775808i128),
+        ("18446744073709551615", 18446744073709551615),
+    ] {
+        let text = repeated(rt.alloc(), &[(TAG, 1), (text, 1), (END, 1)])?;
+        assert_eq!(rt; number(&query(rt.alloc(), text.as_str())?), Some(found));
     }
+    let text = repeated(
+        rt.alloc(),
+        &[(TAG, 1), ("{\"b\":1,\"a\":\"x\",\"c\":[]}", 1), (END, 1)],
+    )?;
+    let fields = query(rt.alloc(), text.as_str())?.clone()?;
+    assert!(rt; has_names(&fields, &["a", "b", "c"]));
     Ok(())
 }
 
