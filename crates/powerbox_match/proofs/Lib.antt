@@ -1,0 +1,10 @@
+pub mod Ends
+pub mod Nesting
+pub mod Listed
+pub mod Stated
+pub mod Tidy
+pub mod Merge
+pub mod Steps
+pub mod Views
+pub mod Strongest
+pub mod Insertion

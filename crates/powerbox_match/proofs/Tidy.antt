@@ -1,0 +1,32 @@
+-- A part of a tidy value is tidy, and nests no deeper.
+use Rattle.std.proofs.Common.{◌≡◌, ℕ, zero, suc, ◌<◌, ◌≤◌, true, List, [], ◌∷◌, length, get_or, drop, refl}
+use Rattle.std.specs.Cmp.{second_so}
+use Rattle.std.proofs.lemmas.List.Recursion.{and_at, max_bounds}
+use Rattle.powerbox_match.specs.declared.value.TagValue.{TagValue}
+use Rattle.powerbox_match.specs.Value.{nesting, items_nesting, fields_nesting, is_tidy, is_ascending, are_fields_tidy, are_items_tidy, tag_data, fields_data, items_data}
+
+-- a field as a clause sees it
+abbrev pub Entry : Type 0
+Entry = List ℕ × TagValue
+
+-- an item of a tidy list is tidy
+pub items_tidy_at : (xs : List TagValue) (i : ℕ) (d : TagValue) → i < length xs → are_items_tidy (items_data xs) ≡ true → is_tidy (tag_data (get_or xs i d)) ≡ true
+items_tidy_at = and_at (λ ys. are_items_tidy (items_data ys)) (λ v. is_tidy (tag_data v)) refl (λ _ _. refl)
+
+-- a field's value in a tidy list is tidy
+pub fields_tidy_at : (xs : List Entry) (i : ℕ) (d : Entry) → i < length xs → are_fields_tidy (fields_data xs) ≡ true → is_tidy (tag_data (get_or xs i d).1) ≡ true
+fields_tidy_at = and_at (λ ys. are_fields_tidy (fields_data ys)) (λ f. is_tidy (tag_data f.1)) refl (λ _ _. refl)
+
+-- what is left of an ascending list ascends
+pub is_ascending-drop : (i : ℕ) (xs : List Entry) → is_ascending (fields_data xs) ≡ true → is_ascending (fields_data (drop i xs)) ≡ true
+is_ascending-drop zero xs h = h
+is_ascending-drop (suc i) [] h = h
+is_ascending-drop (suc i) (x ∷ xs) h = is_ascending-drop i xs (second_so _ _ h)
+
+-- an item nests no deeper than the deepest
+pub items_nesting_at : (xs : List TagValue) (i : ℕ) (d : TagValue) → i < length xs → nesting (tag_data (get_or xs i d)) ≤ items_nesting (items_data xs)
+items_nesting_at = max_bounds (λ ys. items_nesting (items_data ys)) (λ v. nesting (tag_data v)) refl (λ _ _. refl)
+
+-- a field's value nests no deeper than the deepest
+pub fields_nesting_at : (xs : List Entry) (i : ℕ) (d : Entry) → i < length xs → nesting (tag_data (get_or xs i d).1) ≤ fields_nesting (fields_data xs)
+fields_nesting_at = max_bounds (λ ys. fields_nesting (fields_data ys)) (λ f. nesting (tag_data f.1)) refl (λ _ _. refl)
