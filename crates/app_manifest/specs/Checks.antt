@@ -42,5 +42,5 @@ abbrev pub checked : ManifestDraft → Result ManifestDraft ManifestFault
 checked draft = option_map_or Err (whole_fault draft) (Ok draft)
 
 -- the manifest that a JSON value states, or its first fault
-abbrev pub manifest_of : Data → Result ManifestDraft ManifestFault
-manifest_of d = and_then (draft_of d) checked
+abbrev pub stated_by : Data → Result ManifestDraft ManifestFault
+stated_by d = and_then (draft_of d) checked

@@ -10,7 +10,7 @@ use Rattle.powerbox_match.specs.Descriptor.{descriptor_view}
 use Rattle.app_manifest.specs.declared.fault.ManifestFault.{ManifestFault}
 use Rattle.app_manifest.specs.declared.manifest.Manifest.{Manifest}
 use Rattle.app_manifest.specs.Draft.{RoleDraft, ManifestDraft}
-use Rattle.app_manifest.specs.Checks.{manifest_of}
+use Rattle.app_manifest.specs.Checks.{stated_by}
 
 -- a role is what a draft says: its set has exactly the positions at which the list has true
 pub record IsRoleOf (draft : RoleDraft) (role : Role) : Type 0 where
@@ -34,4 +34,4 @@ IsObject bytes members = IsUtf8 bytes × (read bytes ≡ Some (object members))
 
 -- bytes are a JSON object, and that states a manifest or has a first fault
 abbrev pub States : List ℕ → Result ManifestDraft ManifestFault → Type 0
-States bytes stated = (members : Members) × IsObject bytes members × (manifest_of (object members) ≡ stated)
+States bytes stated = (members : Members) × IsObject bytes members × (stated_by (object members) ≡ stated)

@@ -23,7 +23,9 @@ pub fn double_name(permissions: &[PermissionDef]) -> Option<usize>
 fn is_named_in(permissions: &[PermissionDef], name: &str) -> bool
     ensures { result ≡ list_any (λ earlier. bytes_eq name.now earlier.name) permissions.now }
 {
-    permissions.iter().any(|permission| name == permission.name.as_str())
+    permissions
+        .iter()
+        .any(|permission| name == permission.name.as_str())
 }
 
 /// The position of the second role that is a default one.

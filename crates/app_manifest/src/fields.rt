@@ -7,8 +7,8 @@ ghost use Rattle.powerbox_match.specs.Descriptor.{descriptor_view, offers_view};
 ghost use Rattle.app_manifest.specs.Draft.{flag_or_false, version_of, list_of, permission_of, role_of, request_of, requests_of};
 ghost use Rattle.app_manifest.specs.Stored.{role_draft};
 
-use crate::role::RoleDraft;
 use crate::manifest::PermissionDef;
+use crate::role::RoleDraft;
 use crate::text::{permission_name_from, role_text_from, role_title_from, text_from, title_from};
 use powerbox_match::{Descriptor, ShapeFault, descriptor_from};
 use serde_json::Value;

@@ -55,6 +55,13 @@ impl Permissions {
     {
         self.list.as_slice()
     }
+
+    /// The permissions as a `Vec`.
+    pub fn into_vec(self) -> Vec<PermissionDef>
+        ensures { result.items ≡ self }
+    {
+        self.list
+    }
 }
 
 /// A list of roles.
@@ -85,6 +92,13 @@ impl Roles {
         ensures { result.now ≡ self.now }
     {
         self.list.as_slice()
+    }
+
+    /// The roles as a `Vec`.
+    pub fn into_vec(self) -> Vec<Role>
+        ensures { result.items ≡ self }
+    {
+        self.list
     }
 }
 
@@ -120,5 +134,12 @@ impl Descriptors {
         ensures { result.now ≡ self.now }
     {
         self.list.as_slice()
+    }
+
+    /// The descriptors as a `Vec`.
+    pub fn into_vec(self) -> Vec<Descriptor>
+        ensures { result.items ≡ self }
+    {
+        self.list
     }
 }

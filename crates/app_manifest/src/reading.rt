@@ -12,10 +12,11 @@ use crate::checks::{double_name, second_default};
 use crate::draft::{Draft, draft_from};
 use crate::fault::ManifestFault;
 use crate::manifest::{Descriptors, Manifest, Permissions, Roles};
-use crate::role::roles_of;
+use crate::role::roles_from_drafts;
 use serde_json::Value;
 use std::alloc::Global;
 
+// The most that a manifest may have.
 const PERMISSION_LIMIT: usize = 64;
 
 const ROLE_LIMIT: usize = 32;
@@ -36,7 +37,7 @@ pub fn manifest_from(alloc: Global, bytes: &[u8]) -> Result<Manifest, ManifestFa
 {
     let value = object_from(alloc, bytes)?;
     let draft = draft_from(alloc, &value)?;
-    manifest_of(alloc, draft)
+    manifest_from_draft(alloc, draft)
 }
 
 fn object_from(alloc: Global, bytes: &[u8]) -> Result<Value, ManifestFault>
@@ -64,7 +65,7 @@ fn object_from(alloc: Global, bytes: &[u8]) -> Result<Value, ManifestFault>
     }
 }
 
-fn manifest_of(alloc: Global, draft: Draft) -> Result<Manifest, ManifestFault>
+fn manifest_from_draft(alloc: Global, draft: Draft) -> Result<Manifest, ManifestFault>
     ensures ok { IfOk result (λ _. whole_fault (manifest_draft draft) ≡ None) }
     ensures manifest { IfOk result (λ manifest. IsManifestOf (manifest_draft draft) manifest) }
     ensures fault { IfErr result (λ fault. fault ≢ ManifestFault.Memory
@@ -78,7 +79,7 @@ fn manifest_of(alloc: Global, draft: Draft) -> Result<Manifest, ManifestFault>
         return Err(ManifestFault::DoubleName(place));
     }
     let count = draft.permissions.len() as u8;
-    let roles = roles_of(alloc, draft.roles, count)?;
+    let roles = roles_from_drafts(alloc, draft.roles, count)?;
     if let Some(place) = second_default(&roles) {
         return Err(ManifestFault::TwoDefaults(place));
     }

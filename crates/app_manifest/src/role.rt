@@ -21,7 +21,7 @@ pub(crate) struct RoleDraft {
 }
 
 // The role of a draft, unless its list is longer than a number of permissions.
-fn role_of(draft: RoleDraft, count: u8) -> Option<Role>
+fn role_from(draft: RoleDraft, count: u8) -> Option<Role>
     requires { count ≤ 64 }
     ensures long { MatchOption result (count < length draft.list.items) (λ _. length draft.list.items ≤ count) }
     ensures role { IfSome result (λ role. IsRoleOf (role_draft draft) role) }
@@ -44,7 +44,7 @@ fn role_of(draft: RoleDraft, count: u8) -> Option<Role>
 }
 
 /// The roles of drafts, or the first whose list is longer than a number of permissions.
-pub(crate) fn roles_of(
+pub(crate) fn roles_from_drafts(
     alloc: Global,
     drafts: Vec<RoleDraft>,
     count: u8,
@@ -57,7 +57,7 @@ pub(crate) fn roles_of(
 {
     let mut roles = Vec::new(alloc);
     for draft in drafts {
-        let Some(role) = role_of(draft, count) else {
+        let Some(role) = role_from(draft, count) else {
             return Err(ManifestFault::LongSet(roles.len()));
         };
         roles.push(role)?;

@@ -17,10 +17,7 @@ const TITLE_LIMIT: usize = 200;
 
 const PERMISSION_NAME_LIMIT: usize = 64;
 
-pub(crate) fn title_from(
-    alloc: Global,
-    value: Option<&Value>,
-) -> Result<Option<Name>, AllocError>
+pub(crate) fn title_from(alloc: Global, value: Option<&Value>) -> Result<Option<Name>, AllocError>
     ensures { IfOk result (λ name. name ≡ title_of (option_map (λ v. view v.now) value.entry)) }
 {
     match title_text(value) {

@@ -3,7 +3,7 @@ use Rattle.std.proofs.lemmas.Iterator.Adapters.{YieldsList-from_vec}
 use Rattle.std.proofs.lemmas.Iterator.Consumers.{YieldsList-so_far, YieldsList-turn, YieldsList-end}
 use Rattle.app_manifest.specs.declared.fault.ManifestFault.TheVariants.{LongSet}
 use Rattle.app_manifest.proofs.Sets.{first_long, long_set_is, first_long_here, first_long_more, roles_more, unchanged}
-use Rattle.app_manifest.proofs.role.roles_of.Goals as goal
+use Rattle.app_manifest.proofs.role.roles_from_drafts.Goals as goal
 
 pub returns-in_default-clause-fault : goal.returns-in_default-clause-fault
 returns-in_default-clause-fault c = λ other.
@@ -19,9 +19,9 @@ returns-in_default-clause-fault c = λ other.
 
 pub loop-draft-preserved : goal.loop-draft-preserved
 loop-draft-preserved c = record {
-  short = first_long_more _ c.loop-draft.yielded c.in-Some.draft c.loop-draft.invariant.short c.in-Some-role_of.ensures.long;
-  roles = rw c.in_ok-push.ensures.items (roles_more c.loop-draft.yielded c.loop-draft.roles.items c.in-Some.draft c.in-Some-role_of.role c.loop-draft.invariant.roles c.in-Some-role_of.ensures.role);
-  count = rw c.in_ok-push.ensures.items (omega (arith, length-append c.loop-draft.roles.items (c.in-Some-role_of.role ∷ []), length-append c.loop-draft.yielded (c.in-Some.draft ∷ []), c.loop-draft.invariant.count));
+  short = first_long_more _ c.loop-draft.yielded c.in-Some.draft c.loop-draft.invariant.short c.in-Some-role_from.ensures.long;
+  roles = rw c.in_ok-push.ensures.items (roles_more c.loop-draft.yielded c.loop-draft.roles.items c.in-Some.draft c.in-Some-role_from.role c.loop-draft.invariant.roles c.in-Some-role_from.ensures.role);
+  count = rw c.in_ok-push.ensures.items (omega (arith, length-append c.loop-draft.roles.items (c.in-Some-role_from.role ∷ []), length-append c.loop-draft.yielded (c.in-Some.draft ∷ []), c.loop-draft.invariant.count));
 }
 
 pub returns-clause-ok : goal.returns-clause-ok

@@ -2,7 +2,7 @@ use Rattle.std.proofs.Common.{◌≡◌, None, Some, length, ap, ◌∙◌, rule
 use Rattle.app_manifest.specs.Checks.{too_many, double_name, long_set, second_that}
 use Rattle.app_manifest.specs.Stored.{manifest_draft}
 use Rattle.app_manifest.proofs.Sets.{second_default_is, last_fault}
-use Rattle.app_manifest.proofs.reading.manifest_of.Goals as goal
+use Rattle.app_manifest.proofs.reading.manifest_from_draft.Goals as goal
 
 pub returns-in-Some-second_default-clause-fault : goal.returns-in-Some-second_default-clause-fault
 returns-in-Some-second_default-clause-fault c = λ other.

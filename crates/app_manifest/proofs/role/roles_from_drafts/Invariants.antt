@@ -3,7 +3,7 @@ use Rattle.std.specs.List.{AllZip}
 use Rattle.app_manifest.specs.Places.{first_from}
 use Rattle.app_manifest.specs.Manifest.{IsRoleOf}
 use Rattle.app_manifest.specs.Stored.{role_draft}
-use Rattle.app_manifest.proofs.role.roles_of.Given as goal
+use Rattle.app_manifest.proofs.role.roles_from_drafts.Given as goal
 
 abbrev pub invariant-loop-draft : goal.invariant-loop-draft
 invariant-loop-draft l =
