@@ -1,5 +1,5 @@
 -- Forms of texts against one another.
-use Rattle.std.proofs.Common.{◌≡◌, ℕ, ◌≤◌, Bool, true, false, cond, leb, ◌↔◌, Option, Some, None, IsSome, IfSome, List, [], ◌∷◌, length, refl, sym, ap, ◌∙◌, arith}
+use Rattle.std.proofs.Common.{◌≡◌, ℕ, ◌≤◌, Bool, true, false, cond, leb, ◌↔◌, Option, Some, None, IsSome, IfSome, List, [], ◌∷◌, length, refl, ap, arith}
 use Rattle.std.specs.Cmp.{first_so, second_so}
 use Rattle.std.specs.List.{list_all, All}
 use Rattle.std.specs.Str.{IsUtf8}

@@ -1,4 +1,4 @@
-use Rattle.std.proofs.Common.{◌≡◌, ◌≤◌, None, length, rules, arith}
+use Rattle.std.proofs.Common.{◌≡◌, ◌≤◌, None, length, rules}
 use Rattle.app_manifest.specs.Upgrade.{lost_name}
 use Rattle.app_manifest.proofs.Kept.{still_fits}
 use Rattle.app_manifest.proofs.upgrading.upgrade.Goals as goal
