@@ -1,0 +1,8 @@
+use Rattle.std.proofs.Common.{◌≡◌, Some, take}
+use Rattle.serde_json.specs.View.{items_view}
+use Rattle.app_manifest.specs.Draft.{each_of, permission_of}
+use Rattle.app_manifest.proofs.fields.permissions_from.Given as goal
+
+abbrev pub invariant-loop-item : goal.invariant-loop-item
+invariant-loop-item l =
+    each_of permission_of (items_view (take l.item-index l.item-items)) ≡ Some l.permissions.items
