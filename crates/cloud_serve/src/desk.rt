@@ -21,7 +21,7 @@ pub trait Desk {
 }
 
 /// A desk that owns its state. No command is accepted yet, so its history is empty.
-#[derive(Debug, Drop)]
+#[derive(Drop)]
 pub struct SoloDesk {
     state: State,
 }

@@ -1,4 +1,15 @@
 pub mod Rows
+pub mod Nodes
 pub mod Derivation
+pub mod Known
+pub mod Parents
+pub mod Fresh
+pub mod Fitting
+pub mod Checked
+pub mod Keys
+pub mod Owning
 pub mod Verdict
 pub mod History
+pub mod Ways
+pub mod Revoking
+pub mod Region

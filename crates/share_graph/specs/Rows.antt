@@ -1,15 +1,15 @@
-use Rattle.std.specs.Prelude.{◌≡◌, ◌≢◌, ℕ, zero, suc, List, Option, Some, None, slice_get, Contains}
+use Rattle.std.specs.Prelude.{◌≡◌, ℕ, zero, suc, List, Option, Some, None, slice_get, true, false}
 use Rattle.host_base.specs.declared.ids.AccountId.{AccountId}
 use Rattle.host_base.specs.declared.ids.AppId.{AppId}
 use Rattle.host_base.specs.declared.ids.GrainId.{GrainId}
-use Rattle.host_base.specs.declared.digest.Digest.{Digest}
+use Rattle.host_base.specs.declared.ids.GrantId.{GrantId}
+use Rattle.host_base.specs.declared.ids.SavedId.{SavedId}
+use Rattle.share_graph.specs.declared.grants.Grant.{Grant}
 use Rattle.share_graph.specs.declared.rows.Account.{Account}
 use Rattle.share_graph.specs.declared.rows.App.{App}
 use Rattle.share_graph.specs.declared.rows.Grain.{Grain}
-use Rattle.share_graph.specs.declared.rows.Run.{Run}
-use Rattle.share_graph.specs.declared.rows.Session.{Session}
+use Rattle.share_graph.specs.declared.rows.Saved.{Saved}
 use Rattle.share_graph.specs.declared.state.Tables.{Tables}
-use Rattle.share_graph.specs.declared.state.State.{State}
 
 -- row n of a list, counted from 1
 abbrev pub row : {X : Type 0} → List X → ℕ → Option X
@@ -26,20 +26,24 @@ IsApp t p app = row t.apps p.0 ≡ Some app
 abbrev pub IsGrain : Tables → GrainId → Grain → Type 0
 IsGrain t n grain = row t.grains n.0 ≡ Some grain
 
--- a session whose key has the digest
-pub record IsSessionOf (s : State) (d : Digest) (session : Session) : Type 0 where
-  pub listed : Contains s.sessions session
-  pub digest : session.digest ≡ d
+abbrev pub IsGrant : Tables → GrantId → Grant → Type 0
+IsGrant t g grant = row t.grants g.0 ≡ Some grant
 
--- no session's key has the digest
-abbrev pub HasNoSession : State → Digest → Type 0
-HasNoSession s d = (session : Session) → Contains s.sessions session → session.digest ≢ d
+abbrev pub IsSaved : Tables → SavedId → Saved → Type 0
+IsSaved t v saved = row t.saved v.0 ≡ Some saved
 
--- a live run of the grain; none can be stopped yet
-pub record IsRunOf (s : State) (n : GrainId) (run : Run) : Type 0 where
-  pub listed : Contains s.runs run
-  pub grain : run.grain ≡ n
+-- the account is there and enabled
+abbrev pub IsEnabled : Tables → AccountId → Type 0
+IsEnabled t a = (account : Account) × IsAccount t a account × (account.enabled ≡ true)
 
--- the grain has no live run
-abbrev pub HasNoRun : State → GrainId → Type 0
-HasNoRun s n = (run : Run) → Contains s.runs run → run.grain ≢ n
+-- the account is there, enabled and an admin
+abbrev pub IsAdmin : Tables → AccountId → Type 0
+IsAdmin t a = (account : Account) × IsAccount t a account × (account.enabled ≡ true) × (account.admin ≡ true)
+
+-- the grain is there and not in the trash
+abbrev pub IsKept : Tables → GrainId → Type 0
+IsKept t n = (grain : Grain) × IsGrain t n grain × (grain.trashed ≡ false)
+
+-- the grain's application
+abbrev pub IsAppOf : Tables → GrainId → App → Type 0
+IsAppOf t n app = (grain : Grain) × IsGrain t n grain × IsApp t grain.app app

@@ -1,10 +1,11 @@
-ghost use Rattle.std.specs.Prelude.{◌≡◌, ◌↔◌, IsTrue, MatchOption};
+ghost use Rattle.std.specs.Prelude.{◌≡◌};
 ghost use Rattle.std.specs.Option.{option_copied};
-ghost use Rattle.share_graph.specs.Rows.{row, IsSessionOf, HasNoSession, IsRunOf, HasNoRun};
+ghost use Rattle.share_graph.specs.Rows.{row};
 
-use crate::rows::{Account, App, Grain, Run, Session};
-use crate::state::{State, Tables};
-use host_base::{AccountId, AppId, Digest, GrainId};
+use crate::grants::Grant;
+use crate::rows::{Account, App, Grain, Saved};
+use crate::state::Tables;
+use host_base::{AccountId, AppId, GrainId, GrantId, SavedId};
 
 // Row `num` of a list, counted from 1.
 fn row_at<T>(rows: &[T], num: u32) -> Option<&T>
@@ -37,32 +38,16 @@ pub fn grain(tables: &Tables, num: GrainId) -> Option<&Grain>
     row_at(tables.grains.as_slice(), num.0)
 }
 
-fn has_digest(session: &Session, digest: &Digest) -> bool
-    ensures { IsTrue result ↔ (session.now.digest ≡ digest.now) }
+/// The grant of a number.
+pub fn grant(tables: &Tables, num: GrantId) -> Option<&Grant>
+    ensures { option_copied result ≡ row tables.now.grants num.0 }
 {
-    session.digest == *digest
+    row_at(tables.grants.as_slice(), num.0)
 }
 
-/// The session whose key has the digest.
-pub fn by_session_key<'a>(state: &'a State, digest: &Digest) -> Option<&'a Session>
-    ensures { MatchOption result (HasNoSession state.now digest.now) (λ session. IsSessionOf state.now digest.now session.now) }
+/// The saved reference of a number.
+pub fn saved(tables: &Tables, num: SavedId) -> Option<&Saved>
+    ensures { option_copied result ≡ row tables.now.saved num.0 }
 {
-    for session in state.sessions.as_slice() {
-        if has_digest(session, digest) {
-            return Some(session);
-        }
-    }
-    None
-}
-
-/// The live run of a grain.
-pub fn live_run(state: &State, num: GrainId) -> Option<&Run>
-    ensures { MatchOption result (HasNoRun state.now num) (λ run. IsRunOf state.now num run.now) }
-{
-    for run in state.runs.as_slice() {
-        if run.grain == num {
-            return Some(run);
-        }
-    }
-    None
+    row_at(tables.saved.as_slice(), num.0)
 }

@@ -1,12 +1,35 @@
 // The tables of a server, its state, and the definitions of who holds what.
 #![tactic(auto)]
 
+pub mod check;
 pub mod facts;
+pub mod fault;
 pub mod finders;
+mod fitting;
+mod fresh;
+pub mod grants;
+pub mod keys;
+mod known;
+pub mod lists;
+mod parents;
 pub mod rows;
+pub mod sessions;
 pub mod state;
+mod ways;
 
+pub use check::check_tables;
 pub use facts::{Fact, Node};
-pub use finders::{account, app, by_session_key, grain, live_run};
-pub use rows::{Account, App, Grain, Run, Session};
-pub use state::{Accounts, Apps, Grains, Runs, Sessions, State, Tables};
+pub use fault::{GraphFault, Kind};
+pub use finders::{account, app, grain, grant, saved};
+pub use grants::{Giver, Grant, Need, Needs, Target};
+pub use keys::{
+    by_grant_token, by_login, by_run_token, by_saved_token, by_session_key, handle, live_run,
+};
+pub use lists::{Accounts, Apps, Grains, Grants, Handles, Runs, SavedReferences, Sessions};
+pub use rows::{Account, App, Grain, Saved};
+pub use sessions::{Handle, Root, Run, Session};
+pub use state::{State, Tables};
+pub use ways::{root_maker, shown_as};
+
+#[cfg(test)]
+mod tests;

@@ -1,41 +1,41 @@
-use host_base::{AccountId, AppId, Digest, GrainId, Name, Names, RunId, SessionId};
+use app_manifest::Manifest;
+use host_base::{AccountId, AppId, Digest, GrainId, GrantId, Name, SavedId};
 
-/// An account of the server.
-#[derive(Debug, Drop)]
+/// An account of the server, known by the digest of its login.
+#[derive(Drop)]
 pub struct Account {
     pub num: AccountId,
     pub handle: Name,
     pub name: Name,
+    pub login: Digest,
+    pub admin: bool,
+    pub enabled: bool,
 }
 
-/// An application, with the names of its permissions in their order.
-#[derive(Debug, Drop)]
+/// An application, as its manifest describes it.
+#[derive(Drop)]
 pub struct App {
     pub num: AppId,
-    pub permissions: Names,
+    pub manifest: Manifest,
 }
 
 /// A grain: one instance of an application, owned by one account.
-#[derive(Debug, Drop)]
+#[derive(Drop)]
 pub struct Grain {
     pub num: GrainId,
     pub app: AppId,
     pub owner: AccountId,
+    pub title: Name,
+    pub trashed: bool,
 }
 
-/// A session of an account on a grain, known by the digest of its key, for a tab of a browser.
-#[derive(Debug, Drop)]
-pub struct Session {
-    pub num: SessionId,
+/// A reference to a grant that a grain saved, known by the digest of its token.
+#[derive(Drop)]
+pub struct Saved {
+    pub num: SavedId,
+    pub holder: GrainId,
+    pub grant: GrantId,
+    pub label: Name,
     pub digest: Digest,
-    pub grain: GrainId,
-    pub account: AccountId,
-    pub tab: u64,
-}
-
-/// A run of a grain.
-#[derive(Debug, Drop)]
-pub struct Run {
-    pub num: RunId,
-    pub grain: GrainId,
+    pub dropped: bool,
 }

@@ -1,0 +1,7 @@
+pub mod Fits
+pub mod Least
+pub mod Walks
+pub mod WayEnds
+pub mod Marked
+pub mod RevokingLaw
+pub mod Outside

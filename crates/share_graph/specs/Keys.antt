@@ -1,0 +1,44 @@
+use Rattle.std.specs.Prelude.{◌≡◌, ℕ, Contains, List, Some, false}
+use Rattle.host_base.specs.declared.digest.Digest.{Digest}
+use Rattle.host_base.specs.declared.ids.GrainId.{GrainId}
+use Rattle.host_base.specs.declared.ids.RunId.{RunId}
+use Rattle.share_graph.specs.declared.grants.Grant.{Grant}
+use Rattle.share_graph.specs.declared.rows.Account.{Account}
+use Rattle.share_graph.specs.declared.rows.Saved.{Saved}
+use Rattle.share_graph.specs.declared.sessions.Handle.{Handle}
+use Rattle.share_graph.specs.declared.sessions.Run.{Run}
+use Rattle.share_graph.specs.declared.sessions.Session.{Session}
+
+-- one of the rows, of which this is so
+pub record IsOneOf {X : Type 0} (rows : List X) (P : X → Type 0) (row : X) : Type 0 where
+  pub listed : Contains rows row
+  pub is : P row
+
+-- none of the rows is so
+abbrev pub IsNoneOf : {X : Type 0} → List X → (X → Type 0) → Type 0
+IsNoneOf {X} rows P = (row : X) → Contains rows row → P row → ⊥
+
+-- the digest is that of the account's login, of the grant's token, of the saved reference's token
+abbrev pub HasLogin : Digest → Account → Type 0
+HasLogin d account = account.login ≡ d
+
+abbrev pub HasToken : Digest → Grant → Type 0
+HasToken d grant = grant.digest ≡ Some d
+
+abbrev pub HasReference : Digest → Saved → Type 0
+HasReference d saved = saved.digest ≡ d
+
+-- the digest is that of the session's key, of the run's token
+abbrev pub HasKey : Digest → Session → Type 0
+HasKey d session = session.digest ≡ d
+
+abbrev pub HasRunToken : Digest → Run → Type 0
+HasRunToken d run = run.digest ≡ d
+
+-- the run is one of the grain, and isn't stopped
+abbrev pub IsLiveRun : GrainId → Run → Type 0
+IsLiveRun n run = (run.grain ≡ n) × (run.stopped ≡ false)
+
+-- the handle is the run's, of that number
+abbrev pub IsHandleOf : RunId → ℕ → Handle → Type 0
+IsHandleOf r num handle = (handle.run ≡ r) × (handle.num ≡ num)

@@ -1,0 +1,202 @@
+ghost use Rattle.std.specs.Prelude.{◌≡◌, ◌≤◌, ◌↔◌, IsTrue, All, Some, None, true, length, MatchOption};
+ghost use Rattle.std.specs.List.{list_all};
+ghost use Rattle.app_manifest.specs.Checks.{double_name, second_that};
+ghost use Rattle.app_manifest.specs.Text.{is_permission_byte, is_permission_name};
+ghost use Rattle.perm_roles.specs.PermSet.{IsWithin};
+ghost use Rattle.perm_roles.specs.Roles.{IsListed};
+ghost use Rattle.share_graph.specs.Rows.{IsAppOf};
+ghost use Rattle.share_graph.specs.Fitting.{ManifestFits, SetFits, FitsManifest, AssignmentFits, HolderSetFits, NeedSetFits, SetsFit, TokenFits, SharesWell, IsReference};
+
+use crate::facts::Node;
+use crate::finders::{app, grain, grant as find_grant};
+use crate::grants::{Grant, Need, Target};
+use crate::rows::{App, Saved};
+use crate::state::Tables;
+use app_manifest::{Manifest, PermissionDef, double_name, second_default};
+use host_base::{Digest, GrainId, Name};
+use perm_roles::{Assignment, Base, PermSet, Role};
+
+fn permission_byte(byte: u8) -> bool
+    ensures { result ≡ is_permission_byte byte }
+{
+    byte.is_ascii_alphanumeric() || byte == b'-' || byte == b'_'
+}
+
+fn permission_bytes(text: &[u8]) -> bool
+    ensures { result ≡ list_all is_permission_byte text.now }
+{
+    text.iter().all(|byte| permission_byte(*byte))
+}
+
+fn permission_text(text: &[u8]) -> bool
+    ensures { result ≡ is_permission_name text.now }
+{
+    1 <= text.len() && text.len() <= 64 && permission_bytes(text)
+}
+
+fn permission_name(name: &Name) -> bool
+    ensures { result ≡ is_permission_name name.now }
+{
+    permission_text(name.as_str().as_bytes())
+}
+
+fn are_formed(permissions: &[PermissionDef]) -> bool
+    ensures { IsTrue result ↔ All (λ def. is_permission_name def.name ≡ true) permissions.now }
+{
+    permissions.iter().all(|def| permission_name(&def.name))
+}
+
+fn names_differ(permissions: &[PermissionDef]) -> bool
+    ensures { IsTrue result ↔ (double_name permissions.now ≡ None) }
+{
+    double_name(permissions).is_none()
+}
+
+fn is_within(set: &PermSet, permissions: usize) -> bool
+    ensures { IsTrue result ↔ IsWithin set.now permissions }
+{
+    match u8::try_from(permissions) {
+        Ok(count) => set.fits(count),
+        Err(_) => set.fits(64),
+    }
+}
+
+fn roles_fit(roles: &[Role], permissions: usize) -> bool
+    ensures { IsTrue result ↔ All (λ role. IsWithin role.perms permissions) roles.now }
+{
+    roles.iter().all(|role| is_within(&role.perms, permissions))
+}
+
+fn has_one_default(roles: &[Role]) -> bool
+    ensures { IsTrue result ↔ (second_that (λ role. role.default) roles.now ≡ None) }
+{
+    second_default(roles).is_none()
+}
+
+/// Whether a manifest is within its limits, with names and sets that fit.
+pub fn manifest_fits(manifest: &Manifest) -> bool
+    ensures { IsTrue result ↔ ManifestFits manifest.now }
+{
+    let permissions = manifest.permissions.as_slice();
+    let roles = manifest.roles.as_slice();
+    permissions.len() <= 64
+        && roles.len() <= 32
+        && manifest.match_requests.as_slice().len() <= 16
+        && are_formed(permissions)
+        && names_differ(permissions)
+        && roles_fit(roles, permissions.len())
+        && has_one_default(roles)
+}
+
+/// The application of a grain.
+pub fn app_of(tables: &Tables, num: GrainId) -> Option<&App>
+    ensures { MatchOption result ((app : App) → IsAppOf tables.now num app → ⊥) (λ app. IsAppOf tables.now num app.now) }
+{
+    app(tables, grain(tables, num)?.app)
+}
+
+fn is_within_manifest(set: &PermSet, manifest: &Manifest) -> bool
+    ensures { IsTrue result ↔ IsWithin set.now (length manifest.now.permissions) }
+{
+    is_within(set, manifest.permissions.as_slice().len())
+}
+
+fn set_fits(tables: &Tables, num: GrainId, set: &PermSet) -> bool
+    ensures { IsTrue result ↔ SetFits tables.now num set.now }
+{
+    match app_of(tables, num) {
+        None => false,
+        Some(app) => is_within_manifest(set, &app.manifest),
+    }
+}
+
+fn is_listed(roles: &[Role], base: Base) -> bool
+    ensures { IsTrue result ↔ IsListed roles.now base }
+{
+    match base {
+        Base::Role(number) => usize::from(number) < roles.len(),
+        Base::NoRole => true,
+        Base::AllAccess => true,
+    }
+}
+
+fn fits_manifest(manifest: &Manifest, assignment: &Assignment) -> bool
+    ensures { IsTrue result ↔ FitsManifest manifest.now assignment.now }
+{
+    let permissions = manifest.permissions.as_slice().len();
+    is_within(&assignment.add, permissions)
+        && is_within(&assignment.remove, permissions)
+        && is_listed(manifest.roles.as_slice(), assignment.base)
+}
+
+fn assignment_fits(tables: &Tables, grant: &Grant) -> bool
+    ensures { IsTrue result ↔ AssignmentFits tables.now grant.now }
+{
+    match app_of(tables, grant.grain) {
+        None => false,
+        Some(app) => fits_manifest(&app.manifest, &grant.assignment),
+    }
+}
+
+fn holder_set_fits(tables: &Tables, holder: Node, set: &PermSet) -> bool
+    ensures { IsTrue result ↔ HolderSetFits tables.now holder set.now }
+{
+    match holder {
+        Node::User(num, _) => set_fits(tables, num, set),
+        Node::Grant(num) => match find_grant(tables, num) {
+            None => false,
+            Some(grant) => set_fits(tables, grant.grain, set),
+        },
+    }
+}
+
+fn need_set_fits(tables: &Tables, need: &Need) -> bool
+    ensures { IsTrue result ↔ NeedSetFits tables.now need.now }
+{
+    match need {
+        Need::PermissionsHeld { holder, set } => holder_set_fits(tables, *holder, set),
+        Need::TokenValid(_) => true,
+        Need::UserIsAdmin(_) => true,
+    }
+}
+
+fn need_sets_fit(tables: &Tables, needs: &[Need]) -> bool
+    ensures { IsTrue result ↔ All (NeedSetFits tables.now) needs.now }
+{
+    needs.iter().all(|need| need_set_fits(tables, need))
+}
+
+/// Whether a grant's assignment and the sets of its needs fit their applications.
+pub fn sets_fit(tables: &Tables, grant: &Grant) -> bool
+    ensures { IsTrue result ↔ SetsFit tables.now grant.now }
+{
+    assignment_fits(tables, grant) && need_sets_fit(tables, grant.needs.as_slice())
+}
+
+fn token_fits(target: Target, digest: &Option<Digest>) -> bool
+    ensures { IsTrue result ↔ TokenFits target digest.now }
+{
+    match target {
+        Target::Bearer { .. } => digest.is_some(),
+        Target::Claim(_) => digest.is_some(),
+        Target::User(_) => digest.is_none(),
+        Target::Grain(_) => digest.is_none(),
+    }
+}
+
+/// Whether a grant has a token where it has to, and at most eight needs.
+pub fn shares_well(grant: &Grant) -> bool
+    ensures { IsTrue result ↔ SharesWell grant.now }
+{
+    token_fits(grant.target, &grant.digest) && grant.needs.as_slice().len() <= 8
+}
+
+/// Whether a saved reference is to a grant that its holder claimed.
+pub fn is_reference(tables: &Tables, saved: &Saved) -> bool
+    ensures { IsTrue result ↔ IsReference tables.now saved.now }
+{
+    match find_grant(tables, saved.grant) {
+        None => false,
+        Some(grant) => grant.target == Target::Grain(saved.holder),
+    }
+}

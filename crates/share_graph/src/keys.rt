@@ -1,0 +1,134 @@
+ghost use Rattle.std.specs.Prelude.{◌≡◌, ◌↔◌, IsTrue, MatchOption};
+ghost use Rattle.share_graph.specs.Keys.{IsOneOf, IsNoneOf, HasLogin, HasToken, HasReference, HasKey, HasRunToken, IsLiveRun, IsHandleOf};
+
+use crate::grants::Grant;
+use crate::rows::{Account, Saved};
+use crate::sessions::{Handle, Run, Session};
+use crate::state::{State, Tables};
+use host_base::{Digest, GrainId, RunId};
+
+fn has_login(account: &Account, digest: &Digest) -> bool
+    ensures { IsTrue result ↔ HasLogin digest.now account.now }
+{
+    account.login == *digest
+}
+
+fn has_token(grant: &Grant, digest: &Digest) -> bool
+    ensures { IsTrue result ↔ HasToken digest.now grant.now }
+{
+    grant.digest == Some(*digest)
+}
+
+fn has_reference(saved: &Saved, digest: &Digest) -> bool
+    ensures { IsTrue result ↔ HasReference digest.now saved.now }
+{
+    saved.digest == *digest
+}
+
+fn has_key(session: &Session, digest: &Digest) -> bool
+    ensures { IsTrue result ↔ HasKey digest.now session.now }
+{
+    session.digest == *digest
+}
+
+fn has_run_token(run: &Run, digest: &Digest) -> bool
+    ensures { IsTrue result ↔ HasRunToken digest.now run.now }
+{
+    run.digest == *digest
+}
+
+fn is_live_run(run: &Run, num: GrainId) -> bool
+    ensures { IsTrue result ↔ IsLiveRun num run.now }
+{
+    run.grain == num && !run.stopped
+}
+
+fn is_handle_of(handle: &Handle, run: RunId, num: u32) -> bool
+    ensures { IsTrue result ↔ IsHandleOf run num handle.now }
+{
+    handle.run == run && handle.num == num
+}
+
+/// The account whose login has the digest.
+pub fn by_login<'a>(tables: &'a Tables, digest: &Digest) -> Option<&'a Account>
+    ensures { MatchOption result (IsNoneOf tables.now.accounts (HasLogin digest.now))
+        (λ account. IsOneOf tables.now.accounts (HasLogin digest.now) account.now) }
+{
+    tables
+        .accounts
+        .as_slice()
+        .iter()
+        .find(|account| has_login(account, digest))
+}
+
+/// The grant whose token has the digest.
+pub fn by_grant_token<'a>(tables: &'a Tables, digest: &Digest) -> Option<&'a Grant>
+    ensures { MatchOption result (IsNoneOf tables.now.grants (HasToken digest.now))
+        (λ grant. IsOneOf tables.now.grants (HasToken digest.now) grant.now) }
+{
+    tables
+        .grants
+        .as_slice()
+        .iter()
+        .find(|grant| has_token(grant, digest))
+}
+
+/// The saved reference whose token has the digest.
+pub fn by_saved_token<'a>(tables: &'a Tables, digest: &Digest) -> Option<&'a Saved>
+    ensures { MatchOption result (IsNoneOf tables.now.saved (HasReference digest.now))
+        (λ saved. IsOneOf tables.now.saved (HasReference digest.now) saved.now) }
+{
+    tables
+        .saved
+        .as_slice()
+        .iter()
+        .find(|saved| has_reference(saved, digest))
+}
+
+/// The session whose key has the digest.
+pub fn by_session_key<'a>(state: &'a State, digest: &Digest) -> Option<&'a Session>
+    ensures { MatchOption result (IsNoneOf state.now.sessions (HasKey digest.now))
+        (λ session. IsOneOf state.now.sessions (HasKey digest.now) session.now) }
+{
+    state
+        .sessions
+        .as_slice()
+        .iter()
+        .find(|session| has_key(session, digest))
+}
+
+/// The run whose token has the digest, whether it is stopped or not.
+pub fn by_run_token<'a>(state: &'a State, digest: &Digest) -> Option<&'a Run>
+    ensures { MatchOption result (IsNoneOf state.now.runs (HasRunToken digest.now))
+        (λ run. IsOneOf state.now.runs (HasRunToken digest.now) run.now) }
+{
+    state
+        .runs
+        .as_slice()
+        .iter()
+        .find(|run| has_run_token(run, digest))
+}
+
+/// The live run of a grain.
+pub fn live_run(state: &State, num: GrainId) -> Option<&Run>
+    ensures { MatchOption result (IsNoneOf state.now.runs (IsLiveRun num))
+        (λ run. IsOneOf state.now.runs (IsLiveRun num) run.now) }
+{
+    state
+        .runs
+        .as_slice()
+        .iter()
+        .find(|run| is_live_run(run, num))
+}
+
+/// The handle of a run, by its number there.
+pub fn handle(state: &State, run: RunId, num: u32) -> Option<&Handle>
+    ensures { MatchOption result (IsNoneOf state.now.handles (IsHandleOf run num))
+        (λ handle. IsOneOf state.now.handles (IsHandleOf run num) handle.now) }
+{
+    state
+        .handles
+        .as_slice()
+        .iter()
+        .find(|handle| is_handle_of(handle, run, num))
+}

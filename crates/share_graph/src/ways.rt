@@ -1,0 +1,62 @@
+ghost use Rattle.std.specs.Prelude.{◌≡◌};
+ghost use Rattle.share_graph.specs.Checked.{IsChecked};
+ghost use Rattle.share_graph.specs.Known.{HasGrant};
+ghost use Rattle.share_graph.specs.Ways.{is_for_sharing, IsRootMaker, IsShownAs, IsWayTo};
+
+use crate::finders::grant as find_grant;
+use crate::grants::{Giver, Target};
+use crate::state::Tables;
+use host_base::{AccountId, GrantId};
+
+fn is_for_sharing(target: Target) -> bool
+    ensures { result ≡ is_for_sharing target }
+{
+    match target {
+        Target::Bearer { for_sharing } => for_sharing,
+        Target::User(_) => false,
+        Target::Claim(_) => false,
+        Target::Grain(_) => false,
+    }
+}
+
+// The account at the end of a grant's way, and whether some grant on it is marked for sharing.
+fn way_end(tables: &Tables, num: GrantId) -> (AccountId, bool)
+    requires checked { IsChecked tables.now }
+    requires there { HasGrant tables.now num }
+    ensures { IsWayTo tables.now num result.0 result.1 }
+{
+    let mut at = num;
+    let mut shared = false;
+    loop {
+        match find_grant(tables, at) {
+            None => unreachable!(),
+            Some(grant) => {
+                shared |= is_for_sharing(grant.target);
+                match grant.giver {
+                    Giver::Account(account) => return (account, shared),
+                    Giver::Site { by, .. } => return (by, shared),
+                    Giver::Grant(parent) => at = parent,
+                }
+            }
+        }
+    }
+}
+
+/// The account that a grant comes from in the end.
+pub fn root_maker(tables: &Tables, num: GrantId) -> AccountId
+    requires checked { IsChecked tables.now }
+    requires there { HasGrant tables.now num }
+    ensures { IsRootMaker tables.now num result }
+{
+    way_end(tables, num).0
+}
+
+/// As whom the bearer of a grant is shown: nobody where some grant on the way is marked for sharing, else its root maker.
+pub fn shown_as(tables: &Tables, num: GrantId) -> Option<AccountId>
+    requires checked { IsChecked tables.now }
+    requires there { HasGrant tables.now num }
+    ensures { IsShownAs tables.now num result }
+{
+    let (account, shared) = way_end(tables, num);
+    if shared { None } else { Some(account) }
+}
