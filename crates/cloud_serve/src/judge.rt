@@ -3,7 +3,8 @@ ghost use Rattle.share_graph.specs.declared.facts.Node.TheVariants as node;
 ghost use Rattle.share_graph.specs.declared.facts.Fact.TheVariants.{Open};
 ghost use Rattle.share_graph.specs.declared.sessions.Root.TheVariants as root;
 ghost use Rattle.share_graph.specs.Keys.{IsOneOf, IsLiveRun};
-ghost use Rattle.share_graph.specs.Owning.{HoldsByOwning, IsTrashed, IsDisabled};
+ghost use Rattle.share_graph.specs.Owning.{HoldsByOwning};
+ghost use Rattle.share_graph.specs.Rows.{IsTrashed, IsDisabled};
 ghost use Rattle.share_graph.specs.Verdict.{IsVerdict, IsSessionVerdict, IsFoundVerdict, IsOpenVerdict, IsReason, IsPermit};
 ghost use Rattle.cloud_serve.specs.Judging.{IsOwnership};
 

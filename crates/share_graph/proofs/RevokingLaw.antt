@@ -5,8 +5,9 @@ use Rattle.share_graph.specs.declared.grants.Grant.{Grant}
 use Rattle.share_graph.specs.declared.state.Tables.{Tables}
 use Rattle.share_graph.specs.declared.facts.Fact.{Fact}
 use Rattle.share_graph.specs.declared.facts.Node.{Node}
-use Rattle.share_graph.specs.Revoking.{mark_row, revoke_in}
-use Rattle.share_graph.proofs.Marked.{mark_row_other, mark_row_same}
+use Rattle.share_graph.specs.Changing.{change_row}
+use Rattle.share_graph.specs.Revoking.{revoked, revoke_in, TakesExactly}
+use Rattle.share_graph.proofs.Marked.{change_row_other, mark_row_same}
 use Rattle.share_graph.specs.Rows.{row}
 use Rattle.share_graph.specs.Derivation.{IsLive, Derivation, own, via, site, Uses, Holds, HoldsWithout}
 
@@ -65,11 +66,10 @@ module _ (t : Tables) (gs : List Grant) (g : GrantId)
       (λ n c at asked a. since (needs n c at asked a) (λ used. fresh (inr (n, c, at, asked, a, used))))
 
 -- The law of revoking: what holds after it is exactly what had a derivation without the grant.
-pub revoking_law : (t : Tables) (g : GrantId) → 0 < g.0 → (at : Node) (fact : Fact)
-    → Holds (revoke_in t g) at fact ↔ HoldsWithout t g at fact
+pub revoking_law : (t : Tables) (g : GrantId) → 0 < g.0 → TakesExactly t g (revoke_in t g)
 revoking_law t g first at fact =
-    let gs : List Grant = mark_row t.grants g.0 in
+    let gs : List Grant = change_row revoked t.grants g.0 in
     let others : (h : GrantId) → h ≢ g → row gs h.0 ≡ row t.grants h.0 =
-    λ h ne. mark_row_other t.grants g.0 h.0 (λ e. ne (ap (λ n. numbered n) e)) in
+    λ h ne. change_row_other revoked t.grants g.0 h.0 (λ e. ne (ap (λ n. numbered n) e)) in
     let gone : (grant : Grant) → row gs g.0 ≡ Some grant → grant.revoked ≡ true = λ grant is. mark_row_same t.grants g.0 grant first is in
     (λ d. before t gs g others gone d, λ w. since t gs g others gone w.0 w.1)

@@ -1,13 +1,62 @@
-use Rattle.std.specs.Prelude.{List, [], ◌∷◌}
+-- The history of a server: what accepted commands did, and the state after them.
+use Rattle.std.specs.Prelude.{ℕ, Bool, true, false, ◌&&◌, ◌==◌, not, nat_lt, List, [], ◌∷◌, ◌++◌, count_by, if◌then◌else◌}
+use Rattle.share_graph.specs.declared.event.Event.{Event}
+use Rattle.share_graph.specs.declared.event.Event.TheVariants as event
+use Rattle.share_graph.specs.declared.sessions.Root.{Root}
+use Rattle.share_graph.specs.declared.sessions.Root.TheVariants as root
+use Rattle.share_graph.specs.declared.sessions.Session.{Session}
 use Rattle.share_graph.specs.declared.state.State.{State}
+use Rattle.share_graph.specs.declared.state.Tables.{Tables}
+use Rattle.share_graph.specs.Changing.{change_row}
+use Rattle.share_graph.specs.Revoking.{revoke_in}
 
--- An accepted command. No command exists yet, so there is no event.
-abbrev pub Event : Type 0
-Event = ⊥
+abbrev pub is_same_root : Root → Root → Bool
+is_same_root (root.Account a) (root.Account b) = a.0 == b.0
+is_same_root (root.Grant g) (root.Grant h) = g.0 == h.0
+is_same_root _ _ = false
+
+-- the session is open, and has that root
+abbrev pub is_open_of : Root → Session → Bool
+is_open_of root session = not session.closed && is_same_root root session.root
+
+abbrev pub closed : Session → Session
+closed session = record session { closed = true }
+
+-- the first open session of the root is closed
+abbrev pub close_first : Root → List Session → List Session
+close_first root [] = []
+close_first root (session ∷ sessions) = if is_open_of root session then closed session ∷ sessions else session ∷ close_first root sessions
+
+-- a session is opened; where its root then has more than 32 open ones, the first of them is closed
+abbrev pub opened : List Session → Session → List Session
+opened sessions session =
+    let all = sessions ++ session ∷ [] in
+    if nat_lt 32 (count_by (is_open_of session.root) all) then close_first session.root all else all
+
+-- the tables after an event; an event that isn't named changes no row of them
+abbrev pub tables_after : Tables → Event → Tables
+tables_after t (event.AccountAdded account) = record t { accounts = t.accounts ++ account ∷ [] }
+tables_after t (event.AppAdded app) = record t { apps = t.apps ++ app ∷ [] }
+tables_after t (event.GrainAdded grain) = record t { grains = t.grains ++ grain ∷ [] }
+tables_after t (event.GrantAdded grant) = record t { grants = t.grants ++ grant ∷ [] }
+tables_after t (event.SavedAdded saved) = record t { saved = t.saved ++ saved ∷ [] }
+tables_after t (event.AdminSet a on) = record t { accounts = change_row (λ account. record account { admin = on }) t.accounts a.0 }
+tables_after t (event.EnabledSet a on) = record t { accounts = change_row (λ account. record account { enabled = on }) t.accounts a.0 }
+tables_after t (event.TrashedSet n on) = record t { grains = change_row (λ grain. record grain { trashed = on }) t.grains n.0 }
+tables_after t (event.GrantRevoked g) = revoke_in t g
+tables_after t (event.Claimed grant handle) = record t { grants = t.grants ++ grant ∷ [] }
+tables_after t (event.SavedDropped v) = record t { saved = change_row (λ saved. record saved { dropped = true }) t.saved v.0 }
+tables_after t _ = t
 
 -- the state after an event
 abbrev pub after : State → Event → State
-after s event = absurd event
+after s (event.RunStarted run) = record s { runs = s.runs ++ run ∷ [] }
+after s (event.RunStopped r) = record s { runs = change_row (λ run. record run { stopped = true }) s.runs r.0 }
+after s (event.SessionOpened session) = record s { sessions = opened s.sessions session }
+after s (event.SessionClosed n) = record s { sessions = change_row closed s.sessions n.0 }
+after s (event.HandleMade handle) = record s { handles = s.handles ++ handle ∷ [] }
+after s (event.Claimed grant handle) = record s { tables = tables_after s.tables (event.Claimed grant handle); handles = s.handles ++ handle ∷ [] }
+after s other = record s { tables = tables_after s.tables other }
 
 -- the state after a list of events
 abbrev pub replay : State → List Event → State

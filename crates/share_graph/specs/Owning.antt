@@ -1,14 +1,11 @@
-use Rattle.std.specs.Prelude.{◌≡◌, true, false}
-use Rattle.host_base.specs.declared.ids.AccountId.{AccountId}
+use Rattle.std.specs.Prelude.{◌≡◌}
 use Rattle.host_base.specs.declared.ids.GrainId.{GrainId}
 use Rattle.share_graph.specs.declared.facts.Fact.{Fact}
 use Rattle.share_graph.specs.declared.facts.Node.{Node}
 use Rattle.share_graph.specs.declared.facts.Node.TheVariants as node
-use Rattle.share_graph.specs.declared.rows.Account.{Account}
 use Rattle.share_graph.specs.declared.rows.App.{App}
 use Rattle.share_graph.specs.declared.rows.Grain.{Grain}
 use Rattle.share_graph.specs.declared.state.Tables.{Tables}
-use Rattle.share_graph.specs.Rows.{IsAccount, IsGrain}
 use Rattle.share_graph.specs.Derivation.{Owns, IsFactOf}
 
 -- The node holds the fact by owning alone: it is the owner of a grain, and the fact is one of the grain's application.
@@ -20,11 +17,3 @@ pub record HoldsByOwning (t : Tables) (at : Node) (fact : Fact) : Type 0 where
   pub owns : Owns t num grain app
   pub at_is : at ≡ node.User num grain.owner
   pub fact_is : IsFactOf app fact
-
--- the grain is there and in the trash
-abbrev pub IsTrashed : Tables → GrainId → Type 0
-IsTrashed t n = (grain : Grain) × IsGrain t n grain × (grain.trashed ≡ true)
-
--- the account is there and disabled
-abbrev pub IsDisabled : Tables → AccountId → Type 0
-IsDisabled t a = (account : Account) × IsAccount t a account × (account.enabled ≡ false)

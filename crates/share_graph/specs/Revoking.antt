@@ -1,19 +1,20 @@
--- The tables after a grant was revoked.
-use Rattle.std.specs.Prelude.{ℕ, zero, suc, List, [], ◌∷◌, true}
+-- The tables after a grant was revoked, and the law of revoking.
+use Rattle.std.specs.Prelude.{◌↔◌, true}
 use Rattle.host_base.specs.declared.ids.GrantId.{GrantId}
+use Rattle.share_graph.specs.declared.facts.Fact.{Fact}
+use Rattle.share_graph.specs.declared.facts.Node.{Node}
 use Rattle.share_graph.specs.declared.grants.Grant.{Grant}
 use Rattle.share_graph.specs.declared.state.Tables.{Tables}
+use Rattle.share_graph.specs.Changing.{change_row}
+use Rattle.share_graph.specs.Derivation.{Holds, HoldsWithout}
 
--- the row at a place, from 0, is marked as revoked
-abbrev pub mark : List Grant → ℕ → List Grant
-mark [] i = []
-mark (grant ∷ grants) zero = record grant { revoked = true } ∷ grants
-mark (grant ∷ grants) (suc i) = grant ∷ mark grants i
+abbrev pub revoked : Grant → Grant
+revoked grant = record grant { revoked = true }
 
--- row n, from 1, is marked as revoked
-abbrev pub mark_row : List Grant → ℕ → List Grant
-mark_row grants zero = grants
-mark_row grants (suc i) = mark grants i
-
+-- the grant's row is marked as revoked
 abbrev pub revoke_in : Tables → GrantId → Tables
-revoke_in t g = record t { grants = mark_row t.grants g.0 }
+revoke_in t g = record t { grants = change_row revoked t.grants g.0 }
+
+-- THE LAW OF REVOKING. A fact holds afterwards exactly where it had a derivation before that doesn't use the grant.
+abbrev pub TakesExactly : Tables → GrantId → Tables → Type 0
+TakesExactly t g after = (at : Node) (fact : Fact) → Holds after at fact ↔ HoldsWithout t g at fact

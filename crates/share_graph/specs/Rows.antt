@@ -47,3 +47,11 @@ IsKept t n = (grain : Grain) × IsGrain t n grain × (grain.trashed ≡ false)
 -- the grain's application
 abbrev pub IsAppOf : Tables → GrainId → App → Type 0
 IsAppOf t n app = (grain : Grain) × IsGrain t n grain × IsApp t grain.app app
+
+-- the account is there and disabled
+abbrev pub IsDisabled : Tables → AccountId → Type 0
+IsDisabled t a = (account : Account) × IsAccount t a account × (account.enabled ≡ false)
+
+-- the grain is there and in the trash
+abbrev pub IsTrashed : Tables → GrainId → Type 0
+IsTrashed t n = (grain : Grain) × IsGrain t n grain × (grain.trashed ≡ true)

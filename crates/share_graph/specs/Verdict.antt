@@ -25,8 +25,8 @@ use Rattle.share_graph.specs.declared.sessions.Session.{Session}
 use Rattle.share_graph.specs.declared.state.Tables.{Tables}
 use Rattle.share_graph.specs.declared.state.State.{State}
 use Rattle.share_graph.specs.Keys.{IsOneOf, IsNoneOf, HasKey, IsLiveRun}
-use Rattle.share_graph.specs.Owning.{HoldsByOwning, IsTrashed, IsDisabled}
-use Rattle.share_graph.specs.Rows.{IsAccount, IsApp, IsGrain}
+use Rattle.share_graph.specs.Owning.{HoldsByOwning}
+use Rattle.share_graph.specs.Rows.{IsAccount, IsApp, IsGrain, IsTrashed, IsDisabled}
 
 -- the node behind a session: its account on its grain, or its grant
 abbrev pub node_behind : GrainId → Root → Node

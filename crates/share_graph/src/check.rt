@@ -1,5 +1,6 @@
-ghost use Rattle.std.specs.Prelude.{◌≡◌, ◌≤◌, ◌<◌, ◌↔◌, IsTrue, MatchOption, MatchResult, length};
+ghost use Rattle.std.specs.Prelude.{◌≡◌, ◌≤◌, ◌<◌, ◌↔◌, IsTrue, MatchOption, MatchResult, OnOk, length};
 ghost use Rattle.share_graph.specs.Checked.{HandleFits, IsSoundAccount, IsSoundApp, IsSoundGrain, IsSoundGrant, IsSoundSaved, AccountHas, AppHas, GrainHas, GrantHas, SavedHas, AllSound, FirstHas, IsChecked, HasFault};
+ghost use Rattle.share_graph.specs.Coherent.{IsCoherent};
 
 use crate::fault::{GraphFault, Kind};
 use crate::fitting::{is_reference, manifest_fits, sets_fit, shares_well};
@@ -157,8 +158,10 @@ fn check_saved(tables: &Tables) -> Result<(), GraphFault>
 }
 
 /// The first fault of tables: by kind of row, then by number, then in the order of the faults.
+#[tactic(auto, using(crate::proofs::Coherence::coherent))]
 pub fn check_tables(tables: &Tables) -> Result<(), GraphFault>
-    ensures { MatchResult result (λ _. IsChecked tables.now) (HasFault tables.now) }
+    ensures first { MatchResult result (λ _. IsChecked tables.now) (HasFault tables.now) }
+    ensures coherent { OnOk result (IsCoherent tables.now) }
 {
     check_accounts(tables)?;
     check_apps(tables)?;

@@ -8,7 +8,7 @@ pub enum Fact {
 }
 
 /// Who can hold facts: an account on a grain, or a grant.
-#[derive(Clone, Copy, Debug, PartialEq, Eq)]
+#[derive(Clone, Copy, Debug, PartialEq, Eq, PartialOrd, Ord)]
 pub enum Node {
     User(GrainId, AccountId),
     Grant(GrantId),

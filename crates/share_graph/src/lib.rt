@@ -2,6 +2,8 @@
 #![tactic(auto)]
 
 pub mod check;
+pub mod desk;
+pub mod event;
 pub mod facts;
 pub mod fault;
 pub mod finders;
@@ -18,6 +20,8 @@ pub mod state;
 mod ways;
 
 pub use check::check_tables;
+pub use desk::{Caller, DeskFault, Made, Offer, Outcome, Readiness, Refusal};
+pub use event::Event;
 pub use facts::{Fact, Node};
 pub use fault::{GraphFault, Kind};
 pub use finders::{account, app, grain, grant, saved};

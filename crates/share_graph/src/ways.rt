@@ -1,5 +1,5 @@
 ghost use Rattle.std.specs.Prelude.{◌≡◌};
-ghost use Rattle.share_graph.specs.Checked.{IsChecked};
+ghost use Rattle.share_graph.specs.Coherent.{IsCoherent};
 ghost use Rattle.share_graph.specs.Known.{HasGrant};
 ghost use Rattle.share_graph.specs.Ways.{is_for_sharing, IsRootMaker, IsShownAs, IsWayTo};
 
@@ -21,7 +21,7 @@ fn is_for_sharing(target: Target) -> bool
 
 // The account at the end of a grant's way, and whether some grant on it is marked for sharing.
 fn way_end(tables: &Tables, num: GrantId) -> (AccountId, bool)
-    requires checked { IsChecked tables.now }
+    requires coherent { IsCoherent tables.now }
     requires there { HasGrant tables.now num }
     ensures { IsWayTo tables.now num result.0 result.1 }
 {
@@ -44,7 +44,7 @@ fn way_end(tables: &Tables, num: GrantId) -> (AccountId, bool)
 
 /// The account that a grant comes from in the end.
 pub fn root_maker(tables: &Tables, num: GrantId) -> AccountId
-    requires checked { IsChecked tables.now }
+    requires coherent { IsCoherent tables.now }
     requires there { HasGrant tables.now num }
     ensures { IsRootMaker tables.now num result }
 {
@@ -53,7 +53,7 @@ pub fn root_maker(tables: &Tables, num: GrantId) -> AccountId
 
 /// As whom the bearer of a grant is shown: nobody where some grant on the way is marked for sharing, else its root maker.
 pub fn shown_as(tables: &Tables, num: GrantId) -> Option<AccountId>
-    requires checked { IsChecked tables.now }
+    requires coherent { IsCoherent tables.now }
     requires there { HasGrant tables.now num }
     ensures { IsShownAs tables.now num result }
 {

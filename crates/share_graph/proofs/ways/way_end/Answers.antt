@@ -14,11 +14,11 @@ returns-in-Site c =
 
 pub loop-grant-smaller : goal.loop-grant-smaller
 loop-grant-smaller c =
-    parent_is_earlier c.args.tables.now c.requires.checked c.loop-grant.at c.in-Grant.parent c.in-Some.grant.now (sym c.in-Some.ensures) c.in-Grant.is
+    parent_is_earlier c.args.tables.now c.requires.coherent c.loop-grant.at c.in-Grant.parent c.in-Some.grant.now (sym c.in-Some.ensures) c.in-Grant.is
 
 pub loop-grant-preserved : goal.loop-grant-preserved
 loop-grant-preserved c = (
-  parent_is_there c.args.tables.now c.requires.checked c.loop-grant.at c.in-Grant.parent c.in-Some.grant.now (sym c.in-Some.ensures) c.in-Grant.is,
+  parent_is_there c.args.tables.now c.requires.coherent c.loop-grant.at c.in-Grant.parent c.in-Some.grant.now (sym c.in-Some.ensures) c.in-Grant.is,
   one_step c.args.tables.now c.args.num c.loop-grant.at c.in-Grant.parent c.in-Some.grant.now c.loop-grant.shared c.is_for_sharing-shared.result
       (sym c.in-Some.ensures) c.in-Grant.is c.is_for_sharing-shared.ensures c.loop-grant.invariant.1,
 )

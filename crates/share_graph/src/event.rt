@@ -1,0 +1,27 @@
+use crate::grants::Grant;
+use crate::rows::{Account, App, Grain, Saved};
+use crate::sessions::{Handle, Run, Session};
+use host_base::{AccountId, GrainId, GrantId, RunId, SavedId, SessionId};
+
+/// What an accepted command does: it adds a whole row, or sets one value of the row of a number.
+#[derive(Drop)]
+pub enum Event {
+    AccountAdded(Account),
+    AppAdded(App),
+    GrainAdded(Grain),
+    GrantAdded(Grant),
+    SavedAdded(Saved),
+    AdminSet(AccountId, bool),
+    EnabledSet(AccountId, bool),
+    TrashedSet(GrainId, bool),
+    GrantRevoked(GrantId),
+    /// A grain claimed a grant: what it holds from then on, and the handle to that.
+    Claimed(Grant, Handle),
+    SavedDropped(SavedId),
+    RunStarted(Run),
+    RunStopped(RunId),
+    /// Where its root has 32 open sessions already, the one of the smallest number is closed.
+    SessionOpened(Session),
+    SessionClosed(SessionId),
+    HandleMade(Handle),
+}
