@@ -2,7 +2,8 @@ use Rattle.std.specs.Prelude.{◌≡◌, ℕ, ◌≤◌, ◌++◌, List, length}
 use Rattle.host_base.specs.declared.key.Key.{Key}
 use Rattle.host_base.specs.declared.verdict.Verdict.{Verdict}
 use Rattle.share_graph.specs.declared.state.State.{State}
-use Rattle.share_graph.specs.History.{Event, replay}
+use Rattle.share_graph.specs.declared.event.Event.{Event}
+use Rattle.share_graph.specs.History.{replay}
 use Rattle.share_graph.specs.Verdict.{IsVerdict}
 
 -- What a desk tells: the state that its history began with, and the accepted commands that it has seen.
