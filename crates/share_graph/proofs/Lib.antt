@@ -1,5 +1,6 @@
 pub mod Fits
 pub mod Least
+pub mod TreesAgree
 pub mod Walks
 pub mod Coherence
 pub mod WayEnds

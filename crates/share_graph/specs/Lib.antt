@@ -1,6 +1,7 @@
 pub mod Rows
 pub mod Nodes
 pub mod Derivation
+pub mod Trees
 pub mod Missing
 pub mod Known
 pub mod Parents

@@ -1,16 +1,16 @@
-ghost use Rattle.std.specs.Prelude.{◌≡◌, ◌≤◌, ◌↔◌, IsTrue, All, Some, None, true, length, MatchOption};
+ghost use Rattle.std.specs.Prelude.{◌≡◌, ◌≤◌, ◌↔◌, IsTrue, All, Some, None, true, length};
 ghost use Rattle.std.specs.List.{list_all};
 ghost use Rattle.app_manifest.specs.Checks.{double_name, second_that};
 ghost use Rattle.app_manifest.specs.Text.{is_permission_byte, is_permission_name};
 ghost use Rattle.perm_roles.specs.PermSet.{IsWithin};
 ghost use Rattle.perm_roles.specs.Roles.{IsListed};
-ghost use Rattle.share_graph.specs.Rows.{IsAppOf};
 ghost use Rattle.share_graph.specs.Fitting.{ManifestFits, SetFits, FitsManifest, AssignmentFits, HolderSetFits, NeedSetFits, SetsFit, TokenFits, SharesWell, IsReference};
 
+use crate::asking::app_of;
 use crate::facts::Node;
-use crate::finders::{app, grain, grant as find_grant};
+use crate::finders::grant as find_grant;
 use crate::grants::{Grant, Need, Target};
-use crate::rows::{App, Saved};
+use crate::rows::Saved;
 use crate::state::Tables;
 use app_manifest::{Manifest, PermissionDef, double_name, second_default};
 use host_base::{Digest, GrainId, Name};
@@ -86,13 +86,6 @@ pub fn manifest_fits(manifest: &Manifest) -> bool
         && names_differ(permissions)
         && roles_fit(roles, permissions.len())
         && has_one_default(roles)
-}
-
-/// The application of a grain.
-pub fn app_of(tables: &Tables, num: GrainId) -> Option<&App>
-    ensures { MatchOption result ((app : App) → IsAppOf tables.now num app → ⊥) (λ app. IsAppOf tables.now num app.now) }
-{
-    app(tables, grain(tables, num)?.app)
 }
 
 fn is_within_manifest(set: &PermSet, manifest: &Manifest) -> bool

@@ -1,6 +1,7 @@
 // The tables of a server, its state, and the definitions of who holds what.
 #![tactic(auto)]
 
+pub mod asking;
 pub mod check;
 pub mod desk;
 pub mod event;
@@ -13,12 +14,14 @@ pub mod grants;
 pub mod keys;
 mod known;
 pub mod lists;
+pub mod nodes;
 mod parents;
 pub mod rows;
 pub mod sessions;
 pub mod state;
 mod ways;
 
+pub use asking::{app_of, is_admin, is_enabled, is_kept, may_receive};
 pub use check::check_tables;
 pub use desk::{Caller, DeskFault, Made, Offer, Outcome, Readiness, Refusal};
 pub use event::Event;
@@ -30,6 +33,7 @@ pub use keys::{
     by_grant_token, by_login, by_run_token, by_saved_token, by_session_key, handle, live_run,
 };
 pub use lists::{Accounts, Apps, Grains, Grants, Handles, Runs, SavedReferences, Sessions};
+pub use nodes::{node_of, source_of};
 pub use rows::{Account, App, Grain, Saved};
 pub use sessions::{Handle, Root, Run, Session};
 pub use state::{State, Tables};

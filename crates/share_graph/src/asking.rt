@@ -1,0 +1,59 @@
+ghost use Rattle.std.specs.Prelude.{◌≡◌, ◌↔◌, IsTrue, MatchOption, true};
+ghost use Rattle.share_graph.specs.declared.rows.App.{App};
+ghost use Rattle.share_graph.specs.Nodes.{MayReceive};
+ghost use Rattle.share_graph.specs.Rows.{IsAppOf, IsAdmin, IsEnabled, IsKept};
+
+use crate::finders::{account, app, grain};
+use crate::grants::Target;
+use crate::rows::App;
+use crate::state::Tables;
+use host_base::{AccountId, GrainId};
+
+/// Whether an account is there and enabled.
+pub fn is_enabled(tables: &Tables, num: AccountId) -> bool
+    ensures { IsTrue result ↔ IsEnabled tables.now num }
+{
+    match account(tables, num) {
+        Some(row) => row.enabled,
+        None => false,
+    }
+}
+
+/// Whether an account is there, enabled and an admin.
+pub fn is_admin(tables: &Tables, num: AccountId) -> bool
+    ensures { IsTrue result ↔ IsAdmin tables.now num }
+{
+    match account(tables, num) {
+        Some(row) => row.enabled && row.admin,
+        None => false,
+    }
+}
+
+/// Whether a grain is there and not in the trash.
+pub fn is_kept(tables: &Tables, num: GrainId) -> bool
+    ensures { IsTrue result ↔ IsKept tables.now num }
+{
+    match grain(tables, num) {
+        Some(row) => !row.trashed,
+        None => false,
+    }
+}
+
+/// Whether an account that a grant goes to is enabled.
+pub fn may_receive(tables: &Tables, target: Target) -> bool
+    ensures { IsTrue result ↔ MayReceive tables.now target }
+{
+    match target {
+        Target::User(num) => is_enabled(tables, num),
+        Target::Bearer { .. } => true,
+        Target::Claim(_) => true,
+        Target::Grain(_) => true,
+    }
+}
+
+/// The application of a grain.
+pub fn app_of(tables: &Tables, num: GrainId) -> Option<&App>
+    ensures { MatchOption result ((app : App) → IsAppOf tables.now num app → ⊥) (λ app. IsAppOf tables.now num app.now) }
+{
+    app(tables, grain(tables, num)?.app)
+}
