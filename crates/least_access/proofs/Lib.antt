@@ -1,1 +1,8 @@
-pub mod Try
+pub mod Nodes
+pub mod Facts
+pub mod NeedTests
+pub mod Following
+pub mod Raising
+pub mod Turns
+pub mod Starting
+pub mod Lacking

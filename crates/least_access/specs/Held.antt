@@ -1,9 +1,8 @@
 -- What is held at a node.
-use Rattle.std.specs.Prelude.{◌≡◌, ◌+◌, ℕ, List, Contains, true, if◌then◌else◌}
+use Rattle.std.specs.Prelude.{◌≡◌, ◌+◌, ℕ, true, if◌then◌else◌}
 use Rattle.perm_roles.specs.PermSet.{Has, gain}
 use Rattle.share_graph.specs.declared.facts.Fact.{Fact}
 use Rattle.share_graph.specs.declared.facts.Fact.TheVariants.{Open, Perm}
-use Rattle.share_graph.specs.declared.facts.Node.{Node}
 use Rattle.least_access.specs.declared.held.Held.{Held}
 
 -- the fact is among what is held
@@ -14,7 +13,3 @@ IsIn held (Perm p) = Has held.perms p
 -- how much more can be held
 abbrev pub room : Held → ℕ
 room held = (if held.entry then 0 else 1) + gain held.perms
-
--- the table has the fact at the node
-abbrev pub HeldAt : List (Node × Held) → Node → Fact → Type 0
-HeldAt entries at fact = (held : Held) × Contains entries (at, held) × IsIn held fact

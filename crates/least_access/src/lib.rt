@@ -2,6 +2,12 @@
 #![tactic(auto)]
 
 pub mod held;
+mod missing;
+mod needs;
+mod passing;
+mod rounds;
+pub mod solving;
 mod table;
 
 pub use held::Held;
+pub use solving::{Solved, solve};

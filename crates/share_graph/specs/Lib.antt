@@ -2,9 +2,9 @@ pub mod Rows
 pub mod Nodes
 pub mod Derivation
 pub mod Trees
-pub mod Missing
 pub mod Known
 pub mod Parents
+pub mod Missing
 pub mod Fresh
 pub mod Fitting
 pub mod Coherent

@@ -12,8 +12,15 @@ use Rattle.share_graph.specs.declared.grants.Grant.{Grant}
 use Rattle.share_graph.specs.declared.grants.Need.{Need}
 use Rattle.share_graph.specs.declared.state.Tables.{Tables}
 use Rattle.share_graph.specs.Derivation.{Holds, IsMet}
+use Rattle.share_graph.specs.Known.{HasAccount, HasGrain}
 use Rattle.share_graph.specs.Nodes.{source_of}
+use Rattle.share_graph.specs.Parents.{IsOwnNode}
 use Rattle.share_graph.specs.Rows.{IsGrant, IsKept, IsTrashed, IsEnabled, IsDisabled}
+
+-- The node is one that can hold facts: its grain and its account are there, or its grant, which goes to no account.
+abbrev pub IsNode : Tables → Node → Type 0
+IsNode t (node.User n a) = HasGrain t n × HasAccount t a
+IsNode t (node.Grant g) = IsOwnNode t g
 
 -- every need is met
 abbrev pub AreMet : Tables → List Need → Type 0
