@@ -7,14 +7,18 @@ use Rattle.share_graph.specs.declared.grants.Grant.{Grant}
 use Rattle.share_graph.specs.declared.grants.Target.{Target}
 use Rattle.share_graph.specs.declared.grants.Target.TheVariants as target
 use Rattle.share_graph.specs.declared.state.Tables.{Tables}
+use Rattle.share_graph.specs.declared.ways.Origin.{Origin}
+use Rattle.share_graph.specs.declared.ways.Origin.TheVariants as origin
 use Rattle.share_graph.specs.Rows.{IsGrant}
 
--- The way of a grant is the grant, its giver's grant, and so on to the first giver that is no grant. There the way ends, at an
--- account: the giver, or the one by whom the site gave.
-pub data IsWay (t : Tables) : GrantId → List Grant → AccountId → Type 0 where
-  from_account : {g : GrantId} {grant : Grant} {a : AccountId} → IsGrant t g grant → grant.giver ≡ giver.Account a → IsWay t g (grant ∷ []) a
-  from_site : {g : GrantId} {grant : Grant} {by : AccountId} {tag item : ℕ} → IsGrant t g grant → grant.giver ≡ giver.Site by tag item → IsWay t g (grant ∷ []) by
-  from_grant : {g p : GrantId} {grant : Grant} {way : List Grant} {a : AccountId} → IsGrant t g grant → grant.giver ≡ giver.Grant p → IsWay t p way a → IsWay t g (grant ∷ way) a
+-- The way of a grant is the grant, its giver's grant, and so on to the first giver that is no grant. There the way ends: at an
+-- account, or at the site, by whom it gave.
+pub data IsWay (t : Tables) : GrantId → List Grant → Origin → Type 0 where
+  from_account : {g : GrantId} {grant : Grant} {a : AccountId} → IsGrant t g grant → grant.giver ≡ giver.Account a → IsWay t g (grant ∷ []) (origin.Account a)
+  from_site : {g : GrantId} {grant : Grant} {by : AccountId} {tag item : ℕ} → IsGrant t g grant → grant.giver ≡ giver.Site by tag item
+      → IsWay t g (grant ∷ []) (origin.Site by tag item)
+  from_grant : {g p : GrantId} {grant : Grant} {way : List Grant} {end : Origin} → IsGrant t g grant → grant.giver ≡ giver.Grant p → IsWay t p way end
+      → IsWay t g (grant ∷ way) end
 
 -- the grant is a bearer's, marked for sharing
 abbrev pub is_for_sharing : Target → Bool
@@ -27,17 +31,26 @@ is_for_sharing (target.Grain h) = false
 abbrev pub is_shared_on : List Grant → Bool
 is_shared_on way = list_any (λ grant. is_for_sharing grant.target) way
 
+-- where the way of a grant ends
+abbrev pub IsOrigin : Tables → GrantId → Origin → Type 0
+IsOrigin t g end = (way : List Grant) × IsWay t g way end
+
+-- the account at the end of a way: the giver, or the one by whom the site gave
+abbrev pub maker_of : Origin → AccountId
+maker_of (origin.Account a) = a
+maker_of (origin.Site by tag item) = by
+
 -- the root maker of a grant: the account at the end of its way
 abbrev pub IsRootMaker : Tables → GrantId → AccountId → Type 0
-IsRootMaker t g a = (way : List Grant) × IsWay t g way a
+IsRootMaker t g a = (end : Origin) × IsOrigin t g end × (a ≡ maker_of end)
+
+-- a way to an end, and whether some grant on it is marked for sharing
+pub record IsWayTo (t : Tables) (g : GrantId) (end : Origin) (shared : Bool) : Type 0 where
+  pub way : List Grant
+  pub is_way : IsWay t g way end
+  pub shared_is : is_shared_on way ≡ shared
 
 -- as whom the bearer of a grant is shown: as nobody where some grant on its way is marked for sharing, else as the root maker
 abbrev pub IsShownAs : Tables → GrantId → Option AccountId → Type 0
-IsShownAs t g None = (way : List Grant) × (a : AccountId) × IsWay t g way a × (is_shared_on way ≡ true)
-IsShownAs t g (Some a) = (way : List Grant) × IsWay t g way a × (is_shared_on way ≡ false)
-
--- a way that ends at an account, and whether some grant on it is marked for sharing
-pub record IsWayTo (t : Tables) (g : GrantId) (a : AccountId) (shared : Bool) : Type 0 where
-  pub way : List Grant
-  pub is_way : IsWay t g way a
-  pub shared_is : is_shared_on way ≡ shared
+IsShownAs t g None = (end : Origin) × IsWayTo t g end true
+IsShownAs t g (Some a) = (end : Origin) × IsWayTo t g end false × (a ≡ maker_of end)

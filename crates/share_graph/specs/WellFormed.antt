@@ -3,6 +3,7 @@ use Rattle.std.specs.Prelude.{◌≡◌, ◌≢◌, ◌≤◌, ◌+◌, ◌++◌
 use Rattle.std.specs.List.{AllPairs, filter_map}
 use Rattle.host_base.specs.declared.digest.Digest.{Digest}
 use Rattle.host_base.specs.declared.ids.GrainId.{GrainId}
+use Rattle.host_base.specs.declared.ids.GrantId.{GrantId}
 use Rattle.share_graph.specs.declared.grants.Grant.{Grant}
 use Rattle.share_graph.specs.declared.grants.Target.{Target}
 use Rattle.share_graph.specs.declared.grants.Target.TheVariants as target
@@ -14,6 +15,7 @@ use Rattle.share_graph.specs.declared.sessions.Session.{Session}
 use Rattle.share_graph.specs.declared.state.State.{State}
 use Rattle.share_graph.specs.declared.state.Tables.{Tables}
 use Rattle.share_graph.specs.Checked.{IsChecked}
+use Rattle.share_graph.specs.Coherent.{IsCoherent}
 use Rattle.share_graph.specs.Keys.{IsOneOf, IsLiveRun}
 use Rattle.share_graph.specs.Known.{HasAccount, HasGrain}
 use Rattle.share_graph.specs.Rows.{IsGrant}
@@ -85,6 +87,19 @@ digests_of s =
 abbrev pub HaveOneLiveRun : List Run → Type 0
 HaveOneLiveRun runs =
     (n : GrainId) (i j : ℕ) (run other : Run) → slice_get runs i ≡ Some run → slice_get runs j ≡ Some other → IsLiveRun n run → IsLiveRun n other → i ≡ j
+
+-- no token is two grants'
+abbrev pub HaveTokensApart : Tables → Type 0
+HaveTokensApart t =
+    (g h : GrantId) (grant other : Grant) (d : Digest) → IsGrant t g grant → IsGrant t h other → grant.digest ≡ Some d → other.digest ≡ Some d → g ≡ h
+
+-- What keys are judged by: coherent tables, tokens that tell grants apart, rows that carry their numbers, and sessions, runs and
+-- handles of what is there. Well-formed states are so.
+pub record IsJudgeable (s : State) : Type 0 where
+  pub coherent : IsCoherent s.tables
+  pub tokens : HaveTokensApart s.tables
+  pub numbered : IsNumbered s
+  pub rooted : IsRooted s
 
 -- A well-formed state: tables without a fault and within their limits, rows that carry their numbers, no digest twice, one live run
 -- of a grain at the most, and sessions, runs and handles of what is there.

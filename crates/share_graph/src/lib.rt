@@ -19,7 +19,7 @@ mod parents;
 pub mod rows;
 pub mod sessions;
 pub mod state;
-mod ways;
+pub mod ways;
 
 pub use asking::{app_of, is_admin, is_enabled, is_kept, may_receive};
 pub use check::check_tables;
@@ -37,7 +37,7 @@ pub use nodes::{node_of, source_of};
 pub use rows::{Account, App, Grain, Saved};
 pub use sessions::{Handle, Root, Run, Session};
 pub use state::{State, Tables};
-pub use ways::{root_maker, shown_as};
+pub use ways::{Origin, origin_of, root_maker, shown_as};
 
 #[cfg(test)]
 mod tests;

@@ -1,7 +1,7 @@
 ghost use Rattle.std.specs.Prelude.{◌≡◌};
 ghost use Rattle.share_graph.specs.Coherent.{IsCoherent};
 ghost use Rattle.share_graph.specs.Known.{HasGrant};
-ghost use Rattle.share_graph.specs.Ways.{is_for_sharing, IsRootMaker, IsShownAs, IsWayTo};
+ghost use Rattle.share_graph.specs.Ways.{is_for_sharing, maker_of, IsOrigin, IsRootMaker, IsShownAs, IsWayTo};
 
 use crate::finders::grant as find_grant;
 use crate::grants::{Giver, Target};
@@ -19,8 +19,27 @@ fn is_for_sharing(target: Target) -> bool
     }
 }
 
-// The account at the end of a grant's way, and whether some grant on it is marked for sharing.
-fn way_end(tables: &Tables, num: GrantId) -> (AccountId, bool)
+/// Where the way of a grant ends: at the account that gave first, or at the site, by whom it gave.
+#[derive(Clone, Copy, Debug, PartialEq, Eq)]
+pub enum Origin {
+    Account(AccountId),
+    Site { by: AccountId, tag: u64, item: u32 },
+}
+
+impl Origin {
+    /// The account there.
+    pub fn maker(self) -> AccountId
+        ensures { result ≡ maker_of self }
+    {
+        match self {
+            Origin::Account(account) => account,
+            Origin::Site { by, .. } => by,
+        }
+    }
+}
+
+// The end of a grant's way, and whether some grant on it is marked for sharing.
+fn way_end(tables: &Tables, num: GrantId) -> (Origin, bool)
     requires coherent { IsCoherent tables.now }
     requires there { HasGrant tables.now num }
     ensures { IsWayTo tables.now num result.0 result.1 }
@@ -33,13 +52,24 @@ fn way_end(tables: &Tables, num: GrantId) -> (AccountId, bool)
             Some(grant) => {
                 shared |= is_for_sharing(grant.target);
                 match grant.giver {
-                    Giver::Account(account) => return (account, shared),
-                    Giver::Site { by, .. } => return (by, shared),
+                    Giver::Account(account) => return (Origin::Account(account), shared),
+                    Giver::Site { by, tag, item } => {
+                        return (Origin::Site { by, tag, item }, shared);
+                    }
                     Giver::Grant(parent) => at = parent,
                 }
             }
         }
     }
+}
+
+/// Where the way of a grant ends.
+pub fn origin_of(tables: &Tables, num: GrantId) -> Origin
+    requires coherent { IsCoherent tables.now }
+    requires there { HasGrant tables.now num }
+    ensures { IsOrigin tables.now num result }
+{
+    way_end(tables, num).0
 }
 
 /// The account that a grant comes from in the end.
@@ -48,7 +78,7 @@ pub fn root_maker(tables: &Tables, num: GrantId) -> AccountId
     requires there { HasGrant tables.now num }
     ensures { IsRootMaker tables.now num result }
 {
-    way_end(tables, num).0
+    origin_of(tables, num).maker()
 }
 
 /// As whom the bearer of a grant is shown: nobody where some grant on the way is marked for sharing, else its root maker.
@@ -57,6 +87,6 @@ pub fn shown_as(tables: &Tables, num: GrantId) -> Option<AccountId>
     requires there { HasGrant tables.now num }
     ensures { IsShownAs tables.now num result }
 {
-    let (account, shared) = way_end(tables, num);
-    if shared { None } else { Some(account) }
+    let (end, shared) = way_end(tables, num);
+    if shared { None } else { Some(end.maker()) }
 }
