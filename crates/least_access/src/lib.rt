@@ -11,3 +11,6 @@ mod table;
 
 pub use held::Held;
 pub use solving::{Solved, solve};
+
+#[cfg(test)]
+mod tests;

@@ -7,3 +7,4 @@ pub mod WayEnds
 pub mod Marked
 pub mod RevokingLaw
 pub mod Outside
+pub mod Judgeable

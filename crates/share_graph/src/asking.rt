@@ -1,10 +1,14 @@
 ghost use Rattle.std.specs.Prelude.{◌≡◌, ◌↔◌, IsTrue, MatchOption, true};
 ghost use Rattle.share_graph.specs.declared.rows.App.{App};
+ghost use Rattle.share_graph.specs.Missing.{IsNode};
 ghost use Rattle.share_graph.specs.Nodes.{MayReceive};
 ghost use Rattle.share_graph.specs.Rows.{IsAppOf, IsAdmin, IsEnabled, IsKept};
 
+use crate::facts::Node;
 use crate::finders::{account, app, grain};
 use crate::grants::Target;
+use crate::known::{has_account, has_grain};
+use crate::parents::is_own_node;
 use crate::rows::App;
 use crate::state::Tables;
 use host_base::{AccountId, GrainId};
@@ -56,4 +60,14 @@ pub fn app_of(tables: &Tables, num: GrainId) -> Option<&App>
     ensures { MatchOption result ((app : App) → IsAppOf tables.now num app → ⊥) (λ app. IsAppOf tables.now num app.now) }
 {
     app(tables, grain(tables, num)?.app)
+}
+
+/// Whether a node is one that can hold facts: its grain and its account are there, or its grant, which goes to no account.
+pub fn is_node(tables: &Tables, node: Node) -> bool
+    ensures { IsTrue result ↔ IsNode tables.now node }
+{
+    match node {
+        Node::User(num, holder) => has_grain(tables, num) && has_account(tables, holder),
+        Node::Grant(num) => is_own_node(tables, num),
+    }
 }

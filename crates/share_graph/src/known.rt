@@ -8,7 +8,8 @@ use crate::rows::{Grain, Saved};
 use crate::state::Tables;
 use host_base::{AccountId, AppId, GrainId, GrantId};
 
-fn has_account(tables: &Tables, num: AccountId) -> bool
+/// Whether the account of a number is there.
+pub fn has_account(tables: &Tables, num: AccountId) -> bool
     ensures { IsTrue result ↔ HasAccount tables.now num }
 {
     account(tables, num).is_some()
@@ -20,7 +21,8 @@ fn has_app(tables: &Tables, num: AppId) -> bool
     app(tables, num).is_some()
 }
 
-fn has_grain(tables: &Tables, num: GrainId) -> bool
+/// Whether the grain of a number is there.
+pub fn has_grain(tables: &Tables, num: GrainId) -> bool
     ensures { IsTrue result ↔ HasGrain tables.now num }
 {
     grain(tables, num).is_some()

@@ -21,7 +21,7 @@ pub mod sessions;
 pub mod state;
 pub mod ways;
 
-pub use asking::{app_of, is_admin, is_enabled, is_kept, may_receive};
+pub use asking::{app_of, is_admin, is_enabled, is_kept, is_node, may_receive};
 pub use check::check_tables;
 pub use desk::{Caller, DeskFault, Made, Offer, Outcome, Readiness, Refusal};
 pub use event::Event;

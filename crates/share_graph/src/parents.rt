@@ -59,7 +59,8 @@ fn giver_fits(tables: &Tables, giver: Giver, grant: &Grant) -> bool
     }
 }
 
-fn is_own_node(tables: &Tables, num: GrantId) -> bool
+/// Whether a grant is there and goes to no account.
+pub fn is_own_node(tables: &Tables, num: GrantId) -> bool
     ensures { IsTrue result ↔ IsOwnNode tables.now num }
 {
     match find_grant(tables, num) {

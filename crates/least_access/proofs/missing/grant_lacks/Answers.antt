@@ -22,6 +22,9 @@ pub returns-in-None : goal.returns-in-None
 returns-in-None c =
     let kept = c.is_kept.ensures.0 c.if-not-is_kept.false in
     let met = rw c.as_slice.ensures at c.in-None.ensures in (
-      refl, kept, c.if-grant.false, met,
+      refl,
+      kept,
+      c.if-grant.false,
+      met,
       lost c.args.tables.now c.args.num c.args.grant.now c.requires.row c.if-grant.false c.requires.own kept met c.requires.none,
     )
