@@ -5,8 +5,9 @@ use Rattle.cloud_serve.specs.declared.serve.End.TheVariants as end
 use Rattle.cloud_serve.specs.Book.{Book}
 use Rattle.cloud_serve.specs.Line.{Line}
 use Rattle.cloud_serve.specs.Served.{Served, Stands}
-use Rattle.cloud_serve.specs.SmallBook.{small_book}
+use Rattle.cloud_serve.specs.SmallBook.{IsSmallBook}
 use Rattle.cloud_serve.specs.Stream.{Requests, Ending, Done, BadHead, IsStream}
+use Rattle.share_graph.specs.declared.state.State.{State}
 
 -- the status of each end of a connection
 abbrev pub status_by : End → ℕ
@@ -18,12 +19,14 @@ status_by end.Memory = 7
 
 -- One connection was served from the small book, over the program's input, output and link: the headline.
 pub record ServesPlay (inlet inlet' : Inlet) (outlet outlet' : Outlet) (line line' : Line) (status : ℕ) : Type 0 where
+  pub start : State
+  pub is_book : IsSmallBook start
   pub end : End
   pub places : List ℕ
   pub served : ℕ
   pub forwarded : ℕ
   pub final : Book
-  pub headline : Served (record { inlet = inlet; outlet = outlet; line = line; book = record { start = small_book; seen = [] } })
+  pub headline : Served (record { inlet = inlet; outlet = outlet; line = line; book = record { start = start; seen = [] } })
       (record { inlet = inlet'; outlet = outlet'; line = line'; book = final }) end 0 places served forwarded
   pub status_is : status ≡ status_by end
 

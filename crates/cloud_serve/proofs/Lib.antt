@@ -4,3 +4,6 @@ pub mod Permits
 pub mod Streams
 pub mod Taking
 pub mod Serving
+mod SmallBookApps
+mod SmallBookShares
+pub mod SmallBook
