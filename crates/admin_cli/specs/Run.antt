@@ -7,7 +7,6 @@ use Rattle.cloud_serve.specs.Line.{Line}
 use Rattle.cloud_serve.specs.Served.{Served, Stands}
 use Rattle.cloud_serve.specs.SmallBook.{IsSmallBook}
 use Rattle.cloud_serve.specs.Stream.{Requests, Ending, Done, BadHead, IsStream}
-use Rattle.share_graph.specs.declared.state.State.{State}
 
 -- the status of each end of a connection
 abbrev pub status_by : End → ℕ
@@ -17,16 +16,21 @@ status_by end.ReadFault = 4
 status_by end.WriteFault = 5
 status_by end.Memory = 7
 
+-- A desk begins with the small book, and has seen no entry of the history.
+pub record BeginsSmall (book : Book) : Type 0 where
+  pub start : IsSmallBook book.start
+  pub seen : book.seen ≡ []
+
 -- One connection was served from the small book, over the program's input, output and link: the headline.
 pub record ServesPlay (inlet inlet' : Inlet) (outlet outlet' : Outlet) (line line' : Line) (status : ℕ) : Type 0 where
-  pub start : State
-  pub is_book : IsSmallBook start
+  pub first : Book
+  pub begins : BeginsSmall first
   pub end : End
   pub places : List ℕ
   pub served : ℕ
   pub forwarded : ℕ
   pub final : Book
-  pub headline : Served (record { inlet = inlet; outlet = outlet; line = line; book = record { start = start; seen = [] } })
+  pub headline : Served (record { inlet = inlet; outlet = outlet; line = line; book = first })
       (record { inlet = inlet'; outlet = outlet'; line = line'; book = final }) end 0 places served forwarded
   pub status_is : status ≡ status_by end
 

@@ -1,12 +1,13 @@
-ghost use Rattle.std.specs.Prelude.{◌≡◌};
+ghost use Rattle.std.specs.Prelude.{◌≡◌, IfOk};
 ghost use Rattle.host_base.specs.Outside.{Inlet, Outlet, Rose};
 ghost use Rattle.cloud_serve.specs.Line.{Line};
 ghost use Rattle.admin_cli.specs.Words.{IsPlay};
-ghost use Rattle.admin_cli.specs.Run.{status_by, Plays, TellsUsage, Completes};
+ghost use Rattle.admin_cli.specs.Run.{status_by, BeginsSmall, Plays, TellsUsage, Completes};
 
 use crate::words::is_play;
-use cloud_serve::{End, Link, SoloDesk, serve_conn, small_book};
+use cloud_serve::{Desk, End, Link, SoloDesk, serve_conn, small_book};
 use host_base::{Memory, Sink, Source, WriteFailed};
+use least_access::solve;
 use std::alloc::Global;
 
 /// What the program is run with beside its words, its input and its output.
@@ -38,6 +39,15 @@ fn status_of(end: End) -> u8
     }
 }
 
+// The desk that `play` begins with: over the small book.
+fn small_desk(alloc: Global) -> Result<SoloDesk, Memory>
+    ensures { IfOk result (λ desk. BeginsSmall (⟦<SoloDesk as Desk>⟧.book desk)) }
+{
+    let book = small_book(alloc)?;
+    let solved = solve(alloc, &book.tables)?;
+    Ok(SoloDesk::new(book, solved))
+}
+
 /// All that the program does. `play` serves one connection from the small book; any other words get the usage line.
 pub fn run<I: Source, O: Sink, L: Link>(
     alloc: Global,
@@ -61,10 +71,9 @@ pub fn run<I: Source, O: Sink, L: Link>(
             Err(WriteFailed) => Ran { status: 5, link },
         };
     }
-    match small_book(alloc) {
+    match small_desk(alloc) {
         Err(Memory) => Ran { status: 7, link },
-        Ok(book) => {
-            let mut desk = SoloDesk::new(book);
+        Ok(mut desk) => {
             let end = serve_conn(alloc, input, out, &mut desk, &mut link);
             let status = status_of(end.end);
             Ran { status, link }

@@ -6,6 +6,7 @@ use host_base::{
     Shown,
 };
 use http::Method;
+use least_access::solve;
 use share_graph::{account, grain, live_run};
 use std::alloc::{AllocError, Global};
 use std::test::Fail;
@@ -180,6 +181,30 @@ fn the_grain_is_asked_once_however_the_input_is_cut(rt: HostRuntime) -> Result<(
     Ok(())
 }
 
+#[test]
+fn shares_are_forwarded_with_what_they_give(rt: HostRuntime) -> Result<(), Fail> {
+    let alloc = rt.alloc();
+    let rows: [(&[u8], &[u8]); 2] = [
+        (
+            b"GET /hello HTTP/1.1\r\nHost: ui-22222222222222222222222222222222\r\n\r\n",
+            b"GET /hello HTTP/1.1\r\nHost: sandbox\r\nConnection: close\r\nX-Sandstorm-Tab-Id: 0000000000000002\r\nX-Sandstorm-Session-Id: 0000000000000002\r\nX-Sandstorm-Username: Zo%C3%AB%20K.\r\nX-Sandstorm-User-Id: 1544d19931a7e2d202bc2fe39df382f1\r\nX-Sandstorm-Preferred-Handle: zoe\r\nX-Sandstorm-Permissions: view,edit\r\n\r\n",
+        ),
+        (
+            b"GET /hello HTTP/1.1\r\nHost: ui-33333333333333333333333333333333\r\n\r\n",
+            b"GET /hello HTTP/1.1\r\nHost: sandbox\r\nConnection: close\r\nX-Sandstorm-Tab-Id: 0000000000000003\r\nX-Sandstorm-Session-Id: 0000000000000003\r\nX-Sandstorm-Username: Ben%20Roy\r\nX-Sandstorm-User-Id: 799b0dea34674c98be5726df7838f89d\r\nX-Sandstorm-Preferred-Handle: ben\r\nX-Sandstorm-Permissions: view,edit\r\n\r\n",
+        ),
+    ];
+    for (input, text) in rows {
+        let (_, ran) = ran(alloc, &["play"], source(alloc, input, 0)?, [0; 3])?;
+        let asked = ran.link.asked();
+        assert_eq!(rt; asked.len(), 1);
+        assert_eq!(rt; asked[0].run, RunId(1));
+        assert_eq!(rt; asked[0].text.as_slice(), text);
+        assert_eq!(rt; ran.status, 0);
+    }
+    Ok(())
+}
+
 // A request of an unknown key whose target fills it up to a length.
 fn long_input(alloc: Global, length: usize) -> Result<Vec<u8>, AllocError> {
     let mut input = Vec::from_slice(alloc, b"GET /")?;
@@ -213,7 +238,9 @@ fn a_connection_tells_its_places(rt: HostRuntime) -> Result<(), Fail> {
     let mut input = source(alloc, OWNER, 0)?;
     let mut sink = MemSink::new(alloc, fails(alloc, 0)?);
     let mut link = EchoLink::new(alloc, fails(alloc, 0)?);
-    let mut desk = SoloDesk::new(small_book(alloc)?);
+    let book = small_book(alloc)?;
+    let solved = solve(alloc, &book.tables)?;
+    let mut desk = SoloDesk::new(book, solved);
     let end = serve_conn(alloc, &mut input, &mut sink, &mut desk, &mut link);
     assert_eq!(rt;
         (end.end, end.from, end.served, end.forwarded),

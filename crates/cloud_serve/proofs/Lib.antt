@@ -1,9 +1,9 @@
 pub mod Heads
 pub mod Meanings
-pub mod Permits
 pub mod Streams
 pub mod Taking
 pub mod Serving
 mod SmallBookApps
 mod SmallBookShares
 pub mod SmallBook
+pub mod Sites

@@ -4,7 +4,7 @@ use Rattle.host_base.specs.declared.verdict.Verdict.{Verdict}
 use Rattle.share_graph.specs.declared.state.State.{State}
 use Rattle.share_graph.specs.declared.event.Event.{Event}
 use Rattle.share_graph.specs.History.{replay}
-use Rattle.share_graph.specs.Verdict.{IsVerdict}
+use Rattle.session_table.specs.Verdict.{IsVerdict}
 
 -- What a desk tells: the state that its history began with, and the accepted commands that it has seen.
 pub record Book : Type 0 where

@@ -1,7 +1,6 @@
 pub mod Book
 pub mod Digests
 pub mod Heads
-pub mod Judging
 pub mod Line
 pub mod Reading
 pub mod Served

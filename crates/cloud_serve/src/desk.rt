@@ -1,10 +1,14 @@
 ghost use Rattle.std.specs.Prelude.{◌≡◌, ◌≤◌, [], length, IfOk};
+ghost use Rattle.share_graph.specs.WellFormed.{IsJudgeable};
+ghost use Rattle.least_access.specs.Solved.{IsSolutionOf};
 ghost use Rattle.cloud_serve.specs.Book.{Book, Later, Judged};
 
-use crate::judge::judge;
 use host_base::{Key, Memory, Verdict};
+use least_access::Solved;
+use session_table::verdict;
 use share_graph::State;
 use std::alloc::Global;
+use std::marker::Model;
 
 /// What judges keys. Others may add entries to its history at any call.
 pub trait Desk {
@@ -20,30 +24,48 @@ pub trait Desk {
         ensures judged { IfOk result (λ r. Judged (length (book self.old).seen) (book self.new) key.now r.0 r.1) };
 }
 
-/// A desk that owns its state. No command is accepted yet, so its history is empty.
+/// A desk that owns its state, with what was solved for it. No command is accepted yet, so its history is empty.
 #[derive(Drop)]
 pub struct SoloDesk {
     state: State,
+    solved: Solved,
+}
+
+impl Model for SoloDesk {
+    ghost use Rattle.share_graph.specs.declared.state.State.{State};
+    ghost use Rattle.share_graph.specs.contracts.state.State as state_type;
+    ghost use Rattle.share_graph.specs.WellFormed.{IsJudgeable};
+    ghost use Rattle.least_access.specs.Solved.{IsSolutionOf};
+
+    ghost Value = { State };
+
+    ghost coded = { state_type.the_row.coded };
+
+    ghost view = { λ desk. desk.state };
+
+    ghost invariant = { λ desk. IsJudgeable desk.state × IsSolutionOf desk.state.tables desk.solved };
 }
 
 impl SoloDesk {
-    /// A desk over the state.
-    pub fn new(state: State) -> Self
+    /// A desk over a state, with the solution of its tables.
+    pub fn new(state: State, solved: Solved) -> Self
+        requires judgeable { IsJudgeable state }
+        requires solution { IsSolutionOf state.tables solved }
         ensures { ⟦<SoloDesk as Desk>⟧.book result ≡ record { start = state; seen = [] } }
     {
-        SoloDesk { state }
+        SoloDesk { state, solved }
     }
 }
 
 impl Desk for SoloDesk {
-    ghost book = { λ s. record { start = s.state; seen = [] } };
+    ghost book = { λ state. record { start = state; seen = [] } };
 
     fn place(&self) -> u64 {
         0
     }
 
     fn verdict(&mut self, alloc: Global, key: &Key) -> Result<(u64, Verdict), Memory> {
-        let verdict = judge(alloc, &self.state, key)?;
+        let verdict = verdict(alloc, &self.state, &self.solved, key)?;
         Ok((0, verdict))
     }
 }

@@ -5,7 +5,6 @@ pub mod book;
 pub mod desk;
 mod digest;
 mod head;
-mod judge;
 pub mod link;
 mod reader;
 pub mod serve;

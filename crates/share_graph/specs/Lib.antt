@@ -11,8 +11,6 @@ pub mod Coherent
 pub mod Checked
 pub mod WellFormed
 pub mod Keys
-pub mod Owning
-pub mod Verdict
 pub mod Ways
 pub mod Changing
 pub mod Revoking

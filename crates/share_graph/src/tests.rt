@@ -2,7 +2,7 @@
 
 use super::{grant as find_grant, *};
 use app_manifest::{Descriptors, Manifest, PermissionDef, Permissions, Roles};
-use host_base::{AccountId, AppId, Digest, GrainId, GrantId, Name, RunId};
+use host_base::{AccountId, AppId, Digest, GrainId, GrantId, Name, RunId, SavedId, SessionId};
 use perm_roles::{Assignment, Base, PermSet};
 use std::alloc::Global;
 use std::test::Fail;
@@ -38,7 +38,7 @@ fn name(alloc: Global, text: &str) -> Result<Name, Fail> {
     Ok(Name::new(String::from_str(alloc, text)?).ok_or("no name")?)
 }
 
-fn account(alloc: Global, num: u32, handle: &str, byte: u8) -> Result<Account, Fail> {
+fn account_row(alloc: Global, num: u32, handle: &str, byte: u8) -> Result<Account, Fail> {
     Ok(Account {
         num: AccountId(num),
         handle: name(alloc, handle)?,
@@ -49,7 +49,7 @@ fn account(alloc: Global, num: u32, handle: &str, byte: u8) -> Result<Account, F
     })
 }
 
-fn app(alloc: Global) -> Result<App, Fail> {
+fn app_row(alloc: Global) -> Result<App, Fail> {
     let view = PermissionDef {
         name: name(alloc, "view")?,
         title: name(alloc, "view")?,
@@ -70,7 +70,7 @@ fn app(alloc: Global) -> Result<App, Fail> {
     })
 }
 
-fn grain(alloc: Global, num: u32) -> Result<Grain, Fail> {
+fn grain_row(alloc: Global, num: u32) -> Result<Grain, Fail> {
     Ok(Grain {
         num: GrainId(num),
         app: AppId(1),
@@ -80,7 +80,7 @@ fn grain(alloc: Global, num: u32) -> Result<Grain, Fail> {
     })
 }
 
-fn grant(alloc: Global, num: u32, row: Row) -> Result<Grant, Fail> {
+fn grant_row(alloc: Global, num: u32, row: Row) -> Result<Grant, Fail> {
     let (giver, target, need, byte) = row;
     let mut needs = Vec::new(alloc);
     if let Some(need) = need {
@@ -105,18 +105,18 @@ fn grant(alloc: Global, num: u32, row: Row) -> Result<Grant, Fail> {
 // Two accounts with these handles, an application, two grains, and these grants on the first.
 fn tables(alloc: Global, handles: [&str; 2], rows: &[Row]) -> Result<Tables, Fail> {
     let mut accounts = Vec::new(alloc);
-    accounts.push(account(alloc, 1, handles[0], 1)?)?;
-    accounts.push(account(alloc, 2, handles[1], 2)?)?;
+    accounts.push(account_row(alloc, 1, handles[0], 1)?)?;
+    accounts.push(account_row(alloc, 2, handles[1], 2)?)?;
     let mut apps = Vec::new(alloc);
-    apps.push(app(alloc)?)?;
+    apps.push(app_row(alloc)?)?;
     let mut grains = Vec::new(alloc);
-    grains.push(grain(alloc, 1)?)?;
-    grains.push(grain(alloc, 2)?)?;
+    grains.push(grain_row(alloc, 1)?)?;
+    grains.push(grain_row(alloc, 2)?)?;
     let mut grants = Vec::new(alloc);
     let mut num = 0u32;
     for row in rows {
         num = num.wrapping_add(1);
-        grants.push(grant(alloc, num, *row)?)?;
+        grants.push(grant_row(alloc, num, *row)?)?;
     }
     Ok(Tables {
         accounts: Accounts::new(accounts),
@@ -196,40 +196,115 @@ fn tables_have_their_first_fault(rt: HostRuntime) -> Result<(), Fail> {
     Ok(())
 }
 
-#[test]
-fn rows_are_found_by_their_digests(rt: HostRuntime) -> Result<(), Fail> {
-    let alloc = rt.alloc();
-    let tables = tables(alloc, ["ada", "ben"], &[LINK, TO_BEN])?;
-    assert_eq!(rt; by_login(&tables, &digest(2)).map(|row| row.num), Some(BEN));
-    assert_eq!(rt; by_login(&tables, &digest(8)).map(|row| row.num), None);
-    assert_eq!(rt;
-        by_grant_token(&tables, &digest(8)).map(|row| row.num),
-        Some(GrantId(1))
-    );
-    assert_eq!(rt;
-        by_grant_token(&tables, &digest(2)).map(|row| row.num),
-        None
-    );
+// A link and a share, a reference of the second grain, a session, two runs of the first grain, the first of them stopped, and a handle.
+fn state(alloc: Global) -> Result<State, Fail> {
+    let mut tables = tables(alloc, ["ada", "ben"], &[LINK, TO_BEN])?;
+    let mut saved = Vec::new(alloc);
+    saved.push(Saved {
+        num: SavedId(1),
+        holder: GrainId(2),
+        grant: GrantId(1),
+        label: name(alloc, "minutes")?,
+        digest: digest(30),
+        dropped: false,
+    })?;
+    tables.saved = SavedReferences::new(saved);
+    let mut sessions = Vec::new(alloc);
+    sessions.push(Session {
+        num: SessionId(1),
+        digest: digest(40),
+        grain: GrainId(1),
+        root: Root::Account(ADA),
+        tab: 1,
+        closed: false,
+    })?;
     let mut runs = Vec::new(alloc);
-    for (num, stopped) in [(1, true), (2, false)] {
+    for (num, byte, stopped) in [(1, 20, true), (2, 21, false)] {
         runs.push(Run {
             num: RunId(num),
             grain: GrainId(1),
-            digest: digest(20),
+            digest: digest(byte),
             stopped,
         })?;
     }
-    let state = State {
+    let mut handles = Vec::new(alloc);
+    handles.push(Handle {
+        run: RunId(2),
+        num: 1,
+        grant: GrantId(1),
+    })?;
+    Ok(State {
         tables,
-        sessions: Sessions::new(Vec::new(alloc)),
+        sessions: Sessions::new(sessions),
         runs: Runs::new(runs),
-        handles: Handles::new(Vec::new(alloc)),
-    };
+        handles: Handles::new(handles),
+    })
+}
+
+#[test]
+fn rows_are_found_by_their_numbers(rt: HostRuntime) -> Result<(), Fail> {
+    let state = state(rt.alloc())?;
+    let tables = &state.tables;
+    for (num, found) in [
+        (0, [None; 5]),
+        (1, [Some(1); 5]),
+        (2, [Some(2), None, Some(2), Some(2), None]),
+        (3, [None; 5]),
+    ] {
+        assert_eq!(rt;
+            account(tables, AccountId(num)).map(|row| row.num.0),
+            found[0]
+        );
+        assert_eq!(rt; app(tables, AppId(num)).map(|row| row.num.0), found[1]);
+        assert_eq!(rt; grain(tables, GrainId(num)).map(|row| row.num.0), found[2]);
+        assert_eq!(rt;
+            find_grant(tables, GrantId(num)).map(|row| row.num.0),
+            found[3]
+        );
+        assert_eq!(rt; saved(tables, SavedId(num)).map(|row| row.num.0), found[4]);
+    }
+    for (run, num, found) in [(2, 1, true), (1, 1, false), (2, 2, false)] {
+        assert_eq!(rt; handle(&state, RunId(run), num).is_some(), found);
+    }
     assert_eq!(rt;
         live_run(&state, GrainId(1)).map(|row| row.num),
         Some(RunId(2))
     );
     assert_eq!(rt; live_run(&state, GrainId(2)).map(|row| row.num), None);
+    Ok(())
+}
+
+#[test]
+fn rows_are_found_by_their_digests(rt: HostRuntime) -> Result<(), Fail> {
+    let state = state(rt.alloc())?;
+    let tables = &state.tables;
+    for (byte, found) in [
+        (2, [Some(2), None, None, None, None]),
+        (8, [None, Some(1), None, None, None]),
+        (30, [None, None, Some(1), None, None]),
+        (40, [None, None, None, Some(1), None]),
+        (20, [None, None, None, None, Some(1)]),
+        (99, [None; 5]),
+    ] {
+        let digest = digest(byte);
+        assert_eq!(rt; by_login(tables, &digest).map(|row| row.num.0), found[0]);
+        assert_eq!(rt;
+            by_grant_token(tables, &digest).map(|row| row.num.0),
+            found[1]
+        );
+        assert_eq!(rt;
+            by_saved_token(tables, &digest).map(|row| row.num.0),
+            found[2]
+        );
+        assert_eq!(rt;
+            by_session_key(&state, &digest).map(|row| row.num.0),
+            found[3]
+        );
+        assert_eq!(rt;
+            by_run_token(&state, &digest).map(|row| row.num.0),
+            found[4].map(u64::from)
+        );
+    }
     Ok(())
 }
 
