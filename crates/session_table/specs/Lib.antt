@@ -1,2 +1,4 @@
 pub mod Standing
 pub mod Verdict
+pub mod Naming
+pub mod Behind

@@ -1,12 +1,105 @@
-ghost use Rattle.std.specs.Prelude.{IfOk};
-ghost use Rattle.share_graph.specs.WellFormed.{IsJudgeable};
+//! The verdict on each form of key.
+
+ghost use Rattle.std.specs.Prelude.{◌↔◌, IfOk, IsTrue};
+ghost use Rattle.host_base.specs.declared.key.Key.TheVariants as key;
+ghost use Rattle.share_graph.specs.WellFormed.{IsBearer, IsJudgeable};
 ghost use Rattle.least_access.specs.Solved.{IsSolutionOf};
 ghost use Rattle.session_table.specs.Verdict.{IsVerdict};
 
-use host_base::{Key, Memory, Verdict};
+use crate::permits::stands;
+use crate::reaching::{grant_stands, reaches};
+use host_base::{Denial, Digest, Key, Memory, TabMark, Verdict};
 use least_access::Solved;
-use share_graph::State;
+use share_graph::{
+    State, Target, by_grant_token, by_run_token, by_session_key, grant as find_grant,
+    handle as find_handle, is_kept,
+};
 use std::alloc::Global;
+
+pub(crate) fn is_bearer(target: Target) -> bool
+    ensures { IsTrue result ↔ IsBearer target }
+{
+    match target {
+        Target::Bearer { .. } => true,
+        Target::User(_) => false,
+        Target::Claim(_) => false,
+        Target::Grain(_) => false,
+    }
+}
+
+// The verdict on the key of a session.
+fn session_verdict(
+    alloc: Global,
+    state: &State,
+    solved: &Solved,
+    digest: &Digest,
+) -> Result<Verdict, Memory>
+    requires judgeable { IsJudgeable state.now }
+    requires solution { IsSolutionOf state.now.tables solved.now }
+    ensures { IfOk result (IsVerdict state.now (key.Session digest.now)) }
+{
+    let Some(session) = by_session_key(state, digest) else {
+        return Ok(Verdict::Deny(Denial::UnknownKey));
+    };
+    if session.closed {
+        return Ok(Verdict::Deny(Denial::SessionClosed(session.num)));
+    }
+    let tab = Some(TabMark {
+        tab: session.tab,
+        session: session.num,
+    });
+    stands(alloc, state, solved, session.grain, session.root, tab)
+}
+
+// The verdict on a bearer's token.
+fn bearer_verdict(
+    alloc: Global,
+    state: &State,
+    solved: &Solved,
+    digest: &Digest,
+) -> Result<Verdict, Memory>
+    requires judgeable { IsJudgeable state.now }
+    requires solution { IsSolutionOf state.now.tables solved.now }
+    ensures { IfOk result (IsVerdict state.now (key.Bearer digest.now)) }
+{
+    let Some(grant) = by_grant_token(&state.tables, digest) else {
+        return Ok(Verdict::Deny(Denial::UnknownKey));
+    };
+    if !is_bearer(grant.target) {
+        return Ok(Verdict::Deny(Denial::UnknownKey));
+    }
+    grant_stands(alloc, state, solved, grant.num, grant)
+}
+
+// The verdict on a handle of a run.
+fn handle_verdict(
+    alloc: Global,
+    state: &State,
+    solved: &Solved,
+    digest: &Digest,
+    num: u32,
+) -> Result<Verdict, Memory>
+    requires judgeable { IsJudgeable state.now }
+    requires solution { IsSolutionOf state.now.tables solved.now }
+    ensures { IfOk result (IsVerdict state.now (key.Handle digest.now num)) }
+{
+    let Some(run) = by_run_token(state, digest) else {
+        return Ok(Verdict::Deny(Denial::UnknownKey));
+    };
+    if !is_kept(&state.tables, run.grain) {
+        return Ok(Verdict::Deny(Denial::GrainTrashed(run.grain)));
+    }
+    if run.stopped {
+        return Ok(Verdict::Deny(Denial::GrainStopped(run.grain)));
+    }
+    let Some(handle) = find_handle(state, run.num, num) else {
+        return Ok(Verdict::Deny(Denial::UnknownKey));
+    };
+    let Some(grant) = find_grant(&state.tables, handle.grant) else {
+        unreachable!()
+    };
+    reaches(alloc, state, solved, handle.grant, grant)
+}
 
 /// The verdict on a key.
 pub fn verdict(alloc: Global, state: &State, solved: &Solved, key: &Key) -> Result<Verdict, Memory>
@@ -14,9 +107,9 @@ pub fn verdict(alloc: Global, state: &State, solved: &Solved, key: &Key) -> Resu
     requires solution { IsSolutionOf state.now.tables solved.now }
     ensures { IfOk result (IsVerdict state.now key.now) }
 {
-    let _ = alloc;
-    let _ = state;
-    let _ = solved;
-    let _ = key;
-    Err(Memory)
+    match key {
+        Key::Session(digest) => session_verdict(alloc, state, solved, digest),
+        Key::Bearer(digest) => bearer_verdict(alloc, state, solved, digest),
+        Key::Handle(digest, num) => handle_verdict(alloc, state, solved, digest, *num),
+    }
 }

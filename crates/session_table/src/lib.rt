@@ -2,5 +2,14 @@
 #![tactic(auto)]
 
 pub mod judging;
+mod names;
+mod permits;
+mod reaching;
+mod showing;
 
 pub use judging::verdict;
+
+#[cfg(test)]
+mod judgeable;
+#[cfg(test)]
+mod tests;

@@ -1,5 +1,5 @@
 -- Well-formed states are ones that keys can be judged by.
-use Rattle.std.proofs.Common.{◌≡◌, ◌⊎◌, ◌^◌, ◌<◌, ◌≤◌, ℕ, zero, suc, Option, Some, length, take, slice_get, get_or, refl, sym, ◌∙◌, ap, subst, inl, inr, arith}
+use Rattle.std.proofs.Common.{◌≡◌, ◌⊎◌, ◌<◌, ℕ, zero, suc, Option, Some, length, take, slice_get, get_or, ◌∙◌, ap, subst, inl, inr, arith}
 use Rattle.std.proofs.lemmas.List.{get_or-take, length-take-le}
 use Rattle.std.proofs.lemmas.Option.{slice_get_within, get_or_from_slice_get}
 use Rattle.host_base.specs.declared.digest.Digest.{Digest}
@@ -10,7 +10,7 @@ use Rattle.share_graph.specs.declared.state.Tables.{Tables}
 use Rattle.share_graph.specs.Checked.{IsChecked}
 use Rattle.share_graph.specs.Coherent.{HasNumbers}
 use Rattle.share_graph.specs.Fresh.{IsFreshToken}
-use Rattle.share_graph.specs.Rows.{row, IsGrant}
+use Rattle.share_graph.specs.Rows.{row}
 use Rattle.share_graph.specs.WellFormed.{HaveTokensApart, IsJudgeable, IsWellFormed}
 use Rattle.share_graph.proofs.Coherence.{coherent}
 

@@ -1,5 +1,5 @@
 -- A fact holds after a grant was revoked exactly where some derivation did without the grant.
-use Rattle.std.proofs.Common.{◌≡◌, ◌≢◌, ◌↔◌, ◌<◌, ℕ, List, Some, true, false, sym, ◌∙◌, ap, inl, inr}
+use Rattle.std.proofs.Common.{◌≡◌, ◌≢◌, ◌<◌, ℕ, List, Some, true, false, sym, ◌∙◌, ap, inl, inr}
 use Rattle.host_base.specs.declared.ids.GrantId.{GrantId}
 use Rattle.share_graph.specs.declared.grants.Grant.{Grant}
 use Rattle.share_graph.specs.declared.state.Tables.{Tables}
@@ -9,7 +9,7 @@ use Rattle.share_graph.specs.Changing.{change_row}
 use Rattle.share_graph.specs.Revoking.{revoked, revoke_in, TakesExactly}
 use Rattle.share_graph.proofs.Marked.{change_row_other, mark_row_same}
 use Rattle.share_graph.specs.Rows.{row}
-use Rattle.share_graph.specs.Derivation.{IsLive, Derivation, own, via, site, Uses, Holds, HoldsWithout}
+use Rattle.share_graph.specs.Derivation.{IsLive, Derivation, own, via, site, Uses, HoldsWithout}
 
 abbrev numbered : ℕ → GrantId
 numbered n = record { 0 = n }

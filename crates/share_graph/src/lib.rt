@@ -12,7 +12,7 @@ mod fitting;
 mod fresh;
 pub mod grants;
 pub mod keys;
-mod known;
+pub mod known;
 pub mod lists;
 pub mod nodes;
 mod parents;
@@ -32,6 +32,7 @@ pub use grants::{Giver, Grant, Need, Needs, Target};
 pub use keys::{
     by_grant_token, by_login, by_run_token, by_saved_token, by_session_key, handle, live_run,
 };
+pub use known::{has_account, has_grain};
 pub use lists::{Accounts, Apps, Grains, Grants, Handles, Runs, SavedReferences, Sessions};
 pub use nodes::{node_of, source_of};
 pub use rows::{Account, App, Grain, Saved};

@@ -1,0 +1,6 @@
+pub mod Named
+pub mod Makers
+pub mod Listed
+pub mod Roots
+pub mod Follows
+pub mod Judged

@@ -1,0 +1,5 @@
+use Rattle.session_table.proofs.Roots.{grant_is_behind}
+use Rattle.session_table.proofs.reaching.grant_stands.Goals as goal
+
+pub stands-requires-clause-there : goal.stands-requires-clause-there
+stands-requires-clause-there c = grant_is_behind c.args.state.now.tables c.requires.coherent c.args.num c.args.grant.now c.requires.row c.requires.own

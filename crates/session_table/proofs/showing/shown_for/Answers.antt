@@ -1,0 +1,5 @@
+use Rattle.session_table.proofs.Makers.{shown_is_there}
+use Rattle.session_table.proofs.showing.shown_for.Goals as goal
+
+pub shown_by-requires-in-Grant : goal.shown_by-requires-in-Grant
+shown_by-requires-in-Grant c = shown_is_there c.args.tables.now c.requires.coherent c.in-Grant.num c.shown_as-who.result c.shown_as-who.ensures
