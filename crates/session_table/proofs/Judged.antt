@@ -1,16 +1,16 @@
 -- What a test of each row of a state tells.
 use Rattle.std.proofs.Common.{◌≡◌, ◌<◌, ◌==◌, ◌+◌, ◌⊎◌, ◌≤◌, ℕ, zero, suc, List, Some, All, Contains, Option, slice_get, count_by, take, length, get_or, refl, sym, ◌∙◌, ap, subst, arith, inl, inr}
 use Rattle.std.proofs.lemmas.List.{get_or-take, length-take}
-use Rattle.std.proofs.lemmas.List.Elements.{All-contains, Contains-get_or}
-use Rattle.std.proofs.lemmas.Option.{slice_get-get_or, slice_get_within, get_or_from_slice_get}
+use Rattle.std.proofs.lemmas.List.Elements.{All-contains}
+use Rattle.std.proofs.lemmas.Option.{slice_get_within, get_or_from_slice_get}
 use Rattle.host_base.specs.declared.digest.Digest.{Digest}
 use Rattle.host_base.specs.declared.ids.GrantId.{GrantId}
 use Rattle.share_graph.specs.declared.grants.Grant.{Grant}
 use Rattle.share_graph.specs.declared.sessions.Handle.{Handle}
 use Rattle.share_graph.specs.declared.state.Tables.{Tables}
-use Rattle.share_graph.specs.Checked.{AllSound, SoundBelow, IsChecked}
+use Rattle.share_graph.specs.Checked.{SoundBelow, IsChecked}
 use Rattle.share_graph.specs.Fresh.{IsFreshToken}
-use Rattle.share_graph.specs.Rows.{row, IsGrant}
+use Rattle.share_graph.specs.Rows.{row}
 use Rattle.share_graph.specs.WellFormed.{HaveTokensApart}
 
 -- the handle carries the number of its place among those of its run

@@ -4,3 +4,4 @@ pub mod Listed
 pub mod Roots
 pub mod Follows
 pub mod Judged
+pub mod Accessed

@@ -281,7 +281,7 @@ fn keys_have_their_verdicts(rt: HostRuntime) -> Result<(), Fail> {
             Key::Session(digest(36)),
             Seen::Denied(Denial::GrainStopped(GrainId(4))),
         ),
-        (Key::Session(digest(8)), unknown),
+        (Key::Session(digest(12)), unknown),
         (Key::Bearer(digest(8)), Seen::Sent(1, 1, None, None)),
         (Key::Bearer(digest(9)), Seen::Sent(1, 2, Some(ADA), None)),
         (Key::Bearer(digest(10)), unknown),

@@ -1,7 +1,6 @@
-use Rattle.std.proofs.Common.{◌≡◌, ◌≤◌, ◌<◌, length, refl, ap, arith}
+use Rattle.std.proofs.Common.{◌≡◌, length, refl, ap, arith}
 use Rattle.std.proofs.lemmas.List.Elements.{All-more}
 use Rattle.share_graph.specs.Known.{HasGrain}
-use Rattle.share_graph.specs.WellFormed.{IsRootedSession}
 use Rattle.session_table.proofs.Judged.{all_taken}
 use Rattle.session_table.proofs.judgeable.runs_are_rooted.Goals as goal
 
