@@ -1,5 +1,5 @@
 -- A session's key leads to no item of the site.
-use Rattle.std.proofs.Common.{◌≡◌, ℕ}
+use Rattle.std.proofs.Common.{ℕ}
 use Rattle.host_base.specs.declared.digest.Digest.{Digest}
 use Rattle.host_base.specs.declared.key.Key.TheVariants as key
 use Rattle.host_base.specs.declared.verdict.Verdict.TheVariants as verdict

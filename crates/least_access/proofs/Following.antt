@@ -1,5 +1,5 @@
 -- What follows by a grant, in coherent tables.
-use Rattle.std.proofs.Common.{◌≡◌, ◌↔◌, List, Option, Some, None, All, Contains, MatchOption, true, false, refl, sym, ◌∙◌, ap, subst}
+use Rattle.std.proofs.Common.{◌≡◌, ◌↔◌, List, Option, Some, None, All, Contains, MatchOption, false, refl, sym, ◌∙◌, ap, subst}
 use Rattle.std.proofs.lemmas.List.Elements.{All-weaker, All-contains, All-contains_itself}
 use Rattle.host_base.specs.declared.ids.GrantId.{GrantId}
 use Rattle.share_graph.specs.declared.facts.Fact.{Fact}
@@ -9,7 +9,6 @@ use Rattle.share_graph.specs.declared.facts.Node.TheVariants as node
 use Rattle.share_graph.specs.declared.grants.Giver.{Giver}
 use Rattle.share_graph.specs.declared.grants.Giver.TheVariants as giver
 use Rattle.share_graph.specs.declared.grants.Grant.{Grant}
-use Rattle.share_graph.specs.declared.grants.Need.{Need}
 use Rattle.share_graph.specs.declared.grants.Target.{Target}
 use Rattle.share_graph.specs.declared.state.Tables.{Tables}
 use Rattle.share_graph.specs.Coherent.{IsCoherent}

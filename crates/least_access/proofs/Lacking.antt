@@ -1,11 +1,10 @@
 -- What is lacking where entry isn't held.
-use Rattle.std.proofs.Common.{◌≡◌, ◌<◌, ◌≤◌, ◌⊎◌, ◌+◌, ◌↔◌, ℕ, Bool, true, false, IsTrue, List, Option, Some, None, Contains, slice_get, length, refl, sym, ◌∙◌, ap, subst, inl, inr, arith}
+use Rattle.std.proofs.Common.{◌≡◌, ◌<◌, ◌≤◌, ◌⊎◌, ◌+◌, ◌↔◌, ℕ, Bool, true, false, IsTrue, List, Option, Some, None, slice_get, length, refl, sym, ◌∙◌, subst, inl, inr, arith}
 use Rattle.std.proofs.lemmas.Bool.{false≢true}
 use Rattle.std.proofs.lemmas.Option.{slice_get_read}
 use Rattle.host_base.specs.declared.ids.AccountId.{AccountId}
 use Rattle.host_base.specs.declared.ids.GrainId.{GrainId}
 use Rattle.host_base.specs.declared.ids.GrantId.{GrantId}
-use Rattle.share_graph.specs.declared.facts.Fact.{Fact}
 use Rattle.share_graph.specs.declared.facts.Fact.TheVariants.{Open}
 use Rattle.share_graph.specs.declared.facts.Node.{Node}
 use Rattle.share_graph.specs.declared.facts.Node.TheVariants as node
@@ -13,15 +12,13 @@ use Rattle.share_graph.specs.declared.grants.Grant.{Grant}
 use Rattle.share_graph.specs.declared.grants.Need.{Need}
 use Rattle.share_graph.specs.declared.grants.Target.{Target}
 use Rattle.share_graph.specs.declared.grants.Target.TheVariants as target
-use Rattle.share_graph.specs.declared.rows.Account.{Account}
-use Rattle.share_graph.specs.declared.rows.Grain.{Grain}
 use Rattle.share_graph.specs.declared.state.Tables.{Tables}
-use Rattle.share_graph.specs.Derivation.{Holds, IsMetBy, IsMet, Asks, via, site}
+use Rattle.share_graph.specs.Derivation.{Holds, IsMetBy, IsMet, via, site}
 use Rattle.share_graph.specs.Known.{HasAccount, HasGrain}
 use Rattle.share_graph.specs.Missing.{AreMet, IsLost}
-use Rattle.share_graph.specs.Nodes.{node_of, node_at, source_of, MayReceive}
+use Rattle.share_graph.specs.Nodes.{node_at, source_of, MayReceive}
 use Rattle.share_graph.specs.Parents.{IsNoUser}
-use Rattle.share_graph.specs.Rows.{IsGrain, IsAccount, IsGrant, IsKept, IsTrashed, IsEnabled, IsDisabled}
+use Rattle.share_graph.specs.Rows.{IsGrant, IsKept, IsTrashed, IsEnabled, IsDisabled}
 use Rattle.least_access.specs.Solved.{Table, HeldAt, IsSolutionOf}
 
 -- a grain that isn't kept is in the trash

@@ -1,5 +1,5 @@
 -- What a write of a node keeps and gains.
-use Rattle.std.proofs.Common.{◌≡◌, ◌≢◌, ◌⊎◌, ◌↔◌, ◌+◌, ◌<◌, ◌≤◌, ℕ, Option, Some, None, IsSome, IsSomeAnd, refl, sym, ◌∙◌, ap, subst, inl, inr, arith}
+use Rattle.std.proofs.Common.{◌≡◌, ◌≢◌, ◌⊎◌, ◌↔◌, Option, Some, None, IsSome, IsSomeAnd, refl, sym, ◌∙◌, ap, subst, inl, inr}
 use Rattle.host_base.specs.declared.ids.GrantId.{GrantId}
 use Rattle.share_graph.specs.declared.facts.Fact.{Fact}
 use Rattle.share_graph.specs.declared.facts.Node.{Node}
@@ -11,7 +11,7 @@ use Rattle.share_graph.specs.Nodes.{node_of}
 use Rattle.share_graph.specs.Rows.{IsGrant}
 use Rattle.share_graph.proofs.Least.{derived, follows_more}
 use Rattle.least_access.specs.declared.held.Held.{Held}
-use Rattle.least_access.specs.Held.{IsIn, room}
+use Rattle.least_access.specs.Held.{IsIn}
 use Rattle.least_access.specs.Solved.{Table, held_at, HeldAt}
 use Rattle.least_access.specs.Rounds.{IsSound, Grows, IsClosedAt}
 use Rattle.least_access.proofs.Nodes.{same_or_other}

@@ -1,5 +1,5 @@
 -- The table that rounds begin with: what owners hold, and places for the nodes of grants.
-use Rattle.std.proofs.Common.{◌≡◌, ◌≢◌, ◌⊎◌, ◌↔◌, ◌+◌, ◌<◌, ◌≤◌, ℕ, List, [], ◌∷◌, Option, Some, None, IsSome, IsSomeAnd, length, slice_get, refl, sym, ◌∙◌, ap, subst, inl, inr, arith}
+use Rattle.std.proofs.Common.{◌≡◌, ◌≢◌, ◌⊎◌, ◌↔◌, ◌+◌, ◌<◌, ◌≤◌, ℕ, [], Some, IsSome, length, slice_get, refl, sym, ap, subst, inl, inr, arith}
 use Rattle.host_base.specs.declared.ids.GrainId.{GrainId}
 use Rattle.host_base.specs.declared.ids.GrantId.{GrantId}
 use Rattle.share_graph.specs.declared.facts.Fact.{Fact}
@@ -11,7 +11,7 @@ use Rattle.share_graph.specs.declared.rows.Grain.{Grain}
 use Rattle.share_graph.specs.declared.state.Tables.{Tables}
 use Rattle.share_graph.specs.Derivation.{Owns, IsFactOf, Holds, own}
 use Rattle.share_graph.specs.Nodes.{node_of}
-use Rattle.share_graph.specs.Rows.{row, IsGrain, IsApp, IsGrant}
+use Rattle.share_graph.specs.Rows.{row, IsApp, IsGrant}
 use Rattle.least_access.specs.declared.held.Held.{Held}
 use Rattle.least_access.specs.Held.{IsIn}
 use Rattle.least_access.specs.Solved.{Table, held_at, HeldAt}

@@ -1,10 +1,3 @@
-use Rattle.std.proofs.Common.{◌≡◌, ◌≢◌, Some, sym, subst}
-use Rattle.share_graph.specs.declared.facts.Fact.{Fact}
-use Rattle.share_graph.specs.declared.facts.Node.{Node}
-use Rattle.share_graph.specs.Derivation.{Follows}
-use Rattle.share_graph.specs.Nodes.{node_of}
-use Rattle.least_access.specs.Held.{IsIn}
-use Rattle.least_access.specs.Solved.{held_at, HeldAt}
 use Rattle.least_access.proofs.Raising.{adds_nothing, raised_sound}
 use Rattle.least_access.proofs.rounds.raise.Goals as goal
 

@@ -1,4 +1,4 @@
-use Rattle.std.proofs.Common.{◌≡◌, ◌+◌, Some, slice_get, length, arith, ap, sym, ◌∙◌}
+use Rattle.std.proofs.Common.{◌≡◌, length, arith, ap}
 use Rattle.share_graph.proofs.Walks.{at_place}
 use Rattle.least_access.proofs.Turns.{numbered, nodes_kept, round_start, round_next, round_end}
 use Rattle.least_access.proofs.rounds.round.Goals as goal

@@ -1,4 +1,4 @@
-use Rattle.std.proofs.Common.{◌≡◌, ◌+◌, Option, Some, None, option_copied, length, ap, sym, ◌∙◌, arith}
+use Rattle.std.proofs.Common.{◌≡◌, ◌+◌, None, option_copied, length, ap, sym, ◌∙◌, arith}
 use Rattle.share_graph.specs.Rows.{row}
 use Rattle.share_graph.proofs.Walks.{at_place}
 use Rattle.least_access.proofs.Turns.{numbered}
