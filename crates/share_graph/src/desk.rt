@@ -102,6 +102,11 @@ pub enum DeskFault {
 }
 
 impl From<Memory> for DeskFault {
+    ghost use Rattle.std.specs.Prelude.{◌≡◌};
+    ghost use Rattle.share_graph.specs.declared.desk.DeskFault.{DeskFault};
+
+    ghost from_gives = { λ _ fault. fault ≡ DeskFault.Memory };
+
     fn from(_: Memory) -> DeskFault {
         DeskFault::Memory
     }
