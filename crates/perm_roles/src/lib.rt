@@ -1,11 +1,9 @@
 //! Permission sets, roles, and what an assignment of permissions gives.
 #![tactic(auto)]
 
-mod name2;
 mod perm_set;
 mod roles;
 
-pub use name2::Name2;
 pub use perm_set::PermSet;
 pub use roles::{Assignment, Base, Role, RoleFault, granted};
 

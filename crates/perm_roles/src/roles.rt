@@ -6,16 +6,16 @@ ghost use Rattle.perm_roles.specs.PermSet.{Has, IsWithin};
 ghost use Rattle.perm_roles.specs.Roles.{Gives, HasFault, HasNoFault, IsInBase, IsInDefault, IsListed, SetsFit};
 ghost use Rattle.perm_roles.specs.declared.roles.RoleFault.{RoleFault};
 
-use crate::name2::Name2;
 use crate::perm_set::PermSet;
+use plain_data::Name;
 use std::error::Error;
 use std::fmt::{self, Display, Formatter, Write};
 
 /// A named set of permissions that an application offers.
 #[derive(Clone, Debug, Drop, PartialEq, Eq)]
 pub struct Role {
-    pub title: Name2,
-    pub verb: Name2,
+    pub title: Name,
+    pub verb: Name,
     pub perms: PermSet,
     pub default: bool,
     pub obsolete: bool,

@@ -1,11 +1,12 @@
 //! The worked rows of roles and names.
 
 use super::*;
+use plain_data::Name;
 use std::alloc::Global;
 use std::test::Fail;
 
-fn name(alloc: Global, text: &str) -> Result<Name2, Fail> {
-    Ok(Name2::new(String::from_str(alloc, text)?).ok_or("no name")?)
+fn name(alloc: Global, text: &str) -> Result<Name, Fail> {
+    Ok(Name::new(String::from_str(alloc, text)?).ok_or("no name")?)
 }
 
 fn role(alloc: Global, title: &str, perms: PermSet, default: bool) -> Result<Role, Fail> {
@@ -126,7 +127,7 @@ fn names_have_a_form(rt: HostRuntime) -> Result<(), Fail> {
         ("a b", true),
     ];
     for (text, is_name) in rows {
-        let name = Name2::new(String::from_str(rt.alloc(), text)?);
+        let name = Name::new(String::from_str(rt.alloc(), text)?);
         assert_eq!(rt; name.is_some(), is_name, "{text}");
     }
     let name = name(rt.alloc(), "é")?;
