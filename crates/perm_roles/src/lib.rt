@@ -5,7 +5,4 @@ mod perm_set;
 mod roles;
 
 pub use perm_set::PermSet;
-pub use roles::{Assignment, Base, Role, RoleFault, granted};
-
-#[cfg(test)]
-mod tests;
+pub use roles::{Assignment, Base, Role, RoleFault, granted, is_listed, named_role};
