@@ -9,9 +9,9 @@ use Rattle.serde_json.specs.View.{items_view, members_view}
 use Rattle.serde_json.specs.declared.value.Value.{Value}
 use Rattle.serde_json.proofs.Views.{Entry, items_len-items_view, members_len-members_view}
 use Rattle.powerbox_match.specs.declared.value.TagValue.{TagValue}
-use Rattle.powerbox_match.specs.Text.{is_text, text_of}
+use Rattle.plain_data.specs.Name.{is_plain}
 use Rattle.powerbox_match.specs.Value.{TagData, fields, items, field_count, item_count, are_items_tidy, are_fields_tidy, is_tidy, items_data, fields_data}
-use Rattle.powerbox_match.specs.Shape.{value_of, stated_items, stated_fields}
+use Rattle.powerbox_match.specs.Shape.{text_of, value_of, stated_items, stated_fields}
 use Rattle.powerbox_match.proofs.Tidy.{Entry as Field}
 use Rattle.powerbox_match.proofs.Stated.{item_count-stated, field_count-stated, is_ascending-stated}
 
@@ -58,15 +58,15 @@ object_none ms e = none_within (leb (members_len ms) 1000) fields (stated_fields
 
 -- ---- names
 
-pub no_text : (bytes : List ℕ) → text_of bytes ≡ None → is_text bytes ≡ false
-no_text bytes = no_text_at (is_text bytes)
+pub no_text : (bytes : List ℕ) → text_of bytes ≡ None → is_plain bytes ≡ false
+no_text bytes = no_text_at (is_plain bytes)
   where
     no_text_at : (b : Bool) → cond b (Some bytes) None ≡ None → b ≡ false
     no_text_at true e = absurd (cc)
     no_text_at false e = refl
 
-pub a_text : (bytes t : List ℕ) → text_of bytes ≡ Some t → (is_text bytes ≡ true) × (bytes ≡ t)
-a_text bytes t = a_text_at (is_text bytes)
+pub a_text : (bytes t : List ℕ) → text_of bytes ≡ Some t → (is_plain bytes ≡ true) × (bytes ≡ t)
+a_text bytes t = a_text_at (is_plain bytes)
   where
     a_text_at : (b : Bool) → cond b (Some bytes) None ≡ Some t → (b ≡ true) × (bytes ≡ t)
     a_text_at true e = (refl, cc)

@@ -1,16 +1,16 @@
 -- What lists of JSON values state: tags and descriptors, one more at a time.
-use Rattle.std.proofs.Common.{◌≡◌, ℕ, zero, suc, ◌+◌, ◌<◌, ◌≤◌, true, false, leb, ltb, List, [], ◌∷◌, ◌++◌, Some, None, Result, Ok, Err, length, get_or, take, map, refl, sym, ap, ◌∙◌, arith}
+use Rattle.std.proofs.Common.{◌≡◌, ℕ, zero, suc, ◌+◌, ◌<◌, ◌≤◌, true, false, leb, ltb, List, [], ◌∷◌, ◌++◌, Some, None, Result, Ok, Err, length, get_or, take, refl, sym, ap, ◌∙◌, arith}
 use Rattle.std.proofs.lemmas.Bool.Decides.{nat_tests}
-use Rattle.std.proofs.lemmas.List.{take_more, map-append}
+use Rattle.std.proofs.lemmas.List.{take_more}
 use Rattle.serde_json.specs.View.{view, items_view}
 use Rattle.serde_json.specs.declared.value.Value.{Value}
 use Rattle.serde_json.proofs.Views.{items_len-items_view}
 use Rattle.powerbox_match.specs.declared.fault.ShapeFault.{ShapeFault}
 use Rattle.powerbox_match.specs.declared.fault.ShapeFault.TheVariants.{BadShape, TooManyTags}
-use Rattle.powerbox_match.specs.declared.value.Descriptor.{Descriptor}
-use Rattle.powerbox_match.specs.declared.value.Tag.{Tag}
+use Rattle.powerbox_match.specs.declared.descriptor.Descriptor.{Descriptor}
+use Rattle.powerbox_match.specs.declared.descriptor.Tag.{Tag}
 use Rattle.powerbox_match.specs.Value.{TagData}
-use Rattle.powerbox_match.specs.Descriptor.{DescriptorData, tag_view, descriptor_view}
+use Rattle.powerbox_match.specs.Descriptor.{DescriptorData}
 use Rattle.powerbox_match.specs.Shape.{map_both, tag_of, tags_of, deepest_value, tags_or_fault, descriptor_of, with_first, descriptors_of}
 use Rattle.powerbox_match.proofs.Stated.{both_there, none_first, none_second}
 
@@ -24,11 +24,11 @@ tags_of-push (x ∷ ds) d ts t e h =
     ap (λ o. map_both (λ y ys. y ∷ ys) o (tags_of (items_view (ds ++ d ∷ [])))) p.2 ∙ ap (λ o. map_both (λ y ys. y ∷ ys) (Some p.0) o) last ∙ ap (λ us. Some (us ++ t ∷ [])) (sym p.4)
 
 -- one tag more is stated
-pub tags_of_more : (ds : List Value) (i : ℕ) (d : Value) (ts : List Tag) (t : Tag) → i < length ds → d ≡ get_or ds i d → tags_of (items_view (take i ds)) ≡ Some (map tag_view ts) → tag_of (view d) ≡ Some (tag_view t)
-    → tags_of (items_view (take (i + 1) ds)) ≡ Some (map tag_view (ts ++ t ∷ []))
+pub tags_of_more : (ds : List Value) (i : ℕ) (d : Value) (ts : List Tag) (t : Tag) → i < length ds → d ≡ get_or ds i d → tags_of (items_view (take i ds)) ≡ Some ts → tag_of (view d) ≡ Some t
+    → tags_of (items_view (take (i + 1) ds)) ≡ Some (ts ++ t ∷ [])
 tags_of_more ds i d ts t within is e h =
     let more : take (i + 1) ds ≡ take i ds ++ d ∷ [] = take_more ds i d within ∙ ap (λ (x : Value). take i ds ++ x ∷ []) (sym is) in
-    rw (more, map-append tag_view ts (t ∷ [])) (tags_of-push (take i ds) d (map tag_view ts) (tag_view t) e h)
+    rw more (tags_of-push (take i ds) d ts t e h)
 
 -- a value that states no tag, and then the list states none
 pub tags_of_none : (ds : List Value) (i : ℕ) (d : Value) → i < length ds → d ≡ get_or ds i d → tag_of (view d) ≡ None → tags_of (items_view ds) ≡ None
@@ -76,11 +76,11 @@ descriptors_of-push (y ∷ ds) d xs x e h =
     ap (λ r. with_first r (descriptors_of (items_view (ds ++ d ∷ [])))) p.2 ∙ ap (λ r. with_first (Ok p.0) r) last ∙ ap (λ us. Ok (us ++ x ∷ [])) (sym p.4)
 
 -- one descriptor more is stated
-pub descriptors_of_more : (ds : List Value) (i : ℕ) (d : Value) (xs : List Descriptor) (x : Descriptor) → i < length ds → d ≡ get_or ds i d → descriptors_of (items_view (take i ds)) ≡ Ok (map descriptor_view xs) → descriptor_of (view d) ≡ Ok (descriptor_view x)
-    → descriptors_of (items_view (take (i + 1) ds)) ≡ Ok (map descriptor_view (xs ++ x ∷ []))
+pub descriptors_of_more : (ds : List Value) (i : ℕ) (d : Value) (xs : List Descriptor) (x : Descriptor) → i < length ds → d ≡ get_or ds i d → descriptors_of (items_view (take i ds)) ≡ Ok xs → descriptor_of (view d) ≡ Ok x
+    → descriptors_of (items_view (take (i + 1) ds)) ≡ Ok (xs ++ x ∷ [])
 descriptors_of_more ds i d xs x within is e h =
     let more : take (i + 1) ds ≡ take i ds ++ d ∷ [] = take_more ds i d within ∙ ap (λ (y : Value). take i ds ++ y ∷ []) (sym is) in
-    rw (more, map-append descriptor_view xs (x ∷ [])) (descriptors_of-push (take i ds) d (map descriptor_view xs) (descriptor_view x) e h)
+    rw more (descriptors_of-push (take i ds) d xs x e h)
 
 -- the first value that states no descriptor, after some that do, has the fault of the list
 pub descriptors_of_fault : (ds : List Value) (i : ℕ) (d : Value) (xs : List DescriptorData) (fault : ShapeFault) → i < length ds → d ≡ get_or ds i d → descriptors_of (items_view (take i ds)) ≡ Ok xs → descriptor_of (view d) ≡ Err fault

@@ -10,7 +10,8 @@ use Rattle.std.proofs.lemmas.Cmp.{nat_list_cmp_total, nat_list_eq_equiv, tied_it
 use Rattle.std.proofs.lemmas.List.{drop_more}
 use Rattle.std.proofs.lemmas.Map.Text.{is_eq-slice_cmp}
 use Rattle.powerbox_match.specs.Value.{TagData, FieldsData, no_fields, field, is_below, is_ascending, is_tidy, are_fields_tidy, tag_data, fields_data}
-use Rattle.powerbox_match.specs.Matching.{get_field, fields_from, value_matches, fields_match}
+use Rattle.powerbox_match.specs.Matching.{get_field, value_matches, fields_match}
+use Rattle.powerbox_match.specs.MatchingSteps.{fields_from}
 use Rattle.powerbox_match.proofs.Tidy.{Entry, is_ascending-drop}
 
 -- ---- the order of names

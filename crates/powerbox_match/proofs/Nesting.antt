@@ -8,9 +8,8 @@ use Rattle.serde_json.specs.Find.{as_integer}
 use Rattle.serde_json.specs.View.{view, items_view, members_view}
 use Rattle.serde_json.specs.declared.value.Value.{Value}
 use Rattle.serde_json.proofs.Views.{Entry}
-use Rattle.powerbox_match.specs.Text.{text_of}
 use Rattle.powerbox_match.specs.Value.{TagData, any, number, text, fields, items, FieldsData, no_fields, ItemsData, no_items, item, nesting, fields_nesting, items_nesting}
-use Rattle.powerbox_match.specs.Shape.{json_nesting, json_items_nesting, json_members_nesting, value_of, stated_items, stated_fields, tag_nesting, deepest_value, value_or_any}
+use Rattle.powerbox_match.specs.Shape.{json_nesting, json_items_nesting, json_members_nesting, text_of, value_of, stated_items, stated_fields, tag_nesting, deepest_value, value_or_any}
 use Rattle.powerbox_match.proofs.Stated.{both_there, fields_there}
 
 mapped_there : {A : Type 0} (f : A → TagData) (o : Option A) (t : TagData) → option_map f o ≡ Some t → (x : A) × (o ≡ Some x) × (t ≡ f x)

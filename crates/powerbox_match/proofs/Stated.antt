@@ -12,7 +12,7 @@ use Rattle.serde_json.specs.View.{view, items_view, members_view}
 use Rattle.serde_json.specs.declared.value.Value.{Value}
 use Rattle.serde_json.proofs.Views.{Entry}
 use Rattle.powerbox_match.specs.declared.value.TagValue.{TagValue}
-use Rattle.powerbox_match.specs.Text.{is_text}
+use Rattle.plain_data.specs.Name.{is_plain}
 use Rattle.powerbox_match.specs.Value.{TagData, FieldsData, no_fields, field, ItemsData, no_items, item, field_count, item_count, is_below, is_ascending, are_items_tidy, are_fields_tidy, tag_data, is_tidy, items_data, fields_data}
 use Rattle.powerbox_match.specs.Shape.{map_both, value_of, stated_items, stated_fields}
 use Rattle.powerbox_match.proofs.Tidy.{Entry as Field}
@@ -81,14 +81,14 @@ under_name false o fs e = absurd (cc)
 
 -- the first field that is stated, and those after it
 pub fields_there : (k : List ℕ) (d : Data) (ms : Members) (fs : FieldsData) → stated_fields (Members.member k d ms) ≡ Some fs
-    → (v : TagData) × (rest : FieldsData) × (is_text k ≡ true) × (value_of d ≡ Some v) × (stated_fields ms ≡ Some rest) × (fs ≡ field k v rest)
+    → (v : TagData) × (rest : FieldsData) × (is_plain k ≡ true) × (value_of d ≡ Some v) × (stated_fields ms ≡ Some rest) × (fs ≡ field k v rest)
 fields_there k d ms fs e =
-    let p = under_name (is_text k) (map_both (field k) (value_of d) (stated_fields ms)) fs e in
+    let p = under_name (is_plain k) (map_both (field k) (value_of d) (stated_fields ms)) fs e in
     let q = both_there (field k) (value_of d) (stated_fields ms) fs p.1 in
     (q.0, q.1, p.0, q.2, q.3, q.4)
 
 -- one member more is stated
-pub stated_fields-push : (es : List Entry) (fs : List Field) (e : Entry) (f : Field) → stated_fields (members_view es) ≡ Some (fields_data fs) → string_bytes e.0 ≡ f.0 → is_text (string_bytes e.0) ≡ true → value_of (view e.1) ≡ Some (tag_data f.1)
+pub stated_fields-push : (es : List Entry) (fs : List Field) (e : Entry) (f : Field) → stated_fields (members_view es) ≡ Some (fields_data fs) → string_bytes e.0 ≡ f.0 → is_plain (string_bytes e.0) ≡ true → value_of (view e.1) ≡ Some (tag_data f.1)
     → stated_fields (members_view (es ++ e ∷ [])) ≡ Some (fields_data (fs ++ f ∷ []))
 stated_fields-push [] [] e f h name good v = rw (good, v, name)
 stated_fields-push [] (g ∷ gs) e f h name good v = absurd (cc)
@@ -98,7 +98,7 @@ stated_fields-push (x ∷ es) (g ∷ gs) e f h name good v =
     let p = fields_there (string_bytes x.0) (view x.1) (members_view es) (field g.0 (tag_data g.1) (fields_data gs)) h in
     let is : field g.0 (tag_data g.1) (fields_data gs) ≡ field (string_bytes x.0) p.0 p.1 = p.5 in
     let key : string_bytes x.0 ≡ g.0 = cc in
-    let text_key : is_text (string_bytes x.0) ≡ true = p.2 in
+    let text_key : is_plain (string_bytes x.0) ≡ true = p.2 in
     let here : value_of (view x.1) ≡ Some (tag_data g.1) = let q = p.3 in cc in
     let rest : stated_fields (members_view es) ≡ Some (fields_data gs) = let q = p.4 in cc in
     rw (text_key, here, stated_fields-push es gs e f rest name good v, key)
@@ -117,16 +117,16 @@ none_under_name false o e = refl
 pub stated_fields_none : (es : List Entry) (e : Entry) (more : List Entry) → stated_fields (members_view (e ∷ more)) ≡ None → stated_fields (members_view (es ++ e ∷ more)) ≡ None
 stated_fields_none [] e more h = h
 stated_fields_none (x ∷ es) e more h =
-    none_under_name (is_text (string_bytes x.0)) _ (none_second (field (string_bytes x.0)) (value_of (view x.1)) (stated_fields (members_view (es ++ e ∷ more))) (stated_fields_none es e more h))
+    none_under_name (is_plain (string_bytes x.0)) _ (none_second (field (string_bytes x.0)) (value_of (view x.1)) (stated_fields (members_view (es ++ e ∷ more))) (stated_fields_none es e more h))
 
 -- a name that may not be a text
-pub no_field_by_name : (e : Entry) (more : List Entry) → is_text (string_bytes e.0) ≡ false → stated_fields (members_view (e ∷ more)) ≡ None
+pub no_field_by_name : (e : Entry) (more : List Entry) → is_plain (string_bytes e.0) ≡ false → stated_fields (members_view (e ∷ more)) ≡ None
 no_field_by_name e more h = rw h
 
 -- a value that states none
 pub no_field_by_value : (e : Entry) (more : List Entry) → value_of (view e.1) ≡ None → stated_fields (members_view (e ∷ more)) ≡ None
 no_field_by_value e more h =
-    none_under_name (is_text (string_bytes e.0)) _ (none_first (field (string_bytes e.0)) (value_of (view e.1)) (stated_fields (members_view more)) h)
+    none_under_name (is_plain (string_bytes e.0)) _ (none_first (field (string_bytes e.0)) (value_of (view e.1)) (stated_fields (members_view more)) h)
 
 -- as many fields as members
 pub field_count-stated : (ms : Members) (fs : FieldsData) → stated_fields ms ≡ Some fs → field_count fs ≡ members_len ms

@@ -1,12 +1,13 @@
 -- The strongest quality among pairs, one more of a query's descriptors at a time.
-use Rattle.std.proofs.Common.{◌≡◌, ℕ, ◌+◌, ◌<◌, Bool, true, false, ◌||◌, cond, List, [], ◌∷◌, ◌++◌, Option, Some, None, length, get_or, take, map, refl, sym, ap, ◌∙◌}
+use Rattle.std.proofs.Common.{◌≡◌, ℕ, ◌+◌, ◌<◌, Bool, true, false, ◌||◌, cond, List, [], ◌∷◌, ◌++◌, Option, Some, None, length, get_or, take, refl, sym, ap, ◌∙◌}
 use Rattle.std.proofs.lemmas.List.{take_more}
 use Rattle.std.proofs.lemmas.List.Recursion.{or_push}
-use Rattle.powerbox_match.specs.declared.value.Descriptor.{Descriptor}
+use Rattle.powerbox_match.specs.declared.descriptor.Descriptor.{Descriptor}
 use Rattle.powerbox_match.specs.declared.value.Quality.{Quality}
 use Rattle.powerbox_match.specs.declared.value.Quality.TheVariants.{Acceptable, Preferred, Unacceptable}
-use Rattle.powerbox_match.specs.Descriptor.{DescriptorData, descriptor_view}
-use Rattle.powerbox_match.specs.Matching.{matches_with, some_match, strongest, stronger}
+use Rattle.powerbox_match.specs.Descriptor.{DescriptorData}
+use Rattle.powerbox_match.specs.Matching.{matches_with, some_match}
+use Rattle.powerbox_match.specs.MatchingSteps.{strongest, stronger}
 
 -- the strongest, by which qualities occur
 abbrev pick : Bool → Bool → Bool → Option Quality
@@ -28,15 +29,15 @@ pick-or false false true false false false = refl
 pick-or false false false d e f = refl
 
 some_match_more : (quality : Quality) (offers : List DescriptorData) (xs : List Descriptor) (i : ℕ) (x : Descriptor) → i < length xs → x ≡ get_or xs i x
-    → some_match quality (map descriptor_view (take (i + 1) xs)) offers ≡ (some_match quality (map descriptor_view (take i xs)) offers || matches_with quality (descriptor_view x) offers)
+    → some_match quality (take (i + 1) xs) offers ≡ (some_match quality (take i xs) offers || matches_with quality x offers)
 some_match_more quality offers xs i x within is =
-    let F : List Descriptor → Bool = λ ys. some_match quality (map descriptor_view ys) offers in
-    ap F (take_more xs i x within ∙ ap (λ (y : Descriptor). take i xs ++ y ∷ []) (sym is)) ∙ or_push F (λ y. matches_with quality (descriptor_view y) offers) refl (λ _ _. refl) (take i xs) x
+    let F : List Descriptor → Bool = λ ys. some_match quality ys offers in
+    ap F (take_more xs i x within ∙ ap (λ (y : Descriptor). take i xs ++ y ∷ []) (sym is)) ∙ or_push F (λ y. matches_with quality y offers) refl (λ _ _. refl) (take i xs) x
 
 -- the strongest quality with one more descriptor is the stronger of that so far and of the descriptor's own
 pub strongest_more : (offers : List DescriptorData) (xs : List Descriptor) (i : ℕ) (x : Descriptor) → i < length xs → x ≡ get_or xs i x
-    → strongest (λ q. some_match q (map descriptor_view (take (i + 1) xs)) offers) ≡ stronger (strongest (λ q. some_match q (map descriptor_view (take i xs)) offers)) (strongest (λ q. matches_with q (descriptor_view x) offers))
+    → strongest (λ q. some_match q (take (i + 1) xs) offers) ≡ stronger (strongest (λ q. some_match q (take i xs) offers)) (strongest (λ q. matches_with q x offers))
 strongest_more offers xs i x within is =
     rw (some_match_more Unacceptable offers xs i x within is, some_match_more Preferred offers xs i x within is, some_match_more Acceptable offers xs i x within is)
-    (pick-or (some_match Unacceptable (map descriptor_view (take i xs)) offers) (some_match Preferred (map descriptor_view (take i xs)) offers) (some_match Acceptable (map descriptor_view (take i xs)) offers)
-    (matches_with Unacceptable (descriptor_view x) offers) (matches_with Preferred (descriptor_view x) offers) (matches_with Acceptable (descriptor_view x) offers))
+    (pick-or (some_match Unacceptable (take i xs) offers) (some_match Preferred (take i xs) offers) (some_match Acceptable (take i xs) offers)
+    (matches_with Unacceptable x offers) (matches_with Preferred x offers) (matches_with Acceptable x offers))

@@ -1,6 +1,7 @@
-pub mod Text
 pub mod Value
 pub mod Descriptor
+pub mod Code
 pub mod Matching
+pub mod MatchingSteps
 pub mod Choices
 pub mod Shape

@@ -1,13 +1,11 @@
 -- When a query matches offers, and with which quality.
-use Rattle.std.specs.Prelude.{ℕ, ◌&&◌, ◌||◌, ◌==◌, Bool, true, false, List, [], ◌∷◌, Option, Some, None, if◌then◌else◌}
+use Rattle.std.specs.Prelude.{ℕ, ◌&&◌, ◌||◌, ◌==◌, Bool, true, false, List, Option, Some, None, if◌then◌else◌}
 use Rattle.std.specs.List.{list_any, list_all}
 use Rattle.std.specs.Option.{option_map_or}
-use Rattle.std.specs.Ordering.{nat_cmp, is_lt, int_eq}
-use Rattle.std.specs.Cmp.Lexicographic.{slice_cmp}
+use Rattle.std.specs.Ordering.{int_eq}
 use Rattle.std.specs.Str.{bytes_eq}
 use Rattle.powerbox_match.specs.declared.value.Quality.{Quality}
 use Rattle.powerbox_match.specs.declared.value.Quality.TheVariants.{Acceptable, Preferred, Unacceptable}
-use Rattle.powerbox_match.specs.declared.value.TagValue.{TagValue}
 use Rattle.powerbox_match.specs.Value.{TagData, any, number, text, fields, items, FieldsData, no_fields, field, ItemsData, no_items, item}
 use Rattle.powerbox_match.specs.Descriptor.{DescriptorData}
 
@@ -15,11 +13,6 @@ use Rattle.powerbox_match.specs.Descriptor.{DescriptorData}
 abbrev pub get_field : List ℕ → FieldsData → Option TagData
 get_field name no_fields = None
 get_field name (field next v fs) = if bytes_eq name next then Some v else get_field name fs
-
--- the fields without those in front whose names are below a name
-abbrev pub fields_from : List ℕ → List (List ℕ × TagValue) → List (List ℕ × TagValue)
-fields_from name [] = []
-fields_from name (f ∷ fs) = if is_lt (slice_cmp nat_cmp f.0 name) then fields_from name fs else f ∷ fs
 
 -- whether an item passes a test
 abbrev pub any_item : (TagData → Bool) → ItemsData → Bool
@@ -76,19 +69,6 @@ matches_with quality query offers = list_any (λ offer. descriptor_matches query
 -- whether some descriptor of a query matches some offer with a quality
 abbrev pub some_match : Quality → List DescriptorData → List DescriptorData → Bool
 some_match quality query offers = list_any (λ wanted. matches_with quality wanted offers) query
-
--- of the qualities that occur, the strongest: unacceptable before preferred before acceptable
-abbrev pub strongest : (Quality → Bool) → Option Quality
-strongest occurs =
-    if occurs Unacceptable then Some Unacceptable
-    else (if occurs Preferred then Some Preferred
-    else (if occurs Acceptable then Some Acceptable else None))
-
--- the stronger of two qualities, either of which may be missing
-abbrev pub stronger : Option Quality → Option Quality → Option Quality
-stronger None other = other
-stronger (Some one) None = Some one
-stronger (Some one) (Some other) = Some (pair_quality one other)
 
 -- the quality with which a query matches offers: none where a pair that matches is unacceptable or no pair
 -- matches, else preferred where a pair that matches is, else acceptable

@@ -9,7 +9,7 @@ use Rattle.powerbox_match.specs.declared.fault.ShapeFault.{ShapeFault}
 use Rattle.powerbox_match.specs.declared.fault.ShapeFault.TheVariants.{BadShape, TooDeep, TooManyTags}
 use Rattle.powerbox_match.specs.declared.value.Quality.{Quality}
 use Rattle.powerbox_match.specs.declared.value.Quality.TheVariants.{Acceptable, Preferred, Unacceptable}
-use Rattle.powerbox_match.specs.Text.{is_text, text_of}
+use Rattle.plain_data.specs.Name.{is_plain}
 use Rattle.powerbox_match.specs.Value.{TagData, any, number, text, fields, items, FieldsData, no_fields, field, ItemsData, no_items, item}
 use Rattle.powerbox_match.specs.Descriptor.{DescriptorData}
 
@@ -30,6 +30,10 @@ abbrev mutual
   pub json_members_nesting : Members → ℕ
   json_members_nesting Members.no_members = 0
   json_members_nesting (Members.member k d ms) = max (json_nesting d) (json_members_nesting ms)
+
+-- the text of a tag that bytes are, if they have the form of a name
+abbrev pub text_of : List ℕ → Option (List ℕ)
+text_of bytes = if is_plain bytes then Some bytes else None
 
 -- two parts put together, where both are there
 abbrev pub map_both : {A B C : Type 0} → (A → B → C) → Option A → Option B → Option C
@@ -54,7 +58,7 @@ abbrev mutual
 
   pub stated_fields : Members → Option FieldsData
   stated_fields Members.no_members = Some no_fields
-  stated_fields (Members.member k d ms) = if is_text k then map_both (field k) (value_of d) (stated_fields ms) else None
+  stated_fields (Members.member k d ms) = if is_plain k then map_both (field k) (value_of d) (stated_fields ms) else None
 
 -- the value of a tag, which is anything where none is stated
 abbrev pub value_or_any : Option Data → Option TagData

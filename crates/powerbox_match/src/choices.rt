@@ -2,9 +2,10 @@
 
 ghost use Rattle.std.specs.Prelude.{◌≡◌, ◌≢◌, ◌≤◌, [], length, insert, All, IsTrue, OnOk, OnErr, IfErr};
 
+use crate::descriptor::{Descriptor, Query};
 use crate::fault::ShapeFault;
 use crate::matching::matches;
-use crate::value::{Descriptor, Quality, Query};
+use crate::value::Quality;
 use std::alloc::Global;
 use std::marker::Model;
 
@@ -67,7 +68,6 @@ impl Model for Choices {
 }
 
 impl Choices {
-    ghost use Rattle.powerbox_match.specs.Descriptor.{offers_view, query_view};
     ghost use Rattle.powerbox_match.specs.Matching.{match_of};
     ghost use Rattle.powerbox_match.specs.Choices.{is_in_order, choices_after};
 
@@ -86,8 +86,7 @@ impl Choices {
     pub fn add(&mut self, query: &Query, num: u32, offers: &[Descriptor]) -> Result<(), ShapeFault>
         requires { All (λ choice. choice.num ≢ num) self.old }
         ensures ok { OnOk result
-            (self.new ≡ choices_after (match_of (query_view query.now) (offers_view offers.now))
-            num self.old) }
+            (self.new ≡ choices_after (match_of query.now offers.now) num self.old) }
         ensures err { OnErr result (self.new ≡ self.old) }
         ensures memory { IfErr result (λ fault. fault ≡ ShapeFault.Memory) }
     {

@@ -1,12 +1,13 @@
 //! When a query matches offers, and with which quality.
 
-ghost use Rattle.std.specs.Prelude.{◌≡◌, IsTrue, map, option_map};
+ghost use Rattle.std.specs.Prelude.{◌≡◌, IsTrue, option_map};
 ghost use Rattle.powerbox_match.specs.Value.{is_tidy, is_ascending, are_fields_tidy, are_items_tidy, tag_data, fields_data, items_data};
-ghost use Rattle.powerbox_match.specs.Descriptor.{tag_view, descriptor_view, offers_view, query_view};
-ghost use Rattle.powerbox_match.specs.Matching.{value_matches, fields_match, fields_from, get_field, items_match, any_item, tag_matches, descriptor_matches, pair_quality, matches_with, strongest, stronger, match_of};
+ghost use Rattle.powerbox_match.specs.Matching.{value_matches, fields_match, get_field, items_match, any_item, tag_matches, descriptor_matches, pair_quality, matches_with, match_of};
+ghost use Rattle.powerbox_match.specs.MatchingSteps.{fields_from, strongest, stronger};
 
-use crate::text::TagText;
-use crate::value::{Descriptor, Quality, Query, Tag, TagValue};
+use crate::descriptor::{Descriptor, Query, Tag};
+use crate::value::{Quality, TagValue};
+use plain_data::Name;
 
 #[cycle(matching)]
 fn value_matches(wanted: &TagValue, given: &TagValue) -> bool
@@ -27,7 +28,7 @@ fn value_matches(wanted: &TagValue, given: &TagValue) -> bool
 
 // Both lists ascend, so one walk over the two is enough.
 #[cycle(matching)]
-fn fields_match(wanted: &[(TagText, TagValue)], given: &[(TagText, TagValue)]) -> bool
+fn fields_match(wanted: &[(Name, TagValue)], given: &[(Name, TagValue)]) -> bool
     requires wanted_ascending { IsTrue (is_ascending (fields_data wanted.now)) }
     requires wanted_tidy { IsTrue (are_fields_tidy (fields_data wanted.now)) }
     requires given_ascending { IsTrue (is_ascending (fields_data given.now)) }
@@ -47,7 +48,7 @@ fn fields_match(wanted: &[(TagText, TagValue)], given: &[(TagText, TagValue)]) -
 }
 
 // The fields without those in front whose names are below a name.
-fn fields_from<'a>(name: &TagText, fields: &'a [(TagText, TagValue)]) -> &'a [(TagText, TagValue)]
+fn fields_from<'a>(name: &Name, fields: &'a [(Name, TagValue)]) -> &'a [(Name, TagValue)]
     ensures { result.now ≡ fields_from name.now fields.now }
 {
     for (place, (other, _)) in fields.iter().enumerate() {
@@ -59,7 +60,7 @@ fn fields_from<'a>(name: &TagText, fields: &'a [(TagText, TagValue)]) -> &'a [(T
 }
 
 // The value of the field with a name, among fields that begin there.
-fn first_named<'a>(name: &TagText, fields: &'a [(TagText, TagValue)]) -> Option<&'a TagValue>
+fn first_named<'a>(name: &Name, fields: &'a [(Name, TagValue)]) -> Option<&'a TagValue>
     requires ascending { IsTrue (is_ascending (fields_data fields.now)) }
     requires from_there { fields_from name.now fields.now ≡ fields.now }
     ensures { option_map (λ v. tag_data v.now) result
@@ -105,10 +106,10 @@ fn some_item_matches(wanted: &TagValue, given: &[TagValue]) -> bool
 }
 
 fn tag_matches(wanted: &Tag, given: &[Tag]) -> bool
-    ensures { result ≡ tag_matches (tag_view wanted.now) (map tag_view given.now) }
+    ensures { result ≡ tag_matches wanted.now given.now }
 {
     for tag in given {
-        if tag.id == wanted.id && value_matches(&wanted.value, &tag.value) {
+        if tag.id() == wanted.id() && value_matches(wanted.value(), tag.value()) {
             return true;
         }
     }
@@ -116,10 +117,10 @@ fn tag_matches(wanted: &Tag, given: &[Tag]) -> bool
 }
 
 fn descriptor_matches(wanted: &Descriptor, given: &Descriptor) -> bool
-    ensures { result ≡ descriptor_matches (descriptor_view wanted.now) (descriptor_view given.now) }
+    ensures { result ≡ descriptor_matches wanted.now given.now }
 {
-    for tag in &wanted.tags {
-        if !tag_matches(tag, &given.tags) {
+    for tag in wanted.tags() {
+        if !tag_matches(tag, given.tags()) {
             return false;
         }
     }
@@ -129,12 +130,12 @@ fn descriptor_matches(wanted: &Descriptor, given: &Descriptor) -> bool
 // The strongest quality with which a descriptor matches some offer.
 fn strongest_match(wanted: &Descriptor, offers: &[Descriptor]) -> Option<Quality>
     ensures { result ≡ strongest
-        (λ quality. matches_with quality (descriptor_view wanted.now) (offers_view offers.now)) }
+        (λ quality. matches_with quality wanted.now offers.now) }
 {
     let mut found = None;
     for offer in offers {
         if descriptor_matches(wanted, offer) {
-            found = stronger(found, Some(pair_quality(wanted.quality, offer.quality)));
+            found = stronger(found, Some(pair_quality(wanted.quality(), offer.quality())));
         }
     }
     found
@@ -145,10 +146,10 @@ fn strongest_match(wanted: &Descriptor, offers: &[Descriptor]) -> Option<Quality
 /// It is none where no pair of a query's descriptor and an offer matches, or where a pair that
 /// matches is unacceptable, else preferred where a pair that matches is, else acceptable.
 pub fn matches(query: &Query, offers: &[Descriptor]) -> Option<Quality>
-    ensures { result ≡ match_of (query_view query.now) (offers_view offers.now) }
+    ensures { result ≡ match_of query.now offers.now }
 {
     let mut found = None;
-    for wanted in &query.descriptors {
+    for wanted in query.as_slice() {
         found = stronger(found, strongest_match(wanted, offers));
     }
     match found {

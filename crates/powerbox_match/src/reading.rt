@@ -4,15 +4,15 @@ ghost use Rattle.std.specs.Prelude.{◌≡◌, ◌≢◌, ◌≤◌, Some, None,
 ghost use Rattle.serde_json.specs.Data.{Data};
 ghost use Rattle.serde_json.specs.View.{view, items_view, members_view};
 ghost use Rattle.powerbox_match.specs.Value.{TagData, is_tidy, tag_data, fields_data, items_data};
-ghost use Rattle.powerbox_match.specs.Shape.{json_nesting, json_items_nesting, json_members_nesting, value_of};
+ghost use Rattle.powerbox_match.specs.Shape.{json_nesting, json_items_nesting, json_members_nesting, text_of, value_of};
 
 use crate::fault::ShapeFault;
-use crate::text::TagText;
 use crate::value::TagValue;
+use plain_data::Name;
 use serde_json::{Map, Value};
-use std::alloc::Global;
+use std::alloc::{AllocError, Global};
 
-const MAX_ENTRIES: usize = 1000;
+const ENTRY_LIMIT: usize = 1000;
 
 // A value that states none is a fault of `tags`.
 const BAD_TAG: ShapeFault = ShapeFault::BadShape(1);
@@ -32,7 +32,7 @@ pub(crate) fn value_from(alloc: Global, value: &Value) -> Result<TagValue, Shape
             Some(whole) => Ok(TagValue::Number(whole)),
             None => Err(BAD_TAG),
         },
-        Value::String(text) => match TagText::from_str(alloc, text.as_str())? {
+        Value::String(text) => match text_from(alloc, text.as_str())? {
             Some(text) => Ok(TagValue::Text(text)),
             None => Err(BAD_TAG),
         },
@@ -50,7 +50,7 @@ fn items_from(alloc: Global, items: &[Value]) -> Result<Vec<TagValue>, ShapeFaul
     ensures fault { IfErr result (λ e. e ≢ ShapeFault.Memory
         → (e ≡ ShapeFault.BadShape 1) × (value_of (Data.array (items_view items.now)) ≡ None)) }
 {
-    if items.len() > MAX_ENTRIES {
+    if items.len() > ENTRY_LIMIT {
         return Err(BAD_TAG);
     }
     let mut values = Vec::new(alloc);
@@ -64,7 +64,7 @@ fn items_from(alloc: Global, items: &[Value]) -> Result<Vec<TagValue>, ShapeFaul
 fn fields_from(
     alloc: Global,
     members: &Map<String, Value>,
-) -> Result<Vec<(TagText, TagValue)>, ShapeFault>
+) -> Result<Vec<(Name, TagValue)>, ShapeFault>
     requires { json_members_nesting (members_view members.now.entries) ≤ 16 }
     ensures ok { IfOk result (λ v. value_of (Data.object (members_view members.now.entries))
         ≡ Some (TagData.fields (fields_data v.items))) }
@@ -73,15 +73,27 @@ fn fields_from(
         → (e ≡ ShapeFault.BadShape 1)
         × (value_of (Data.object (members_view members.now.entries)) ≡ None)) }
 {
-    if members.len() > MAX_ENTRIES {
+    if members.len() > ENTRY_LIMIT {
         return Err(BAD_TAG);
     }
     let mut fields = Vec::new(alloc);
     for (name, member) in members.iter() {
-        let Some(name) = TagText::from_str(alloc, name.as_str())? else {
+        let Some(name) = text_from(alloc, name.as_str())? else {
             return Err(BAD_TAG);
         };
         fields.push((name, value_from(alloc, member)?))?;
     }
     Ok(fields)
+}
+
+fn text_from(alloc: Global, text: &str) -> Result<Option<Name>, AllocError>
+    ensures { IfOk result (λ found. found ≡ text_of text.now) }
+{
+    match Name::from_str(alloc, text)? {
+        Some(name) => {
+            let _form = name.as_str();
+            Ok(Some(name))
+        }
+        None => Ok(None),
+    }
 }

@@ -1,23 +1,22 @@
 //! The descriptor and the query that a JSON value states.
 
-ghost use Rattle.std.specs.Prelude.{◌≡◌, ◌≢◌, ◌≤◌, codes, map, length, Some, None, Ok, Err, IsTrue, IfOk, IfErr, option_map};
+ghost use Rattle.std.specs.Prelude.{◌≡◌, ◌≢◌, ◌≤◌, codes, length, Some, None, Ok, Err, IsTrue, IfOk, IfErr, option_map};
 ghost use Rattle.std.specs.Option.{option_map_or, ok_or};
 ghost use Rattle.serde_json.specs.Find.{get, as_array};
 ghost use Rattle.serde_json.specs.View.{view, items_view};
 ghost use Rattle.powerbox_match.specs.Value.{tag_data, is_tidy};
-ghost use Rattle.powerbox_match.specs.Descriptor.{tag_view, descriptor_view, query_view};
 ghost use Rattle.powerbox_match.specs.Shape.{json_nesting, tag_nesting, value_or_any, tag_of, tag_list, tags_or_fault, quality_named, quality_or_fault, descriptor_of, query_of};
 
 use crate::depth::values_nest_within;
+use crate::descriptor::{DESCRIPTOR_TAG_LIMIT, Descriptor, Query, Tag};
 use crate::fault::ShapeFault;
 use crate::reading::value_from;
-use crate::value::{Descriptor, Quality, Query, Tag, TagValue};
+use crate::value::{Quality, TagValue};
+use plain_data::List;
 use serde_json::Value;
 use std::alloc::Global;
 
-const MAX_DEPTH: usize = 16;
-
-const MAX_TAGS: usize = 32;
+const VALUE_DEPTH_LIMIT: usize = 16;
 
 // The numbers of the fields, as faults name them.
 const BAD_QUERY: ShapeFault = ShapeFault::BadShape(0);
@@ -31,7 +30,7 @@ const BAD_QUALITY: ShapeFault = ShapeFault::BadShape(2);
 /// A fault is that of the first descriptor that has one, or `BadShape(0)` for a value that is no
 /// list. Want of memory may come in place of any answer.
 pub fn query_from(alloc: Global, value: &Value) -> Result<Query, ShapeFault>
-    ensures ok { IfOk result (λ query. query_of (view value.now) ≡ Ok (query_view query)) }
+    ensures ok { IfOk result (λ query. query_of (view value.now) ≡ Ok query) }
     ensures fault { IfErr result (λ fault. fault ≢ ShapeFault.Memory
         → query_of (view value.now) ≡ Err fault) }
 {
@@ -42,7 +41,7 @@ pub fn query_from(alloc: Global, value: &Value) -> Result<Query, ShapeFault>
     for item in items {
         descriptors.push(descriptor_from(alloc, item)?)?;
     }
-    Ok(Query { descriptors })
+    Ok(List::new(descriptors))
 }
 
 /// The descriptor that a JSON value states.
@@ -52,18 +51,18 @@ pub fn query_from(alloc: Global, value: &Value) -> Result<Query, ShapeFault>
 /// memory may come in place of any answer.
 pub fn descriptor_from(alloc: Global, value: &Value) -> Result<Descriptor, ShapeFault>
     ensures ok { IfOk result
-        (λ descriptor. descriptor_of (view value.now) ≡ Ok (descriptor_view descriptor)) }
+        (λ descriptor. descriptor_of (view value.now) ≡ Ok descriptor) }
     ensures fault { IfErr result (λ fault. fault ≢ ShapeFault.Memory
         → descriptor_of (view value.now) ≡ Err fault) }
 {
     let tags = tags_from(alloc, value)?;
     let quality = quality_from(value)?;
-    Ok(Descriptor { tags, quality })
+    Ok(Descriptor::new(tags, quality))
 }
 
 fn tags_from(alloc: Global, value: &Value) -> Result<Vec<Tag>, ShapeFault>
     ensures ok { IfOk result
-        (λ tags. tags_or_fault (tag_list (view value.now)) ≡ Ok (map tag_view tags.items)) }
+        (λ tags. tags_or_fault (tag_list (view value.now)) ≡ Ok tags.items) }
     ensures few { IfOk result (λ tags. length tags.items ≤ 32) }
     ensures fault { IfErr result (λ fault. fault ≢ ShapeFault.Memory
         → tags_or_fault (tag_list (view value.now)) ≡ Err fault) }
@@ -71,10 +70,10 @@ fn tags_from(alloc: Global, value: &Value) -> Result<Vec<Tag>, ShapeFault>
     let Some(items) = tag_list(value) else {
         return Err(BAD_TAGS);
     };
-    if !values_nest_within(items, MAX_DEPTH) {
+    if !values_nest_within(items, VALUE_DEPTH_LIMIT) {
         return Err(ShapeFault::TooDeep);
     }
-    if items.len() > MAX_TAGS {
+    if items.len() > DESCRIPTOR_TAG_LIMIT {
         return Err(ShapeFault::TooManyTags);
     }
     let mut tags = Vec::new(alloc);
@@ -92,7 +91,7 @@ fn tag_list(value: &Value) -> Option<&Vec<Value>>
 
 fn tag_from(alloc: Global, item: &Value) -> Result<Tag, ShapeFault>
     requires { tag_nesting (view item.now) ≤ 16 }
-    ensures ok { IfOk result (λ tag. tag_of (view item.now) ≡ Some (tag_view tag)) }
+    ensures ok { IfOk result (λ tag. tag_of (view item.now) ≡ Some tag) }
     ensures fault { IfErr result (λ fault. fault ≢ ShapeFault.Memory
         → (fault ≡ ShapeFault.BadShape 1) × (tag_of (view item.now) ≡ None)) }
 {
@@ -100,7 +99,7 @@ fn tag_from(alloc: Global, item: &Value) -> Result<Tag, ShapeFault>
         return Err(BAD_TAGS);
     };
     let value = stated_or_any(alloc, item.get("value"))?;
-    Ok(Tag { id, value })
+    Ok(Tag::new(id, value))
 }
 
 fn stated_or_any(alloc: Global, value: Option<&Value>) -> Result<TagValue, ShapeFault>

@@ -2,7 +2,8 @@ use Rattle.std.proofs.Common.{rules, ◌≡◌, true, false, None, ◌≤◌, re
 use Rattle.powerbox_match.specs.declared.value.TagValue.TheViews.{the_lemmas}
 use Rattle.powerbox_match.proofs.Views.{tag_data-Fields}
 use Rattle.powerbox_match.specs.Value.{nesting, fields_nesting, items_nesting, are_fields_tidy, tag_data, fields_data, items_data}
-use Rattle.powerbox_match.specs.Matching.{get_field, value_matches, fields_from, items_match, any_item}
+use Rattle.powerbox_match.specs.Matching.{get_field, value_matches, items_match, any_item}
+use Rattle.powerbox_match.specs.MatchingSteps.{fields_from}
 use Rattle.powerbox_match.proofs.Tidy.{items_tidy_at, fields_tidy_at, items_nesting_at, fields_nesting_at}
 use Rattle.powerbox_match.proofs.Merge.{is_met, fields_match_more, get_field_tidy, fields_from_again, is_ascending-fields_from, are_fields_tidy-fields_from}
 use Rattle.powerbox_match.proofs.Steps.{and_more}

@@ -1,5 +1,5 @@
 use Rattle.std.proofs.Common.{◌≡◌, drop}
-use Rattle.powerbox_match.specs.Matching.{fields_from}
+use Rattle.powerbox_match.specs.MatchingSteps.{fields_from}
 use Rattle.powerbox_match.proofs.matching.fields_from.Given as goal
 
 abbrev pub invariant-loop-place : goal.invariant-loop-place

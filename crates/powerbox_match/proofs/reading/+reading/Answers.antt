@@ -3,9 +3,9 @@ use Rattle.std.proofs.lemmas.List.{take_all}
 use Rattle.std.proofs.lemmas.Result.{err_from_is_err_and}
 use Rattle.serde_json.specs.View.{view, items_view, members_view}
 use Rattle.serde_json.proofs.Views.{Entry}
-use Rattle.powerbox_match.specs.Text.{is_text, text_of}
+use Rattle.plain_data.specs.Name.{is_plain}
 use Rattle.powerbox_match.specs.Value.{items_data, fields_data}
-use Rattle.powerbox_match.specs.Shape.{json_nesting, json_items_nesting, json_members_nesting, stated_items, stated_fields}
+use Rattle.powerbox_match.specs.Shape.{json_nesting, json_items_nesting, json_members_nesting, text_of, stated_items, stated_fields}
 use Rattle.powerbox_match.proofs.Nesting.{item_nests_at_most, member_nests_at_most}
 use Rattle.powerbox_match.proofs.Tidy.{Entry as Field}
 use Rattle.powerbox_match.proofs.Stated.{stated_items_more, are_items_tidy-push, stated_items_none, stated_fields-push, are_fields_tidy-push, stated_fields_none, no_field_by_name, no_field_by_value}
@@ -24,8 +24,8 @@ fields_from-value_from-requires t c =
     let here : json_nesting (view c.in-Some.member.now) ≤ json_members_nesting (members_view c.args.members.now.entries) = rw all (member_nests_at_most c.loop-name.invariant.done e c.next.new.self) in
     (omega arith, omega arith)
 
-pub items_from-returns-then-items-gt-MAX_ENTRIES-clause-fault : goal.items_from-returns-then-items-gt-MAX_ENTRIES-clause-fault
-items_from-returns-then-items-gt-MAX_ENTRIES-clause-fault t c = λ other. (refl, array_too_long c.args.items.now (omega arith))
+pub items_from-returns-then-items-gt-ENTRY_LIMIT-clause-fault : goal.items_from-returns-then-items-gt-ENTRY_LIMIT-clause-fault
+items_from-returns-then-items-gt-ENTRY_LIMIT-clause-fault t c = λ other. (refl, array_too_long c.args.items.now (omega arith))
 
 pub items_from-returns-in_err-value_from-clause-fault : goal.items_from-returns-in_err-value_from-clause-fault
 items_from-returns-in_err-value_from-clause-fault t c =
@@ -59,8 +59,8 @@ items_from-returns-clause-tidy t c =
     let stated : stated_items (items_view ds) ≡ Some (items_data vs) = rw all at c.loop-item.invariant.stated in
     array_tidy ds vs (omega arith) stated c.loop-item.invariant.tidy
 
-pub fields_from-returns-then-len-gt-MAX_ENTRIES-clause-fault : goal.fields_from-returns-then-len-gt-MAX_ENTRIES-clause-fault
-fields_from-returns-then-len-gt-MAX_ENTRIES-clause-fault t c =
+pub fields_from-returns-then-len-gt-ENTRY_LIMIT-clause-fault : goal.fields_from-returns-then-len-gt-ENTRY_LIMIT-clause-fault
+fields_from-returns-then-len-gt-ENTRY_LIMIT-clause-fault t c =
     let len : c.len.result ≡ length c.args.members.now.entries = search rules in
     λ other. (refl, object_too_long c.args.members.now.entries (omega arith))
 
@@ -69,7 +69,7 @@ fields_from-returns-in_default-clause-fault t c =
     let e : Entry = (c.in-Some.name.now, c.in-Some.member.now) in
     let more = c.next.new.self in
     let all : c.args.members.now.entries ≡ c.loop-name.invariant.done ++ e ∷ more = c.loop-name.invariant.all ∙ ap (λ es. c.loop-name.invariant.done ++ es) c.in-Some.ensures.steps in
-    let bad : is_text (string_bytes e.0) ≡ false = no_text (string_bytes e.0) (ap text_of (sym c.as_str.ensures.value) ∙ sym c.in_ok-name.ensures ∙ c.in_default.is) in
+    let bad : is_plain (string_bytes e.0) ≡ false = no_text (string_bytes e.0) (ap text_of (sym c.as_str.ensures.value) ∙ sym c.in_ok-name.ensures ∙ c.in_default.is) in
     λ other. (refl, object_none (members_view c.args.members.now.entries) (rw all (stated_fields_none c.loop-name.invariant.done e more (no_field_by_name e more bad))))
 
 pub fields_from-returns-in_err-value_from-clause-fault : goal.fields_from-returns-in_err-value_from-clause-fault

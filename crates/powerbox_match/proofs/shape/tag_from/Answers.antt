@@ -7,11 +7,8 @@ use Rattle.powerbox_match.specs.Shape.{value_or_any}
 use Rattle.powerbox_match.proofs.Nesting.{nesting-value_or_any}
 use Rattle.powerbox_match.proofs.shape.tag_from.Goals as goal
 
-pub invariant_of-result : goal.invariant_of-result
-invariant_of-result c =
+pub new-requires-clause-shallow : goal.new-requires-clause-shallow
+new-requires-clause-shallow c =
     let found = get (codes "value") (view c.args.item.now) in
     let stated : value_or_any found ≡ Some (tag_data c.in_ok-value.value) = ap value_or_any (sym c.get-2.ensures) ∙ c.in_ok-value.ensures.ok in
-    record {
-      shallow = nesting-value_or_any found (tag_data c.in_ok-value.value) c.requires stated;
-      tidy = c.in_ok-value.ensures.tidy;
-    }
+    nesting-value_or_any found (tag_data c.in_ok-value.value) c.requires stated

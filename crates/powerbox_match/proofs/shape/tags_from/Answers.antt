@@ -1,15 +1,14 @@
-use Rattle.std.proofs.Common.{◌≡◌, ◌≤◌, [], ◌∷◌, Some, None, Err, length-append, map, take, sym, ap, ◌∙◌, arith}
+use Rattle.std.proofs.Common.{◌≡◌, ◌≤◌, [], ◌∷◌, Some, None, Err, length-append, take, sym, ap, ◌∙◌, arith}
 use Rattle.std.proofs.lemmas.List.{take_all}
 use Rattle.std.proofs.lemmas.Result.{err_from_is_err_and}
 use Rattle.serde_json.specs.View.{items_view}
-use Rattle.powerbox_match.specs.Descriptor.{tag_view}
 use Rattle.powerbox_match.specs.Shape.{deepest_value, tags_of, tags_or_fault}
 use Rattle.powerbox_match.proofs.Nesting.{nests_at_most}
 use Rattle.powerbox_match.proofs.Listed.{tags_of_more, tags_of_none, tags_stated, tags_bad, tags_too_many, at_most_from_leb}
 use Rattle.powerbox_match.proofs.shape.tags_from.Goals as goal
 
-pub returns-then-len-gt-MAX_TAGS-clause-fault : goal.returns-then-len-gt-MAX_TAGS-clause-fault
-returns-then-len-gt-MAX_TAGS-clause-fault c =
+pub returns-then-len-gt-DESCRIPTOR_TAG_LIMIT-clause-fault : goal.returns-then-len-gt-DESCRIPTOR_TAG_LIMIT-clause-fault
+returns-then-len-gt-DESCRIPTOR_TAG_LIMIT-clause-fault c =
     let ds = c.in-Some.items.now.items in
     let shallow : deepest_value (items_view ds) ≤ 16 = at_most_from_leb (deepest_value (items_view ds)) 16 (rw (← c.deref.ensures.value) (sym c.values_nest_within.ensures ∙ c.if-not-values_nest_within.false)) in
     λ other. ap tags_or_fault (sym c.in-Some.ensures) ∙ tags_too_many ds shallow (omega arith)
@@ -47,5 +46,5 @@ returns-clause-ok c =
     let ds = c.in-Some.items.now.items in
     let shallow : deepest_value (items_view ds) ≤ 16 = at_most_from_leb (deepest_value (items_view ds)) 16 (rw (← c.deref.ensures.value) (sym c.values_nest_within.ensures ∙ c.if-not-values_nest_within.false)) in
     let all : take c.loop-item.item-index c.deref-item-items.result.now ≡ ds = take_all c.loop-item.item-index c.deref-item-items.result.now (omega arith) ∙ c.deref-item-items.ensures.value in
-    let stated : tags_of (items_view ds) ≡ Some (map tag_view c.loop-item.tags.items) = rw all at c.loop-item.invariant.stated in
-    ap tags_or_fault (sym c.in-Some.ensures) ∙ tags_stated ds (map tag_view c.loop-item.tags.items) shallow (omega arith) stated
+    let stated : tags_of (items_view ds) ≡ Some c.loop-item.tags.items = rw all at c.loop-item.invariant.stated in
+    ap tags_or_fault (sym c.in-Some.ensures) ∙ tags_stated ds c.loop-item.tags.items shallow (omega arith) stated

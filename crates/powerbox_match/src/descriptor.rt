@@ -1,0 +1,137 @@
+//! Tags, descriptors and queries, each within its limits.
+
+ghost use Rattle.std.specs.Prelude.{◌≡◌, ◌≤◌, IsTrue, length};
+ghost use Rattle.powerbox_match.specs.Value.{nesting, is_tidy, tag_data};
+
+use crate::value::{Quality, TagValue};
+use plain_data::List;
+use std::alloc::AllocError;
+use std::marker::Model;
+
+/// The most tags that a descriptor has.
+pub const DESCRIPTOR_TAG_LIMIT: usize = 32;
+
+/// A statement about an object: an id that says what is stated, and a value.
+///
+/// The value nests at most 16 deep, each list in it has at most 1,000 entries, and the names of
+/// fields ascend by their bytes, so that none stands twice.
+#[derive(Drop)]
+pub struct Tag {
+    id: u64,
+    value: TagValue,
+}
+
+impl Model for Tag {
+    ghost use Rattle.std.specs.Prelude.{ℕ, ◌≤◌, IsTrue};
+    ghost use Rattle.std.specs.Coded.{coded×, coded_ℕ};
+    ghost use Rattle.powerbox_match.specs.Value.{TagData, tag_data, nesting, is_tidy};
+    ghost use Rattle.powerbox_match.specs.Code.{value_code};
+
+    ghost Value = { ℕ × TagData };
+
+    ghost coded = { coded× coded_ℕ value_code };
+
+    ghost view = { λ tag. (tag.id, tag_data tag.value) };
+
+    ghost invariant = { λ tag. (nesting (tag_data tag.value) ≤ 16) × IsTrue (is_tidy (tag_data tag.value)) };
+}
+
+impl Tag {
+    /// The tag of an id and a value that is within the limits of a tag.
+    pub fn new(id: u64, value: TagValue) -> Self
+        requires shallow { nesting (tag_data value) ≤ 16 }
+        requires tidy { IsTrue (is_tidy (tag_data value)) }
+        ensures { result ≡ (id, tag_data value) }
+    {
+        Tag { id, value }
+    }
+
+    /// The id, which says what the tag states.
+    pub fn id(&self) -> u64
+        ensures { result ≡ self.now.0 }
+    {
+        self.id
+    }
+
+    /// The value, which is within the limits of a tag.
+    pub fn value(&self) -> &TagValue
+        ensures value { tag_data result.now ≡ self.now.1 }
+        ensures shallow { nesting self.now.1 ≤ 16 }
+        ensures tidy { IsTrue (is_tidy self.now.1) }
+    {
+        &self.value
+    }
+}
+
+impl Clone for Tag {
+    ghost is_clone = { λ tag copy. copy ≡ tag };
+
+    fn clone(&self) -> Result<Tag, AllocError> {
+        let value = self.value.clone()?;
+        Ok(Tag { id: self.id, value })
+    }
+}
+
+/// What an object is, or what is asked for: at most 32 tags, and a quality.
+#[derive(Drop)]
+pub struct Descriptor {
+    tags: Vec<Tag>,
+    quality: Quality,
+}
+
+impl Model for Descriptor {
+    ghost use Rattle.std.specs.Prelude.{◌≤◌, length};
+    ghost use Rattle.powerbox_match.specs.Descriptor.{DescriptorData};
+    ghost use Rattle.powerbox_match.specs.Code.{descriptor_code};
+
+    ghost Value = { DescriptorData };
+
+    ghost coded = { descriptor_code };
+
+    ghost view = { λ descriptor. record { tags = descriptor.tags.items; quality = descriptor.quality } };
+
+    ghost invariant = { λ descriptor. length descriptor.tags.items ≤ 32 };
+}
+
+impl Descriptor {
+    /// The descriptor of at most 32 tags and a quality.
+    pub fn new(tags: Vec<Tag>, quality: Quality) -> Self
+        requires { length tags.items ≤ 32 }
+        ensures { result ≡ record { tags = tags.items; quality = quality } }
+    {
+        Descriptor { tags, quality }
+    }
+
+    /// The tags, of which there are at most 32.
+    pub fn tags(&self) -> &[Tag]
+        ensures tags { result.now ≡ self.now.tags }
+        ensures few { length self.now.tags ≤ 32 }
+    {
+        self.tags.as_slice()
+    }
+
+    /// How well the object suits.
+    pub fn quality(&self) -> Quality
+        ensures { result ≡ self.now.quality }
+    {
+        self.quality
+    }
+}
+
+impl Clone for Descriptor {
+    ghost is_clone = { λ descriptor copy. copy ≡ descriptor };
+
+    fn clone(&self) -> Result<Descriptor, AllocError> {
+        let mut tags = Vec::with_capacity(*self.tags.allocator(), self.tags.len())?;
+        for tag in &self.tags {
+            tags.push(tag.clone()?)?;
+        }
+        Ok(Descriptor {
+            tags,
+            quality: self.quality,
+        })
+    }
+}
+
+/// Descriptors, any of which may match an offer.
+pub type Query = List<Descriptor>;
