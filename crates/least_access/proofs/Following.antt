@@ -12,7 +12,7 @@ use Rattle.share_graph.specs.declared.grants.Grant.{Grant}
 use Rattle.share_graph.specs.declared.grants.Target.{Target}
 use Rattle.share_graph.specs.declared.state.Tables.{Tables}
 use Rattle.share_graph.specs.Coherent.{IsCoherent}
-use Rattle.share_graph.specs.Derivation.{IsLive, Passes, IsOpenSite, IsMetBy, Follows}
+use Rattle.share_graph.specs.Derivation.{IsLive, LetsThrough, IsOpenSite, IsMetBy, Follows}
 use Rattle.share_graph.specs.Nodes.{node_of, node_at, source_of, source_at}
 use Rattle.share_graph.specs.Parents.{GiverFits}
 use Rattle.share_graph.specs.Rows.{IsGrant}
@@ -24,7 +24,7 @@ all_from_members P xs each = All-weaker (Contains xs) P each xs (All-contains_it
 -- what follows by a grant follows at its node, where the tables are coherent
 module _ (t : Tables) (R : Node → Fact → Type 0) (g : GrantId) (grant : Grant) where
   abbrev pub Rule : Option Node → Node → Fact → Type 0
-  Rule from at fact = MatchOption from (IsOpenSite t g grant × (at ≡ node.Grant g) × (fact ≡ Open)) (λ (n : Node). Passes t g grant fact × (at ≡ node_of g grant) × R n fact)
+  Rule from at fact = MatchOption from (IsOpenSite t g grant × (at ≡ node.Grant g) × (fact ≡ Open)) (λ (n : Node). LetsThrough t g grant fact × (at ≡ node_of g grant) × R n fact)
 
   live_by : (from : Option Node) (at : Node) (fact : Fact) → Rule from at fact → IsLive t g grant
   live_by None at fact s = s.0.is_live
@@ -39,7 +39,7 @@ module _ (t : Tables) (R : Node → Fact → Type 0) (g : GrantId) (grant : Gran
   follows_row at fact f = (live_by (source_of grant) at fact f.source).is_row
 
   -- what follows from a source
-  pub follows_source : (from at : Node) (fact : Fact) → source_of grant ≡ Some from → Follows t R g grant at fact → Passes t g grant fact × (at ≡ node_of g grant) × R from fact
+  pub follows_source : (from at : Node) (fact : Fact) → source_of grant ≡ Some from → Follows t R g grant at fact → LetsThrough t g grant fact × (at ≡ node_of g grant) × R from fact
   follows_source from at fact is f = subst (λ (o : Option Node). Rule o at fact) is f.source
 
   -- what follows of the site's own
@@ -73,7 +73,7 @@ module _ (t : Tables) (R : Node → Fact → Type 0) (g : GrantId) (grant : Gran
     source = subst (λ (o : Option Node). Rule t R g grant o at fact) (sym is) s;
   }
 
-  pub from_source : (from : Node) (fact : Fact) → source_of grant ≡ Some from → (Passes t g grant fact × R from fact) ↔ Follows t R g grant (node_of g grant) fact
+  pub from_source : (from : Node) (fact : Fact) → source_of grant ≡ Some from → (LetsThrough t g grant fact × R from fact) ↔ Follows t R g grant (node_of g grant) fact
   from_source from fact is = (
     λ h. by_rule (node_of g grant) fact (Some from) is (h.0, refl, h.1),
     λ f. let s = follows_source t R g grant from (node_of g grant) fact is f in (s.0, s.2),

@@ -5,8 +5,8 @@ ghost use Rattle.perm_roles.specs.PermSet.{Has};
 ghost use Rattle.perm_roles.specs.Roles.{Gives as AssignmentGives};
 ghost use Rattle.share_graph.specs.declared.facts.Fact.{Fact};
 ghost use Rattle.share_graph.specs.Coherent.{IsCoherent};
-ghost use Rattle.share_graph.specs.Derivation.{Passes, IsOpenSite, Follows};
-ghost use Rattle.share_graph.specs.Fitting.{ManifestFits, FitsManifest};
+ghost use Rattle.share_graph.specs.Derivation.{LetsThrough, IsOpenSite, Follows};
+ghost use Rattle.share_graph.specs.Fitting.{IsSoundManifest, IsAssignmentFor};
 ghost use Rattle.share_graph.specs.Nodes.{node_of, Gives};
 ghost use Rattle.share_graph.specs.Rows.{IsGrant};
 ghost use Rattle.least_access.specs.Held.{IsIn};
@@ -22,8 +22,8 @@ use share_graph::{Grant, Node, Tables, app_of, is_kept, may_receive, source_of};
 
 // What an assignment gives by a manifest that it fits.
 fn given_by(manifest: &Manifest, assignment: &Assignment) -> PermSet
-    requires manifest { ManifestFits manifest.now }
-    requires assignment { FitsManifest manifest.now assignment.now }
+    requires manifest { IsSoundManifest manifest.now }
+    requires assignment { IsAssignmentFor manifest.now assignment.now }
     ensures { (p : ℕ) → Has result p ↔ AssignmentGives manifest.now.roles (length manifest.now.permissions) assignment.now p }
 {
     let count = manifest.permissions.as_slice().len() as u8;
@@ -50,7 +50,7 @@ fn passed_on(tables: &Tables, table: &Table, num: GrantId, grant: &Grant, from: 
     requires coherent { IsCoherent tables.now }
     requires row { IsGrant tables.now num grant.now }
     requires live { grant.now.revoked ≡ false }
-    ensures { (fact : Fact) → IsIn result fact ↔ (Passes tables.now num grant.now fact × HeldAt table.now.entries from fact) }
+    ensures { (fact : Fact) → IsIn result fact ↔ (LetsThrough tables.now num grant.now fact × HeldAt table.now.entries from fact) }
 {
     if !may_receive(tables, grant.target) {
         return Held::none();

@@ -11,11 +11,11 @@ use Rattle.share_graph.specs.declared.rows.App.{App}
 use Rattle.share_graph.specs.declared.rows.Grain.{Grain}
 use Rattle.share_graph.specs.declared.state.Tables.{Tables}
 use Rattle.share_graph.specs.Nodes.{node_of, source_of}
-use Rattle.share_graph.specs.Derivation.{Owns, IsFactOf, Passes, IsOpenSite, Derivation, own, via, site, Holds, IsMetBy, Follows}
+use Rattle.share_graph.specs.Derivation.{Owns, IsFactOf, LetsThrough, IsOpenSite, Derivation, own, via, site, Holds, IsMetBy, Follows}
 
 derived_from : (t : Tables) (g : GrantId) (grant : Grant) (at : Node) (fact : Fact) (from : Option Node) → source_of grant ≡ from
     → ((q : Need) → Contains grant.needs q → IsMetBy t (Holds t) q)
-    → MatchOption from (IsOpenSite t g grant × (at ≡ node.Grant g) × (fact ≡ Open)) (λ node. Passes t g grant fact × (at ≡ node_of g grant) × Holds t node fact) → Derivation t at fact
+    → MatchOption from (IsOpenSite t g grant × (at ≡ node.Grant g) × (fact ≡ Open)) (λ node. LetsThrough t g grant fact × (at ≡ node_of g grant) × Holds t node fact) → Derivation t at fact
 derived_from t g grant at fact None is met s =
     subst (λ (n : Node). Derivation t n fact) (sym s.1) (subst (λ (f : Fact). Derivation t (node.Grant g) f) (sym s.2) (site s.0 is (λ q c. (met q c).0) (λ q c. (met q c).1)))
 derived_from t g grant at fact (Some from) is met s =
@@ -36,13 +36,13 @@ least t R closed (own {n = n} {grain = grain} {app = app} {fact = fact} o is) = 
 least t R closed (via {g = g} {grant = grant} {from = from} {fact = fact} passes source d now needs) =
     closed.stepped g grant (node_of g grant) fact (record {
       met = λ q c. (now q c, λ at asked a. least t R closed (needs q c at asked a));
-      source = subst (λ (o : Option Node). MatchOption o (IsOpenSite t g grant × (node_of g grant ≡ node.Grant g) × (fact ≡ Open)) (λ node. Passes t g grant fact × (node_of g grant ≡ node_of g grant) × R node fact))
+      source = subst (λ (o : Option Node). MatchOption o (IsOpenSite t g grant × (node_of g grant ≡ node.Grant g) × (fact ≡ Open)) (λ node. LetsThrough t g grant fact × (node_of g grant ≡ node_of g grant) × R node fact))
           (sym source) (passes, refl, least t R closed d);
     })
 least t R closed (site {g = g} {grant = grant} opens source now needs) =
     closed.stepped g grant (node.Grant g) Open (record {
       met = λ q c. (now q c, λ at asked a. least t R closed (needs q c at asked a));
-      source = subst (λ (o : Option Node). MatchOption o (IsOpenSite t g grant × (node.Grant g ≡ node.Grant g) × (Open ≡ Open)) (λ from. Passes t g grant Open × (node.Grant g ≡ node_of g grant) × R from Open))
+      source = subst (λ (o : Option Node). MatchOption o (IsOpenSite t g grant × (node.Grant g ≡ node.Grant g) × (Open ≡ Open)) (λ from. LetsThrough t g grant Open × (node.Grant g ≡ node_of g grant) × R from Open))
           (sym source) (opens, refl, refl);
     })
 
@@ -54,7 +54,7 @@ follows_more t R S more g grant at fact f = record {
   source = source_more (source_of grant) f.source;
 }
   where
-    source_more : (o : Option Node) → MatchOption o (IsOpenSite t g grant × (at ≡ node.Grant g) × (fact ≡ Open)) (λ from. Passes t g grant fact × (at ≡ node_of g grant) × R from fact)
-        → MatchOption o (IsOpenSite t g grant × (at ≡ node.Grant g) × (fact ≡ Open)) (λ from. Passes t g grant fact × (at ≡ node_of g grant) × S from fact)
+    source_more : (o : Option Node) → MatchOption o (IsOpenSite t g grant × (at ≡ node.Grant g) × (fact ≡ Open)) (λ from. LetsThrough t g grant fact × (at ≡ node_of g grant) × R from fact)
+        → MatchOption o (IsOpenSite t g grant × (at ≡ node.Grant g) × (fact ≡ Open)) (λ from. LetsThrough t g grant fact × (at ≡ node_of g grant) × S from fact)
     source_more None s = s
     source_more (Some from) s = (s.0, s.1, more from fact s.2)

@@ -1,10 +1,12 @@
-pub mod Fits
+pub mod OneAnswer
+pub mod Contained
+pub mod MissingOne
 pub mod Least
 pub mod TreesAgree
-pub mod Walks
 pub mod Coherence
+pub mod Apart
 pub mod WayEnds
+pub mod WaysOne
 pub mod Marked
 pub mod RevokingLaw
 pub mod Outside
-pub mod Judgeable

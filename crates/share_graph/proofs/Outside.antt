@@ -25,7 +25,7 @@ outside Inside t u closed gives (via {g = g} {grant = grant} {from = from} {fact
     (λ q c. gives.asked g grant q out p.is_live.is_row c (now q c))
     (λ q c at asked a. outside Inside t u closed gives (needs q c at asked a) (λ i. out (closed.grants at g grant p.is_live.is_row (inr (q, c, (asked, a))) i)))
 outside Inside t u closed gives (site {g = g} {grant = grant} o s now needs) out =
-    site (gives.opened g grant out o) s
+    site (gives.opened g grant out s o) s
     (λ q c. gives.asked_of_site g grant q out o.is_live.is_row s c (now q c))
     (λ q c at asked a. outside Inside t u closed gives (needs q c at asked a) (λ i. out (closed.sites at g grant o.is_live.is_row s (inr (q, c, (asked, a))) i)))
 

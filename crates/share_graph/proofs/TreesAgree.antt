@@ -14,7 +14,7 @@ use Rattle.share_graph.specs.declared.grants.Need.TheVariants as need
 use Rattle.share_graph.specs.declared.state.Tables.{Tables}
 use Rattle.share_graph.specs.Derivation.{Asks, Derivation, Uses, Holds, HoldsWithout}
 use Rattle.share_graph.specs.Derivation.{own as by_owner, via as by_grant, site as by_site}
-use Rattle.share_graph.specs.Trees.{Tree, Trees, own, via, site, no_trees, more_trees, Claim, asked, Shows, ShowsAll, TreeUses, TreesUse, HasTree, HasTreeWithout}
+use Rattle.share_graph.specs.Trees.{Tree, Trees, own, via, site, no_trees, more_trees, HeldFact, asked, Shows, ShowsAll, TreeUses, TreesUse, HasTree, HasTreeWithout}
 
 -- ---- members of lists
 
@@ -61,11 +61,11 @@ Contains-flat_map f (x ∷ xs) y = (
 -- ---- what needs ask
 
 -- that the node holds the fact
-abbrev claim : Node → Fact → Claim
+abbrev claim : Node → Fact → HeldFact
 claim at fact = record { at = at; fact = fact }
 
 -- the claims of a set's permissions
-abbrev claims : Node → PermSet → List Claim
+abbrev claims : Node → PermSet → List HeldFact
 claims holder set = map (λ p. claim holder (Perm p)) (positions set)
 
 -- what a need asks is in its list
@@ -78,7 +78,7 @@ listed (need.PermissionsHeld holder set) at (Perm p) a =
 listed (need.UserIsAdmin a) at fact h = absurd h
 
 -- and what is in its list it asks
-listed_asks : (q : Need) (c : Claim) → Contains (asked q) c → Asks q c.at c.fact
+listed_asks : (q : Need) (c : HeldFact) → Contains (asked q) c → Asks q c.at c.fact
 listed_asks (need.TokenValid h) c m =
     elim ((Contains-cons (claim (node.Grant h) Open) [] c).0 m) [ inl e ↦ (ap (λ x. x.at) (sym e), ap (λ x. x.fact) (sym e)) | inr none ↦ absurd (Contains-nil c none) ]
 listed_asks (need.PermissionsHeld holder set) c m =
@@ -93,13 +93,13 @@ listed_for : (needs : List Need) (q : Need) → Contains needs q → (at : Node)
 listed_for needs q m at fact a = (Contains-flat_map asked needs (claim at fact)).1 (q, m, listed q at fact a)
 
 -- One of the needs asks the claim.
-record IsAsked (needs : List Need) (c : Claim) : Type 0 where
+record IsAsked (needs : List Need) (c : HeldFact) : Type 0 where
   by : Need
   is_need : Contains needs by
   asks : Asks by c.at c.fact
 
 -- and what is in their list one of them asks
-asked_for : (needs : List Need) (c : Claim) → Contains (flat_map asked needs) c → IsAsked needs c
+asked_for : (needs : List Need) (c : HeldFact) → Contains (flat_map asked needs) c → IsAsked needs c
 asked_for needs c m =
     let (q, i, w) = (Contains-flat_map asked needs c).0 m in
     record { by = q; is_need = i; asks = listed_asks q c w }
@@ -137,7 +137,7 @@ module _ (t : Tables) where
         })
 
     -- of valid trees each claim is derived, with no more uses
-    derivations_of : (ds : Trees) (cs : List Claim) → ShowsAll t ds cs → (c : Claim) → Contains cs c → Derived (TreesUse ds) c.at c.fact
+    derivations_of : (ds : Trees) (cs : List HeldFact) → ShowsAll t ds cs → (c : HeldFact) → Contains cs c → Derived (TreesUse ds) c.at c.fact
     derivations_of no_trees [] s c m = absurd (Contains-nil c m)
     derivations_of no_trees (b ∷ cs) s c m = absurd s
     derivations_of (more_trees d ds) [] s c m = absurd s
@@ -160,13 +160,13 @@ module _ (t : Tables) where
     uses : (g : GrantId) → TreeUses shape g → G g
 
   -- Valid trees of the claims, which use no grant but those given.
-  record AllShown (G : GrantId → Type 0) (cs : List Claim) : Type 0 where
+  record AllShown (G : GrantId → Type 0) (cs : List HeldFact) : Type 0 where
     shapes : Trees
     show : ShowsAll t shapes cs
     uses : (g : GrantId) → TreesUse shapes g → G g
 
   -- a tree for each claim makes the list of trees
-  gathered : (G : GrantId → Type 0) (cs : List Claim) → ((c : Claim) → Contains cs c → Shown G c.at c.fact) → AllShown G cs
+  gathered : (G : GrantId → Type 0) (cs : List HeldFact) → ((c : HeldFact) → Contains cs c → Shown G c.at c.fact) → AllShown G cs
   gathered G [] each = record { shapes = no_trees; show = tt; uses = λ g used. absurd used }
   gathered G (c ∷ cs) each =
       let first = each c ((Contains-cons c cs c).1 (inl refl)) in

@@ -1,4 +1,4 @@
--- Tables whose rows fit one another.
+-- An aid of proofs: what tables without a fault give of each row, by its number.
 use Rattle.std.specs.Prelude.{◌<◌, ◌^◌, length}
 use Rattle.host_base.specs.declared.ids.AppId.{AppId}
 use Rattle.host_base.specs.declared.ids.GrainId.{GrainId}
@@ -10,7 +10,7 @@ use Rattle.share_graph.specs.declared.state.Tables.{Tables}
 use Rattle.share_graph.specs.Rows.{IsApp, IsGrain, IsGrant}
 use Rattle.share_graph.specs.Known.{KnowsOfGrain, KnowsOfGrant}
 use Rattle.share_graph.specs.Parents.{HasParent, NamesEarlier}
-use Rattle.share_graph.specs.Fitting.{ManifestFits, SetsFit, SharesWell}
+use Rattle.share_graph.specs.Fitting.{IsSoundManifest, SetsFit, SharesWell}
 
 -- The rows that the grant of number g names are there and earlier, its giver may give to its target, and its sets fit.
 pub record IsCoherentGrant (t : Tables) (g : GrantId) (grant : Grant) : Type 0 where
@@ -20,9 +20,9 @@ pub record IsCoherentGrant (t : Tables) (g : GrantId) (grant : Grant) : Type 0 w
   pub sets : SetsFit t grant
   pub shares : SharesWell grant
 
--- Applications, grains and grants fit one another. Tables without a fault are so, whatever their digests and handles are.
+-- Applications, grains and grants fit one another. Tables without a fault are so.
 pub record IsCoherent (t : Tables) : Type 0 where
-  pub apps : (p : AppId) (app : App) → IsApp t p app → ManifestFits app.manifest
+  pub apps : (p : AppId) (app : App) → IsApp t p app → IsSoundManifest app.manifest
   pub grains : (n : GrainId) (grain : Grain) → IsGrain t n grain → KnowsOfGrain t grain
   pub grants : (g : GrantId) (grant : Grant) → IsGrant t g grant → IsCoherentGrant t g grant
 

@@ -35,7 +35,7 @@ pub record IsLive (t : Tables) (g : GrantId) (grant : Grant) : Type 0 where
 
 -- The grant passes the fact on, where its source holds it: an account that it goes to is enabled, and it lets the fact
 -- through.
-pub record Passes (t : Tables) (g : GrantId) (grant : Grant) (fact : Fact) : Type 0 where
+pub record LetsThrough (t : Tables) (g : GrantId) (grant : Grant) (fact : Fact) : Type 0 where
   pub is_live : IsLive t g grant
   pub received : MayReceive t grant.target
   pub gives : Gives t grant fact
@@ -63,7 +63,7 @@ AsksNow t (need.PermissionsHeld holder set) = Unit {0}
 pub data Derivation (t : Tables) : Node → Fact → Type 0 where
   own : {n : GrainId} {grain : Grain} {app : App} {fact : Fact} → Owns t n grain app → IsFactOf app fact
       → Derivation t (node.User n grain.owner) fact
-  via : {g : GrantId} {grant : Grant} {from : Node} {fact : Fact} → Passes t g grant fact
+  via : {g : GrantId} {grant : Grant} {from : Node} {fact : Fact} → LetsThrough t g grant fact
       → source_of grant ≡ Some from
       → Derivation t from fact
       → ((q : Need) → Contains grant.needs q → AsksNow t q)
@@ -109,4 +109,4 @@ IsMet t q = IsMetBy t (Holds t) q
 -- passes it on; a grant of the site gives itself entry.
 pub record Follows (t : Tables) (R : Node → Fact → Type 0) (g : GrantId) (grant : Grant) (at : Node) (fact : Fact) : Type 0 where
   pub met : (q : Need) → Contains grant.needs q → IsMetBy t R q
-  pub source : MatchOption (source_of grant) (IsOpenSite t g grant × (at ≡ node.Grant g) × (fact ≡ Open)) (λ from. Passes t g grant fact × (at ≡ node_of g grant) × R from fact)
+  pub source : MatchOption (source_of grant) (IsOpenSite t g grant × (at ≡ node.Grant g) × (fact ≡ Open)) (λ from. LetsThrough t g grant fact × (at ≡ node_of g grant) × R from fact)

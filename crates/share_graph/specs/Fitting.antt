@@ -22,7 +22,7 @@ use Rattle.share_graph.specs.Rows.{IsAppOf, IsGrant}
 
 -- The manifest is within its limits, its permissions have names of the right form and of their own, its roles' sets fit, and one
 -- role at the most is a default one.
-pub record ManifestFits (m : Manifest) : Type 0 where
+pub record IsSoundManifest (m : Manifest) : Type 0 where
   pub few_permissions : length m.permissions ≤ 64
   pub few_roles : length m.roles ≤ 32
   pub few_requests : length m.match_requests ≤ 16
@@ -40,14 +40,14 @@ abbrev pub SetFits : Tables → GrainId → PermSet → Type 0
 SetFits t n set = ForApp t n (λ app. IsWithin set (length app.manifest.permissions))
 
 -- the assignment's sets fit the manifest, and a role that it names is there
-pub record FitsManifest (m : Manifest) (a : Assignment) : Type 0 where
+pub record IsAssignmentFor (m : Manifest) (a : Assignment) : Type 0 where
   pub add : IsWithin a.add (length m.permissions)
   pub remove : IsWithin a.remove (length m.permissions)
   pub listed : IsListed m.roles a.base
 
 -- the grant's assignment fits the application of its grain
 abbrev pub AssignmentFits : Tables → Grant → Type 0
-AssignmentFits t grant = ForApp t grant.grain (λ app. FitsManifest app.manifest grant.assignment)
+AssignmentFits t grant = ForApp t grant.grain (λ app. IsAssignmentFor app.manifest grant.assignment)
 
 -- the set fits the application of the grain that the holder is on
 abbrev pub HolderSetFits : Tables → Node → PermSet → Type 0

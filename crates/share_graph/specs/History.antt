@@ -4,6 +4,7 @@ use Rattle.share_graph.specs.declared.event.Event.{Event}
 use Rattle.share_graph.specs.declared.event.Event.TheVariants as event
 use Rattle.share_graph.specs.declared.sessions.Root.{Root}
 use Rattle.share_graph.specs.declared.sessions.Root.TheVariants as root
+use Rattle.share_graph.specs.declared.sessions.Run.{Run}
 use Rattle.share_graph.specs.declared.sessions.Session.{Session}
 use Rattle.share_graph.specs.declared.state.State.{State}
 use Rattle.share_graph.specs.declared.state.Tables.{Tables}
@@ -13,7 +14,8 @@ use Rattle.share_graph.specs.Revoking.{revoke_in}
 abbrev pub is_same_root : Root → Root → Bool
 is_same_root (root.Account a) (root.Account b) = a.0 == b.0
 is_same_root (root.Grant g) (root.Grant h) = g.0 == h.0
-is_same_root _ _ = false
+is_same_root (root.Account a) (root.Grant h) = false
+is_same_root (root.Grant g) (root.Account b) = false
 
 -- the session is open, and has that root
 abbrev pub is_open_of : Root → Session → Bool
@@ -33,7 +35,7 @@ opened sessions session =
     let all = sessions ++ session ∷ [] in
     if nat_lt 32 (count_by (is_open_of session.root) all) then close_first session.root all else all
 
--- the tables after an event; an event that isn't named changes no row of them
+-- the tables after an event
 abbrev pub tables_after : Tables → Event → Tables
 tables_after t (event.AccountAdded account) = record t { accounts = t.accounts ++ account ∷ [] }
 tables_after t (event.AppAdded app) = record t { apps = t.apps ++ app ∷ [] }
@@ -46,17 +48,34 @@ tables_after t (event.TrashedSet n on) = record t { grains = change_row (λ grai
 tables_after t (event.GrantRevoked g) = revoke_in t g
 tables_after t (event.Claimed grant handle) = record t { grants = t.grants ++ grant ∷ [] }
 tables_after t (event.SavedDropped v) = record t { saved = change_row (λ saved. record saved { dropped = true }) t.saved v.0 }
-tables_after t _ = t
+tables_after t (event.RunStarted run) = t
+tables_after t (event.RunStopped r) = t
+tables_after t (event.SessionOpened session) = t
+tables_after t (event.SessionClosed n) = t
+tables_after t (event.HandleMade handle) = t
 
--- the state after an event
+-- the run is stopped
+abbrev pub stopped : Run → Run
+stopped run = record run { stopped = true }
+
+-- THE STEP of the machine: the state after an event
 abbrev pub after : State → Event → State
+after s (event.AccountAdded account) = record s { tables = tables_after s.tables (event.AccountAdded account) }
+after s (event.AppAdded app) = record s { tables = tables_after s.tables (event.AppAdded app) }
+after s (event.GrainAdded grain) = record s { tables = tables_after s.tables (event.GrainAdded grain) }
+after s (event.GrantAdded grant) = record s { tables = tables_after s.tables (event.GrantAdded grant) }
+after s (event.SavedAdded saved) = record s { tables = tables_after s.tables (event.SavedAdded saved) }
+after s (event.AdminSet a on) = record s { tables = tables_after s.tables (event.AdminSet a on) }
+after s (event.EnabledSet a on) = record s { tables = tables_after s.tables (event.EnabledSet a on) }
+after s (event.TrashedSet n on) = record s { tables = tables_after s.tables (event.TrashedSet n on) }
+after s (event.GrantRevoked g) = record s { tables = tables_after s.tables (event.GrantRevoked g) }
+after s (event.SavedDropped v) = record s { tables = tables_after s.tables (event.SavedDropped v) }
+after s (event.Claimed grant handle) = record s { tables = tables_after s.tables (event.Claimed grant handle); handles = s.handles ++ handle ∷ [] }
 after s (event.RunStarted run) = record s { runs = s.runs ++ run ∷ [] }
-after s (event.RunStopped r) = record s { runs = change_row (λ run. record run { stopped = true }) s.runs r.0 }
+after s (event.RunStopped r) = record s { runs = change_row stopped s.runs r.0 }
 after s (event.SessionOpened session) = record s { sessions = opened s.sessions session }
 after s (event.SessionClosed n) = record s { sessions = change_row closed s.sessions n.0 }
 after s (event.HandleMade handle) = record s { handles = s.handles ++ handle ∷ [] }
-after s (event.Claimed grant handle) = record s { tables = tables_after s.tables (event.Claimed grant handle); handles = s.handles ++ handle ∷ [] }
-after s other = record s { tables = tables_after s.tables other }
 
 -- the state after a list of events
 abbrev pub replay : State → List Event → State

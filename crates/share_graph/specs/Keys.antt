@@ -3,6 +3,8 @@ use Rattle.host_base.specs.declared.digest.Digest.{Digest}
 use Rattle.host_base.specs.declared.ids.GrainId.{GrainId}
 use Rattle.host_base.specs.declared.ids.RunId.{RunId}
 use Rattle.share_graph.specs.declared.grants.Grant.{Grant}
+use Rattle.share_graph.specs.declared.grants.Target.{Target}
+use Rattle.share_graph.specs.declared.grants.Target.TheVariants as target
 use Rattle.share_graph.specs.declared.rows.Account.{Account}
 use Rattle.share_graph.specs.declared.rows.Saved.{Saved}
 use Rattle.share_graph.specs.declared.sessions.Handle.{Handle}
@@ -42,3 +44,15 @@ IsLiveRun n run = (run.grain ≡ n) × (run.stopped ≡ false)
 -- the handle is the run's, of that number
 abbrev pub IsHandleOf : RunId → ℕ → Handle → Type 0
 IsHandleOf r num handle = (handle.run ≡ r) × (handle.num ≡ num)
+
+-- the target is whoever bears the grant's token
+abbrev pub IsBearer : Target → Type 0
+IsBearer (target.Bearer for_sharing) = Unit {0}
+IsBearer (target.User a) = ⊥
+IsBearer (target.Claim h) = ⊥
+IsBearer (target.Grain h) = ⊥
+
+-- the grant is a bearer's, and its token has the digest
+pub record IsBearerOf (d : Digest) (grant : Grant) : Type 0 where
+  pub token : HasToken d grant
+  pub bearer : IsBearer grant.target

@@ -11,7 +11,7 @@ use Rattle.share_graph.specs.declared.facts.Node.{Node}
 use Rattle.share_graph.specs.declared.facts.Node.TheVariants as node
 use Rattle.share_graph.specs.Nodes.{node_of, source_of}
 use Rattle.share_graph.specs.Rows.{IsGrant}
-use Rattle.share_graph.specs.Derivation.{Owns, Passes, IsOpenSite, Asks, AsksNow}
+use Rattle.share_graph.specs.Derivation.{Owns, LetsThrough, IsOpenSite, Asks, AsksNow}
 use Rattle.share_graph.specs.declared.rows.App.{App}
 
 -- the grant has the node as its source, or a need of it names the node
@@ -27,7 +27,7 @@ pub data Reached (t : Tables) (Seed : Node → Type 0) : Node → Type 0 where
 -- at every node outside the set, what the first tables give by one row, the second give too
 pub record GivesOutside (Inside : Node → Type 0) (t u : Tables) : Type 0 where
   pub owned : (n : GrainId) (grain : Grain) (app : App) → ¬ Inside (node.User n grain.owner) → Owns t n grain app → Owns u n grain app
-  pub passed : (g : GrantId) (grant : Grant) (fact : Fact) → ¬ Inside (node_of g grant) → Passes t g grant fact → Passes u g grant fact
+  pub passed : (g : GrantId) (grant : Grant) (fact : Fact) → ¬ Inside (node_of g grant) → LetsThrough t g grant fact → LetsThrough u g grant fact
   pub asked : (g : GrantId) (grant : Grant) (q : Need) → ¬ Inside (node_of g grant) → IsGrant t g grant → Contains grant.needs q → AsksNow t q → AsksNow u q
   pub asked_of_site : (g : GrantId) (grant : Grant) (q : Need) → ¬ Inside (node.Grant g) → IsGrant t g grant → source_of grant ≡ None → Contains grant.needs q → AsksNow t q → AsksNow u q
-  pub opened : (g : GrantId) (grant : Grant) → ¬ Inside (node.Grant g) → IsOpenSite t g grant → IsOpenSite u g grant
+  pub opened : (g : GrantId) (grant : Grant) → ¬ Inside (node.Grant g) → source_of grant ≡ None → IsOpenSite t g grant → IsOpenSite u g grant

@@ -3,12 +3,17 @@ use Rattle.host_base.specs.declared.ids.AccountId.{AccountId}
 use Rattle.host_base.specs.declared.ids.AppId.{AppId}
 use Rattle.host_base.specs.declared.ids.GrainId.{GrainId}
 use Rattle.host_base.specs.declared.ids.GrantId.{GrantId}
+use Rattle.host_base.specs.declared.ids.RunId.{RunId}
 use Rattle.host_base.specs.declared.ids.SavedId.{SavedId}
+use Rattle.host_base.specs.declared.ids.SessionId.{SessionId}
 use Rattle.share_graph.specs.declared.grants.Grant.{Grant}
 use Rattle.share_graph.specs.declared.rows.Account.{Account}
 use Rattle.share_graph.specs.declared.rows.App.{App}
 use Rattle.share_graph.specs.declared.rows.Grain.{Grain}
 use Rattle.share_graph.specs.declared.rows.Saved.{Saved}
+use Rattle.share_graph.specs.declared.sessions.Run.{Run}
+use Rattle.share_graph.specs.declared.sessions.Session.{Session}
+use Rattle.share_graph.specs.declared.state.State.{State}
 use Rattle.share_graph.specs.declared.state.Tables.{Tables}
 
 -- row n of a list, counted from 1
@@ -31,6 +36,12 @@ IsGrant t g grant = row t.grants g.0 ≡ Some grant
 
 abbrev pub IsSaved : Tables → SavedId → Saved → Type 0
 IsSaved t v saved = row t.saved v.0 ≡ Some saved
+
+abbrev pub IsSession : State → SessionId → Session → Type 0
+IsSession s n session = row s.sessions n.0 ≡ Some session
+
+abbrev pub IsRun : State → RunId → Run → Type 0
+IsRun s r run = row s.runs r.0 ≡ Some run
 
 -- the account is there and enabled
 abbrev pub IsEnabled : Tables → AccountId → Type 0

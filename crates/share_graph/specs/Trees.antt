@@ -14,7 +14,7 @@ use Rattle.share_graph.specs.declared.rows.App.{App}
 use Rattle.share_graph.specs.declared.rows.Grain.{Grain}
 use Rattle.share_graph.specs.declared.state.Tables.{Tables}
 use Rattle.share_graph.specs.Nodes.{node_of, source_of}
-use Rattle.share_graph.specs.Derivation.{Owns, IsFactOf, Passes, IsOpenSite, AsksNow}
+use Rattle.share_graph.specs.Derivation.{Owns, IsFactOf, LetsThrough, IsOpenSite, AsksNow}
 
 mutual
   -- A finite tree: what an owner holds on a grain; what a grant passes on, over the tree of its source and those of its
@@ -30,12 +30,12 @@ mutual
     more_trees : Tree → Trees → Trees
 
 -- That the node holds the fact.
-pub record Claim : Type 0 where
+pub record HeldFact : Type 0 where
   pub at : Node
   pub fact : Fact
 
 -- what the need asks to be held: the entry of a token's grant, or entry and each permission of the set
-abbrev pub asked : Need → List Claim
+abbrev pub asked : Need → List HeldFact
 asked (need.TokenValid h) = record { at = node.Grant h; fact = Open } ∷ []
 asked (need.PermissionsHeld holder set) = record { at = holder; fact = Open } ∷ map (λ p. record { at = holder; fact = Perm p }) (positions set)
 asked (need.UserIsAdmin a) = []
@@ -44,7 +44,7 @@ abbrev mutual
   -- the tree is valid, and concludes that the node holds the fact
   pub Shows : Tables → Tree → Node → Fact → Type 0
   Shows t (own n held) at fact = (grain : Grain) × (app : App) × Owns t n grain app × IsFactOf app held × (at ≡ node.User n grain.owner) × (fact ≡ held)
-  Shows t (via g source needs) at fact = (grant : Grant) × (from : Node) × Passes t g grant fact × (at ≡ node_of g grant)
+  Shows t (via g source needs) at fact = (grant : Grant) × (from : Node) × LetsThrough t g grant fact × (at ≡ node_of g grant)
       × (source_of grant ≡ Some from) × Shows t source from fact
       × ((q : Need) → Contains grant.needs q → AsksNow t q) × ShowsAll t needs (flat_map asked grant.needs)
   Shows t (site g needs) at fact = (grant : Grant) × IsOpenSite t g grant × (at ≡ node.Grant g) × (fact ≡ Open)
@@ -52,7 +52,7 @@ abbrev mutual
       × ((q : Need) → Contains grant.needs q → AsksNow t q) × ShowsAll t needs (flat_map asked grant.needs)
 
   -- the trees are valid, and conclude these claims, one each, in order
-  pub ShowsAll : Tables → Trees → List Claim → Type 0
+  pub ShowsAll : Tables → Trees → List HeldFact → Type 0
   ShowsAll t no_trees [] = Unit {0}
   ShowsAll t no_trees (c ∷ cs) = ⊥
   ShowsAll t (more_trees d ds) [] = ⊥

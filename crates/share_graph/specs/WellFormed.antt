@@ -1,11 +1,7 @@
 -- Well-formed states.
-use Rattle.std.specs.Prelude.{◌≡◌, ◌≢◌, ◌≤◌, ◌+◌, ◌++◌, ◌==◌, ℕ, All, List, Some, length, map, take, count_by, slice_get}
-use Rattle.std.specs.List.{AllPairs, filter_map}
-use Rattle.host_base.specs.declared.digest.Digest.{Digest}
+use Rattle.std.specs.Prelude.{◌≡◌, ◌≤◌, ◌+◌, ◌==◌, ℕ, All, List, Some, length, take, count_by, slice_get}
 use Rattle.host_base.specs.declared.ids.GrainId.{GrainId}
-use Rattle.host_base.specs.declared.ids.GrantId.{GrantId}
 use Rattle.share_graph.specs.declared.grants.Grant.{Grant}
-use Rattle.share_graph.specs.declared.grants.Target.{Target}
 use Rattle.share_graph.specs.declared.grants.Target.TheVariants as target
 use Rattle.share_graph.specs.declared.sessions.Handle.{Handle}
 use Rattle.share_graph.specs.declared.sessions.Root.{Root}
@@ -15,17 +11,10 @@ use Rattle.share_graph.specs.declared.sessions.Session.{Session}
 use Rattle.share_graph.specs.declared.state.State.{State}
 use Rattle.share_graph.specs.declared.state.Tables.{Tables}
 use Rattle.share_graph.specs.Checked.{IsChecked}
-use Rattle.share_graph.specs.Coherent.{IsCoherent}
-use Rattle.share_graph.specs.Keys.{IsOneOf, IsLiveRun}
+use Rattle.share_graph.specs.Keys.{IsOneOf, IsBearer, IsLiveRun}
+use Rattle.share_graph.specs.Kinds.{AreApart}
 use Rattle.share_graph.specs.Known.{HasAccount, HasGrain}
 use Rattle.share_graph.specs.Rows.{IsGrant}
-
--- the target is whoever bears the grant's token
-abbrev pub IsBearer : Target → Type 0
-IsBearer (target.Bearer for_sharing) = Unit {0}
-IsBearer (target.User a) = ⊥
-IsBearer (target.Claim h) = ⊥
-IsBearer (target.Grain h) = ⊥
 
 -- a session on a grain acts as an account that is there, or as the bearer of a grant on that grain
 abbrev pub MayRoot : Tables → GrainId → Root → Type 0
@@ -77,36 +66,17 @@ pub record IsNumbered (s : State) : Type 0 where
   pub runs : AreNumbered (λ run. run.num.0) s.runs
   pub handles : AreNumberedByRun s.handles
 
--- the digests of all rows, by kind
-abbrev pub digests_of : State → List Digest
-digests_of s =
-    map (λ account. account.login) s.tables.accounts ++ filter_map (λ grant. grant.digest) s.tables.grants ++ map (λ saved. saved.digest) s.tables.saved
-    ++ map (λ session. session.digest) s.sessions ++ map (λ run. run.digest) s.runs
-
 -- a grain has one live run at the most
 abbrev pub HaveOneLiveRun : List Run → Type 0
 HaveOneLiveRun runs =
     (n : GrainId) (i j : ℕ) (run other : Run) → slice_get runs i ≡ Some run → slice_get runs j ≡ Some other → IsLiveRun n run → IsLiveRun n other → i ≡ j
 
--- no token is two grants'
-abbrev pub HaveTokensApart : Tables → Type 0
-HaveTokensApart t =
-    (g h : GrantId) (grant other : Grant) (d : Digest) → IsGrant t g grant → IsGrant t h other → grant.digest ≡ Some d → other.digest ≡ Some d → g ≡ h
-
--- What keys are judged by: coherent tables, tokens that tell grants apart, rows that carry their numbers, and sessions, runs and
--- handles of what is there. Well-formed states are so.
-pub record IsJudgeable (s : State) : Type 0 where
-  pub coherent : IsCoherent s.tables
-  pub tokens : HaveTokensApart s.tables
-  pub numbered : IsNumbered s
-  pub rooted : IsRooted s
-
--- A well-formed state: tables without a fault and within their limits, rows that carry their numbers, no digest twice, one live run
--- of a grain at the most, and sessions, runs and handles of what is there.
+-- A WELL-FORMED STATE: tables without a fault and within their limits, rows that carry their numbers, each digest one row's, one live
+-- run of a grain at the most, and sessions, runs and handles of what is there.
 pub record IsWellFormed (s : State) : Type 0 where
   pub tables : IsChecked s.tables
   pub limits : IsWithinLimits s.tables
   pub numbered : IsNumbered s
-  pub digests : AllPairs (λ a b. a ≢ b) (digests_of s)
+  pub apart : AreApart s
   pub live : HaveOneLiveRun s.runs
   pub rooted : IsRooted s

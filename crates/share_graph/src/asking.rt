@@ -1,5 +1,6 @@
 ghost use Rattle.std.specs.Prelude.{◌≡◌, ◌↔◌, IsTrue, MatchOption, true};
 ghost use Rattle.share_graph.specs.declared.rows.App.{App};
+ghost use Rattle.share_graph.specs.Keys.{IsBearer};
 ghost use Rattle.share_graph.specs.Missing.{IsNode};
 ghost use Rattle.share_graph.specs.Nodes.{MayReceive};
 ghost use Rattle.share_graph.specs.Rows.{IsAppOf, IsAdmin, IsEnabled, IsKept};
@@ -7,11 +8,22 @@ ghost use Rattle.share_graph.specs.Rows.{IsAppOf, IsAdmin, IsEnabled, IsKept};
 use crate::facts::Node;
 use crate::finders::{account, app, grain};
 use crate::grants::Target;
-use crate::known::{has_account, has_grain};
-use crate::parents::is_own_node;
+use crate::known::{has_account, has_grain, is_own_node};
 use crate::rows::App;
 use crate::state::Tables;
 use host_base::{AccountId, GrainId};
+
+/// Whether a grant of that target goes to whoever bears its token.
+pub fn is_bearer(target: Target) -> bool
+    ensures { IsTrue result ↔ IsBearer target }
+{
+    match target {
+        Target::Bearer { .. } => true,
+        Target::User(_) => false,
+        Target::Claim(_) => false,
+        Target::Grain(_) => false,
+    }
+}
 
 /// Whether an account is there and enabled.
 pub fn is_enabled(tables: &Tables, num: AccountId) -> bool

@@ -1,7 +1,7 @@
 use crate::event::Event;
-use crate::fault::Kind;
-use app_manifest::ManifestFault;
-use host_base::{AccountId, Denial, Digest, GrainId, GrantId, Memory};
+use crate::refusal::Refusal;
+use host_base::{Digest, GrainId, Memory};
+use thiserror::Error;
 
 /// Who gives a command: each is known by the digest of a secret.
 #[derive(Clone, Copy, Debug, PartialEq, Eq)]
@@ -49,55 +49,12 @@ pub enum Readiness {
     Same(Made),
 }
 
-/// Why a command is refused.
-#[derive(Clone, Copy, Debug, PartialEq, Eq)]
-pub enum Refusal {
-    /// The caller, or what the command names, isn't let through.
-    Denied(Denial),
-    /// The caller is no admin.
-    NotAdmin,
-    /// The caller isn't the owner.
-    NotOwner(GrainId),
-    /// The caller may not take the grant back.
-    NotGiver(GrantId),
-    /// The row of that kind and number isn't there.
-    Unknown(Kind, u32),
-    /// The application has no such role.
-    BadRole(u16),
-    /// The role isn't given any more.
-    ObsoleteRole(u16),
-    /// A set has a position that the application hasn't.
-    LongSet,
-    /// Nothing may be given from that grant.
-    BadParent(GrantId),
-    /// The caller would give to itself.
-    SelfShare,
-    /// That account has the handle.
-    HandleTaken(AccountId),
-    /// No enabled admin would be left.
-    LastAdmin,
-    /// The manifest has that fault.
-    Manifest(ManifestFault),
-    /// The grant was claimed before.
-    AlreadyClaimed(GrantId),
-    /// What was chosen isn't offered.
-    NoSuchOffer,
-    /// What was chosen doesn't match the query.
-    NoMatch,
-    /// The run has no handle of that number.
-    UnknownHandle(u32),
-    /// There are as many of that kind as there may be.
-    TooMany(Kind, u32),
-    /// The drawn secret is that row's.
-    TokenClash(Kind, u64),
-    /// The need at that index, from 0, can't be had.
-    BadNeed(u16),
-}
-
 /// Why a command isn't carried out.
-#[derive(Clone, Copy, Debug, PartialEq, Eq)]
+#[derive(Clone, Copy, Debug, PartialEq, Eq, Error)]
 pub enum DeskFault {
+    #[error("refused: {0}")]
     Refused(Refusal),
+    #[error("out of memory")]
     Memory,
 }
 

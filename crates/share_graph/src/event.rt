@@ -4,7 +4,7 @@ use crate::sessions::{Handle, Run, Session};
 use host_base::{AccountId, GrainId, GrantId, RunId, SavedId, SessionId};
 
 /// What an accepted command does: it adds a whole row, or sets one value of the row of a number.
-#[derive(Drop)]
+#[derive(Clone, Drop)]
 pub enum Event {
     AccountAdded(Account),
     AppAdded(App),

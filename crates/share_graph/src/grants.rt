@@ -1,9 +1,7 @@
-ghost use Rattle.std.specs.Prelude.{◌≡◌};
-
 use crate::facts::Node;
 use host_base::{AccountId, Digest, GrainId, GrantId};
 use perm_roles::{Assignment, PermSet};
-use std::marker::Model;
+use plain_data::List;
 
 /// What a grant was given from: an account, another grant, or the site itself.
 #[derive(Clone, Copy, Debug, PartialEq, Eq)]
@@ -34,38 +32,10 @@ pub enum Need {
 }
 
 /// The needs of a grant, in their order.
-#[derive(Drop)]
-pub struct Needs {
-    list: Vec<Need>,
-}
-
-impl Model for Needs {
-    ghost use Rattle.std.specs.Prelude.{List};
-    ghost use Rattle.share_graph.specs.declared.grants.Need.{Need};
-
-    ghost Value = { List Need };
-
-    ghost view = { λ needs. needs.list.items };
-}
-
-impl Needs {
-    /// The needs of a `Vec`.
-    pub fn new(list: Vec<Need>) -> Self
-        ensures { result ≡ list.items }
-    {
-        Needs { list }
-    }
-
-    /// The needs as a slice.
-    pub fn as_slice(&self) -> &[Need]
-        ensures { result.now ≡ self.now }
-    {
-        self.list.as_slice()
-    }
-}
+pub type Needs = List<Need>;
 
 /// A grant on a grain: what its giver passes on, to whom, and under which needs. A token is known by its digest.
-#[derive(Drop)]
+#[derive(Clone, Drop)]
 pub struct Grant {
     pub num: GrantId,
     pub grain: GrainId,

@@ -1,6 +1,7 @@
 ghost use Rattle.std.specs.Prelude.{◌≡◌, ◌↔◌, IsTrue, MatchOption};
-ghost use Rattle.share_graph.specs.Keys.{IsOneOf, IsNoneOf, HasLogin, HasToken, HasReference, HasKey, HasRunToken, IsLiveRun, IsHandleOf};
+ghost use Rattle.share_graph.specs.Keys.{IsOneOf, IsNoneOf, HasLogin, HasToken, HasReference, HasKey, HasRunToken, IsLiveRun, IsHandleOf, IsBearerOf};
 
+use crate::asking::is_bearer;
 use crate::grants::Grant;
 use crate::rows::{Account, Saved};
 use crate::sessions::{Handle, Run, Session};
@@ -17,6 +18,12 @@ fn has_token(grant: &Grant, digest: &Digest) -> bool
     ensures { IsTrue result ↔ HasToken digest.now grant.now }
 {
     grant.digest == Some(*digest)
+}
+
+fn is_bearer_of(grant: &Grant, digest: &Digest) -> bool
+    ensures { IsTrue result ↔ IsBearerOf digest.now grant.now }
+{
+    has_token(grant, digest) && is_bearer(grant.target)
 }
 
 fn has_reference(saved: &Saved, digest: &Digest) -> bool
@@ -71,6 +78,18 @@ pub fn by_grant_token<'a>(tables: &'a Tables, digest: &Digest) -> Option<&'a Gra
         .as_slice()
         .iter()
         .find(|grant| has_token(grant, digest))
+}
+
+/// The bearer's grant whose token has the digest.
+pub fn by_bearer_token<'a>(tables: &'a Tables, digest: &Digest) -> Option<&'a Grant>
+    ensures { MatchOption result (IsNoneOf tables.now.grants (IsBearerOf digest.now))
+        (λ grant. IsOneOf tables.now.grants (IsBearerOf digest.now) grant.now) }
+{
+    tables
+        .grants
+        .as_slice()
+        .iter()
+        .find(|grant| is_bearer_of(grant, digest))
 }
 
 /// The saved reference whose token has the digest.

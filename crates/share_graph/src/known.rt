@@ -1,24 +1,17 @@
-ghost use Rattle.std.specs.Prelude.{◌≡◌, ◌↔◌, IsTrue, All};
-ghost use Rattle.share_graph.specs.Known.{HasAccount, HasApp, HasGrain, HasGrant, KnowsNode, KnowsGiver, KnowsTarget, KnowsNeed, KnowsOfGrain, KnowsOfGrant, KnowsOfSaved};
+ghost use Rattle.std.specs.Prelude.{◌≡◌, ◌↔◌, IsTrue};
+ghost use Rattle.share_graph.specs.Known.{HasAccount, HasGrain, HasGrant};
+ghost use Rattle.share_graph.specs.Parents.{IsNoUser, IsOwnNode};
 
-use crate::facts::Node;
-use crate::finders::{account, app, grain, grant};
-use crate::grants::{Giver, Grant, Need, Target};
-use crate::rows::{Grain, Saved};
+use crate::finders::{account, grain, grant as find_grant};
+use crate::grants::Target;
 use crate::state::Tables;
-use host_base::{AccountId, AppId, GrainId, GrantId};
+use host_base::{AccountId, GrainId, GrantId};
 
 /// Whether the account of a number is there.
 pub fn has_account(tables: &Tables, num: AccountId) -> bool
     ensures { IsTrue result ↔ HasAccount tables.now num }
 {
     account(tables, num).is_some()
-}
-
-fn has_app(tables: &Tables, num: AppId) -> bool
-    ensures { IsTrue result ↔ HasApp tables.now num }
-{
-    app(tables, num).is_some()
 }
 
 /// Whether the grain of a number is there.
@@ -28,78 +21,30 @@ pub fn has_grain(tables: &Tables, num: GrainId) -> bool
     grain(tables, num).is_some()
 }
 
-fn has_grant(tables: &Tables, num: GrantId) -> bool
+/// Whether the grant of a number is there.
+pub fn has_grant(tables: &Tables, num: GrantId) -> bool
     ensures { IsTrue result ↔ HasGrant tables.now num }
 {
-    grant(tables, num).is_some()
+    find_grant(tables, num).is_some()
 }
 
-fn knows_node(tables: &Tables, node: Node) -> bool
-    ensures { IsTrue result ↔ KnowsNode tables.now node }
-{
-    match node {
-        Node::User(num, account) => has_grain(tables, num) && has_account(tables, account),
-        Node::Grant(num) => has_grant(tables, num),
-    }
-}
-
-fn knows_giver(tables: &Tables, giver: Giver) -> bool
-    ensures { IsTrue result ↔ KnowsGiver tables.now giver }
-{
-    match giver {
-        Giver::Account(num) => has_account(tables, num),
-        Giver::Grant(num) => has_grant(tables, num),
-        Giver::Site { by, .. } => has_account(tables, by),
-    }
-}
-
-fn knows_target(tables: &Tables, target: Target) -> bool
-    ensures { IsTrue result ↔ KnowsTarget tables.now target }
+fn is_no_user(target: Target) -> bool
+    ensures { IsTrue result ↔ IsNoUser target }
 {
     match target {
+        Target::User(_) => false,
         Target::Bearer { .. } => true,
-        Target::User(num) => has_account(tables, num),
-        Target::Claim(num) => has_grain(tables, num),
-        Target::Grain(num) => has_grain(tables, num),
+        Target::Claim(_) => true,
+        Target::Grain(_) => true,
     }
 }
 
-fn knows_need(tables: &Tables, need: Need) -> bool
-    ensures { IsTrue result ↔ KnowsNeed tables.now need }
+/// Whether a grant is there and goes to no account, and so is a node of its own.
+pub fn is_own_node(tables: &Tables, num: GrantId) -> bool
+    ensures { IsTrue result ↔ IsOwnNode tables.now num }
 {
-    match need {
-        Need::TokenValid(num) => has_grant(tables, num),
-        Need::PermissionsHeld { holder, .. } => knows_node(tables, holder),
-        Need::UserIsAdmin(num) => has_account(tables, num),
+    match find_grant(tables, num) {
+        None => false,
+        Some(row) => is_no_user(row.target),
     }
-}
-
-fn knows_needs(tables: &Tables, needs: &[Need]) -> bool
-    ensures { IsTrue result ↔ All (KnowsNeed tables.now) needs.now }
-{
-    needs.iter().all(|need| knows_need(tables, *need))
-}
-
-/// Whether every row that a grain names is there.
-pub fn knows_of_grain(tables: &Tables, grain: &Grain) -> bool
-    ensures { IsTrue result ↔ KnowsOfGrain tables.now grain.now }
-{
-    has_app(tables, grain.app) && has_account(tables, grain.owner)
-}
-
-/// Whether every row that a grant names is there.
-pub fn knows_of_grant(tables: &Tables, grant: &Grant) -> bool
-    ensures { IsTrue result ↔ KnowsOfGrant tables.now grant.now }
-{
-    has_grain(tables, grant.grain)
-        && knows_giver(tables, grant.giver)
-        && knows_target(tables, grant.target)
-        && knows_needs(tables, grant.needs.as_slice())
-}
-
-/// Whether every row that a saved reference names is there.
-pub fn knows_of_saved(tables: &Tables, saved: &Saved) -> bool
-    ensures { IsTrue result ↔ KnowsOfSaved tables.now saved.now }
-{
-    has_grain(tables, saved.holder) && has_grant(tables, saved.grant)
 }

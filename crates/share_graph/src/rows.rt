@@ -1,8 +1,9 @@
 use app_manifest::Manifest;
-use host_base::{AccountId, AppId, Digest, GrainId, GrantId, Name, SavedId};
+use host_base::{AccountId, AppId, Digest, GrainId, GrantId, SavedId};
+use plain_data::Name;
 
 /// An account of the server, known by the digest of its login.
-#[derive(Drop)]
+#[derive(Clone, Drop)]
 pub struct Account {
     pub num: AccountId,
     pub handle: Name,
@@ -13,14 +14,14 @@ pub struct Account {
 }
 
 /// An application, as its manifest describes it.
-#[derive(Drop)]
+#[derive(Clone, Drop)]
 pub struct App {
     pub num: AppId,
     pub manifest: Manifest,
 }
 
 /// A grain: one instance of an application, owned by one account.
-#[derive(Drop)]
+#[derive(Clone, Drop)]
 pub struct Grain {
     pub num: GrainId,
     pub app: AppId,
@@ -30,7 +31,7 @@ pub struct Grain {
 }
 
 /// A reference to a grant that a grain saved, known by the digest of its token.
-#[derive(Drop)]
+#[derive(Clone, Drop)]
 pub struct Saved {
     pub num: SavedId,
     pub holder: GrainId,

@@ -1,20 +1,36 @@
-use crate::lists::{Accounts, Apps, Grains, Grants, Handles, Runs, SavedReferences, Sessions};
+ghost use Rattle.std.specs.Prelude.{◌≡◌, IfOk};
 
-/// What the server keeps over a restart.
-#[derive(Drop)]
+use crate::grants::Grant;
+use crate::rows::{Account, App, Grain, Saved};
+use crate::sessions::{Handle, Run, Session};
+use host_base::Memory;
+use plain_data::List;
+
+/// What the server keeps over a restart. Each list is in the order of its rows' numbers, from 1.
+#[derive(Clone, Drop)]
 pub struct Tables {
-    pub accounts: Accounts,
-    pub apps: Apps,
-    pub grains: Grains,
-    pub grants: Grants,
-    pub saved: SavedReferences,
+    pub accounts: List<Account>,
+    pub apps: List<App>,
+    pub grains: List<Grain>,
+    pub grants: List<Grant>,
+    pub saved: List<Saved>,
 }
 
-/// The tables, and what lives between a start and a stop of the server.
-#[derive(Drop)]
+/// The tables, and what lives between a start and a stop of the server. Handles are in the order in which they were made.
+#[derive(Clone, Drop)]
 pub struct State {
     pub tables: Tables,
-    pub sessions: Sessions,
-    pub runs: Runs,
-    pub handles: Handles,
+    pub sessions: List<Session>,
+    pub runs: List<Run>,
+    pub handles: List<Handle>,
+}
+
+/// A copy of a state.
+pub fn copy_of(state: &State) -> Result<State, Memory>
+    ensures { IfOk result (λ copy. copy ≡ state.now) }
+{
+    match state.clone() {
+        Ok(copy) => Ok(copy),
+        Err(_) => Err(Memory),
+    }
 }

@@ -1,5 +1,5 @@
 ghost use Rattle.std.specs.Prelude.{◌≡◌};
-ghost use Rattle.share_graph.specs.Coherent.{IsCoherent};
+ghost use Rattle.share_graph.specs.Checked.{IsChecked};
 ghost use Rattle.share_graph.specs.Known.{HasGrant};
 ghost use Rattle.share_graph.specs.Ways.{is_for_sharing, maker_of, IsOrigin, IsRootMaker, IsShownAs, IsWayTo};
 
@@ -40,7 +40,7 @@ impl Origin {
 
 // The end of a grant's way, and whether some grant on it is marked for sharing.
 fn way_end(tables: &Tables, num: GrantId) -> (Origin, bool)
-    requires coherent { IsCoherent tables.now }
+    requires checked { IsChecked tables.now }
     requires there { HasGrant tables.now num }
     ensures { IsWayTo tables.now num result.0 result.1 }
 {
@@ -65,7 +65,7 @@ fn way_end(tables: &Tables, num: GrantId) -> (Origin, bool)
 
 /// Where the way of a grant ends.
 pub fn origin_of(tables: &Tables, num: GrantId) -> Origin
-    requires coherent { IsCoherent tables.now }
+    requires checked { IsChecked tables.now }
     requires there { HasGrant tables.now num }
     ensures { IsOrigin tables.now num result }
 {
@@ -74,7 +74,7 @@ pub fn origin_of(tables: &Tables, num: GrantId) -> Origin
 
 /// The account that a grant comes from in the end.
 pub fn root_maker(tables: &Tables, num: GrantId) -> AccountId
-    requires coherent { IsCoherent tables.now }
+    requires checked { IsChecked tables.now }
     requires there { HasGrant tables.now num }
     ensures { IsRootMaker tables.now num result }
 {
@@ -83,7 +83,7 @@ pub fn root_maker(tables: &Tables, num: GrantId) -> AccountId
 
 /// As whom the bearer of a grant is shown: nobody where some grant on the way is marked for sharing, else its root maker.
 pub fn shown_as(tables: &Tables, num: GrantId) -> Option<AccountId>
-    requires coherent { IsCoherent tables.now }
+    requires checked { IsChecked tables.now }
     requires there { HasGrant tables.now num }
     ensures { IsShownAs tables.now num result }
 {

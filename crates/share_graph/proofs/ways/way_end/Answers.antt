@@ -1,4 +1,5 @@
 use Rattle.std.proofs.Common.{sym}
+use Rattle.share_graph.proofs.Coherence.{coherent}
 use Rattle.share_graph.proofs.WayEnds.{parent_is_earlier, parent_is_there, ends_at_account, ends_at_site, one_step}
 use Rattle.share_graph.proofs.ways.way_end.Goals as goal
 
@@ -14,11 +15,11 @@ returns-in-Site c =
 
 pub loop-grant-smaller : goal.loop-grant-smaller
 loop-grant-smaller c =
-    parent_is_earlier c.args.tables.now c.requires.coherent c.loop-grant.at c.in-Grant.parent c.in-Some.grant.now (sym c.in-Some.ensures) c.in-Grant.is
+    parent_is_earlier c.args.tables.now (coherent c.args.tables.now c.requires.checked) c.loop-grant.at c.in-Grant.parent c.in-Some.grant.now (sym c.in-Some.ensures) c.in-Grant.is
 
 pub loop-grant-preserved : goal.loop-grant-preserved
 loop-grant-preserved c = (
-  parent_is_there c.args.tables.now c.requires.coherent c.loop-grant.at c.in-Grant.parent c.in-Some.grant.now (sym c.in-Some.ensures) c.in-Grant.is,
+  parent_is_there c.args.tables.now (coherent c.args.tables.now c.requires.checked) c.loop-grant.at c.in-Grant.parent c.in-Some.grant.now (sym c.in-Some.ensures) c.in-Grant.is,
   one_step c.args.tables.now c.args.num c.loop-grant.at c.in-Grant.parent c.in-Some.grant.now c.loop-grant.shared c.is_for_sharing-shared.result
       (sym c.in-Some.ensures) c.in-Grant.is c.is_for_sharing-shared.ensures c.loop-grant.invariant.1,
 )

@@ -4,7 +4,7 @@ ghost use Rattle.app_manifest.specs.Checks.{double_name, second_that};
 ghost use Rattle.app_manifest.specs.Text.{is_permission_byte, is_permission_name};
 ghost use Rattle.perm_roles.specs.PermSet.{IsWithin};
 ghost use Rattle.perm_roles.specs.Roles.{IsListed};
-ghost use Rattle.share_graph.specs.Fitting.{ManifestFits, SetFits, FitsManifest, AssignmentFits, HolderSetFits, NeedSetFits, SetsFit, TokenFits, SharesWell, IsReference};
+ghost use Rattle.share_graph.specs.Fitting.{IsSoundManifest, SetFits, IsAssignmentFor, AssignmentFits, HolderSetFits, NeedSetFits, SetsFit, TokenFits, SharesWell, IsReference};
 
 use crate::asking::app_of;
 use crate::facts::Node;
@@ -75,7 +75,7 @@ fn has_one_default(roles: &[Role]) -> bool
 
 /// Whether a manifest is within its limits, with names and sets that fit.
 pub fn manifest_fits(manifest: &Manifest) -> bool
-    ensures { IsTrue result ↔ ManifestFits manifest.now }
+    ensures { IsTrue result ↔ IsSoundManifest manifest.now }
 {
     let permissions = manifest.permissions.as_slice();
     let roles = manifest.roles.as_slice();
@@ -114,7 +114,7 @@ fn is_listed(roles: &[Role], base: Base) -> bool
 }
 
 fn fits_manifest(manifest: &Manifest, assignment: &Assignment) -> bool
-    ensures { IsTrue result ↔ FitsManifest manifest.now assignment.now }
+    ensures { IsTrue result ↔ IsAssignmentFor manifest.now assignment.now }
 {
     let permissions = manifest.permissions.as_slice().len();
     is_within(&assignment.add, permissions)
