@@ -1,3 +1,3 @@
-pub mod Memory
-pub mod Name
+pub mod CallCounts
+pub mod InMemory
 pub mod Outside

@@ -1,8 +1,9 @@
 -- The bits of a number as a set of places.
-use Rattle.std.proofs.Common.{◌≡◌, ◌≢◌, ◌⊎◌, ◌↔◌, ℕ, ◌+◌, ◌-◌, ◌*◌, ◌/◌, ◌%◌, ◌^◌, ◌<◌, ◌≤◌, min, max, ◌∙◌, sym, ap, inl, inr, arith}
+use Rattle.std.proofs.Common.{◌≡◌, ◌≢◌, ◌⊎◌, ◌↔◌, ℕ, zero, suc, ◌+◌, ◌-◌, ◌*◌, ◌/◌, ◌%◌, ◌^◌, ◌<◌, ◌≤◌, min, max, ◌∙◌, sym, ap, inl, inr, arith}
 use Rattle.std.specs.Prelude.{bit_and, bit_or, IsTrue, nat_eq}
 use Rattle.std.specs.Int.{bit_at, w64}
 use Rattle.std.proofs.lemmas.Nat.Bits.{bit_at-lt, bit_at_and, bit_at_or, bit_at_not, bit_at_set_same, bit_at_set_other, bit_at_above, bit_at-zero, bit_at_ones, bit_at_ones_above, same_from_bits}
+use Rattle.std.proofs.Math.Nat.{pow-suc}
 use Rattle.std.proofs.lemmas.Bool.Decides.{nat_tests}
 use Rattle.std.proofs.lemmas.Nat.{pow_below, pow_pos, shr-shr, shr_split, mod_below}
 
@@ -113,3 +114,11 @@ same_test x y = grind (arith, nat_tests)
 
 pub ones_below : (k : ℕ) → k < 64 → 1 * 2 ^ k % 2 ^ 64 - 1 ≡ 2 ^ k - 1
 ones_below k h = let small : 2 ^ k < 2 ^ 64 = pow_below k 64 h in grind arith
+
+-- a number is below its power
+pub below_power : (n : ℕ) → n < 2 ^ n
+below_power zero = omega arith
+below_power (suc n) =
+    let before = below_power n in
+    let twice = pow-suc 2 n in
+    omega arith

@@ -1,3 +1,2 @@
-pub mod Name2
 pub mod PermSet
 pub mod Roles

@@ -1,7 +1,8 @@
 -- What an assignment of permissions gives.
-use Rattle.std.specs.Prelude.{◌≡◌, ◌⊎◌, ◌<◌, ◌≤◌, ℕ, List, length, slice_get, IsSomeAnd}
+use Rattle.std.specs.Prelude.{◌≡◌, ◌⊎◌, ◌↔◌, ◌<◌, ◌≤◌, ℕ, List, Option, None, length, slice_get, IsSomeAnd}
 use Rattle.std.specs.List.{All, find}
 use Rattle.perm_roles.specs.PermSet.{Has, IsWithin}
+use Rattle.perm_roles.specs.declared.perm_set.PermSet.{PermSet}
 use Rattle.perm_roles.specs.declared.roles.Role.{Role}
 use Rattle.perm_roles.specs.declared.roles.Assignment.{Assignment}
 use Rattle.perm_roles.specs.declared.roles.Base.{Base}
@@ -23,11 +24,20 @@ IsInBase roles count (base.Role n) p = IsSomeAnd (slice_get roles n) (λ role. H
 abbrev pub Gives : List Role → ℕ → Assignment → ℕ → Type 0
 Gives roles count assignment p = (IsInBase roles count assignment.base p ⊎ Has assignment.add p) × ¬ Has assignment.remove p
 
+-- the set has the permissions that the assignment gives, and no other
+abbrev pub IsGiven : List Role → ℕ → Assignment → PermSet → Type 0
+IsGiven roles count assignment set = (p : ℕ) → Has set p ↔ Gives roles count assignment p
+
 -- each set that is handed in has only positions below the count
 pub record SetsFit (roles : List Role) (count : ℕ) (assignment : Assignment) : Type 0 where
   pub roles_fit : All (λ role. IsWithin role.perms count) roles
   pub add_fits : IsWithin assignment.add count
   pub remove_fits : IsWithin assignment.remove count
+
+-- the role of the list that the base names
+abbrev pub role_named : List Role → Base → Option Role
+role_named roles (base.Role n) = slice_get roles n
+role_named roles _ = None
 
 -- a role that the base names is in the list
 abbrev pub IsListed : List Role → Base → Type 0

@@ -1,13 +1,8 @@
 //! Permission sets, roles, and what an assignment of permissions gives.
 #![tactic(auto)]
 
-mod name2;
 mod perm_set;
 mod roles;
 
-pub use name2::Name2;
 pub use perm_set::PermSet;
-pub use roles::{Assignment, Base, Role, RoleFault, granted};
-
-#[cfg(test)]
-mod tests;
+pub use roles::{Assignment, Base, Role, RoleFault, granted, is_listed, named_role};

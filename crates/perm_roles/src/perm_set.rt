@@ -1,9 +1,8 @@
 //! Sets of positions 0 to 63.
 
-ghost use Rattle.std.specs.Prelude.{◌≡◌, ◌↔◌, ◌⊎◌, ◌+◌, ◌<◌, ◌≤◌, ℕ, true, All, Contains, IfOk, IsOk, IsTrue, length, slice_get};
+ghost use Rattle.std.specs.Prelude.{◌≡◌, ◌↔◌, ◌⊎◌, ◌<◌, ◌≤◌, ◌^◌, ℕ, true, All, Contains, IfOk, IsOk, IsTrue, length, slice_get};
+ghost use Rattle.std.specs.Int.{bit_at};
 ghost use Rattle.std.specs.List.Sorted.{IsStrictlyIncreasing};
-ghost use Rattle.perm_roles.specs.PermSet.{Has, IsWithin, positions, gain};
-ghost use Rattle.perm_roles.specs.declared.roles.RoleFault.{RoleFault};
 
 use crate::roles::RoleFault;
 
@@ -11,12 +10,18 @@ use crate::roles::RoleFault;
 #[derive(Clone, Copy, Debug, PartialEq, Eq)]
 pub struct PermSet {
     bits: u64,
+    ghost in_range: { bits < 2 ^ 64 },
 }
 
 impl PermSet {
+    ghost use Rattle.perm_roles.specs.PermSet.{Has, IsWithin, bits_of, no_permissions, positions, set_of};
+    ghost use Rattle.perm_roles.specs.declared.perm_set.PermSet.{PermSet};
+    ghost use Rattle.perm_roles.specs.declared.roles.RoleFault.{RoleFault};
+
     /// The set with no position.
     pub fn empty() -> Self
-        ensures { (p : ℕ) → ¬ Has result p }
+        ensures value { result ≡ no_permissions }
+        ensures members { (p : ℕ) → ¬ Has result p }
     {
         PermSet { bits: 0 }
     }
@@ -27,16 +32,16 @@ impl PermSet {
         ensures { (p : ℕ) → Has result p ↔ (p < count) }
     {
         if count == 64 {
-            PermSet { bits: u64::MAX }
-        } else {
-            PermSet {
-                bits: (1 << count) - 1,
-            }
+            return PermSet { bits: u64::MAX };
+        }
+        PermSet {
+            bits: (1 << count) - 1,
         }
     }
 
     /// The set of the places at which the list has true, for a list of at most that many permissions.
     pub fn from_list(list: &[bool], count: u8) -> Result<Self, RoleFault>
+        ensures value { IfOk result (λ set. set ≡ set_of list.now) }
         ensures members { IfOk result (λ set. (p : ℕ) → Has set p ↔ (slice_get list.now p ≡ Some true)) }
         ensures ok { IsOk result ↔ ((count ≤ 64) × (length list.now ≤ count)) }
         ensures too_many { (result ≡ Err RoleFault.TooManyPermissions) ↔ (64 < count) }
@@ -57,6 +62,25 @@ impl PermSet {
         Ok(PermSet { bits })
     }
 
+    /// The set of a word: bit `p`, from the lowest, is 1 where position `p` is in the set.
+    pub fn from_bits(bits: u64) -> Self
+        ensures word { bits_of result ≡ bits }
+        ensures members { (p : ℕ) → Has result p ↔ (bit_at bits p ≡ 1) }
+
+        // It gives back the set that had this word.
+        ensures same { (set : PermSet) → bits_of set ≡ bits → result ≡ set }
+    {
+        PermSet { bits }
+    }
+
+    /// The word of the set: bit `p`, from the lowest, is 1 where position `p` is in the set.
+    pub fn bits(&self) -> u64
+        ensures word { result ≡ bits_of self.now }
+        ensures members { (p : ℕ) → Has self.now p ↔ (bit_at result p ≡ 1) }
+    {
+        self.bits
+    }
+
     /// Whether the position is in the set.
     pub fn has(&self, pos: u8) -> bool
         requires { pos < 64 }
@@ -67,10 +91,7 @@ impl PermSet {
 
     /// The positions that are in either set.
     pub fn union(&self, other: &PermSet) -> Self
-        ensures members { (p : ℕ) → Has result p ↔ (Has self.now p ⊎ Has other.now p) }
-        ensures grows { length (positions self.now) ≤ length (positions result) }
-        ensures gain { gain result ≤ gain self.now }
-        ensures same { gain result ≡ gain self.now → result ≡ self.now }
+        ensures { (p : ℕ) → Has result p ↔ (Has self.now p ⊎ Has other.now p) }
     {
         PermSet {
             bits: self.bits | other.bits,
@@ -106,7 +127,7 @@ impl PermSet {
     }
 
     /// Whether every position of the set is below the count.
-    pub fn fits(&self, count: u8) -> bool
+    pub fn fits(&self, count: usize) -> bool
         ensures answer { IsTrue result ↔ IsWithin self.now count }
         ensures always { IsWithin self.now 64 }
     {
@@ -120,7 +141,6 @@ impl PermSet {
         ensures members { (p : ℕ) → Contains (positions self.now) p ↔ Has self.now p }
         ensures ascending { IsStrictlyIncreasing (positions self.now) }
         ensures below { All (λ p. p < 64) (positions self.now) }
-        ensures rest { result + gain self.now ≡ 64 }
     {
         self.bits.count_ones()
     }

@@ -3,19 +3,20 @@
 ghost use Rattle.std.specs.Prelude.{◌≡◌, ◌↔◌, ◌⊎◌, ◌≤◌, ℕ, length, IfOk, IfErr, IsOk, IsTrue, option_copied};
 ghost use Rattle.std.specs.List.{find};
 ghost use Rattle.perm_roles.specs.PermSet.{Has, IsWithin};
-ghost use Rattle.perm_roles.specs.Roles.{Gives, HasFault, HasNoFault, IsInBase, IsInDefault, IsListed, SetsFit};
+ghost use Rattle.perm_roles.specs.Roles.{Gives, HasFault, HasNoFault, IsGiven, IsInBase, IsInDefault, IsListed, SetsFit, role_named};
+ghost use Rattle.perm_roles.specs.declared.perm_set.PermSet.{PermSet};
 ghost use Rattle.perm_roles.specs.declared.roles.RoleFault.{RoleFault};
 
-use crate::name2::Name2;
 use crate::perm_set::PermSet;
+use plain_data::Name;
 use std::error::Error;
 use std::fmt::{self, Display, Formatter, Write};
 
 /// A named set of permissions that an application offers.
 #[derive(Clone, Debug, Drop, PartialEq, Eq)]
 pub struct Role {
-    pub title: Name2,
-    pub verb: Name2,
+    pub title: Name,
+    pub verb: Name,
     pub perms: PermSet,
     pub default: bool,
     pub obsolete: bool,
@@ -41,6 +42,13 @@ pub struct Assignment {
 }
 
 impl Assignment {
+    /// Whether every position that is added or removed is below the count.
+    pub fn fits(&self, count: usize) -> bool
+        ensures { IsTrue result ↔ (IsWithin self.now.add count × IsWithin self.now.remove count) }
+    {
+        self.add.fits(count) && self.remove.fits(count)
+    }
+
     /// The positions of the base and those added, without those removed.
     fn applied_to(&self, base: &PermSet) -> PermSet
         ensures { (p : ℕ) → Has result p ↔ ((Has base.now p ⊎ Has self.now.add p) × ¬ Has self.now.remove p) }
@@ -72,12 +80,38 @@ impl Display for RoleFault {
 
 impl Error for RoleFault {}
 
+/// The role that the base names, if it names one that is in the list.
+pub fn named_role(roles: &[Role], base: Base) -> Option<&Role>
+    ensures { option_copied result ≡ role_named roles.now base }
+{
+    match base {
+        Base::Role(number) => roles.get(usize::from(number)),
+        Base::NoRole | Base::AllAccess => None,
+    }
+}
+
+/// Whether the role that the base names is in the list; true of a base that names none.
+pub fn is_listed(roles: &[Role], base: Base) -> bool
+    ensures { IsTrue result ↔ IsListed roles.now base }
+{
+    match base {
+        Base::Role(number) => usize::from(number) < roles.len(),
+        Base::NoRole | Base::AllAccess => true,
+    }
+}
+
 /// The permissions that the assignment gives, of this many that there are.
 pub fn granted(roles: &[Role], count: u8, assignment: &Assignment) -> Result<PermSet, RoleFault>
     ensures gives { IfOk result (λ set. (p : ℕ) → Has set p ↔ Gives roles.now count assignment.now p) }
     ensures within { IfOk result (λ set. IsWithin set count) }
     ensures ok { IsOk result ↔ HasNoFault roles.now count assignment.now }
     ensures fault { (fault : RoleFault) → (result ≡ Err fault) ↔ HasFault roles.now count assignment.now fault }
+
+    // There is one answer: at most one set is given, and at most one fault is there.
+    ensures one_set { (set other : PermSet) → IsGiven roles.now count assignment.now set
+        → IsGiven roles.now count assignment.now other → set ≡ other }
+    ensures one_fault { (fault other : RoleFault) → HasFault roles.now count assignment.now fault
+        → HasFault roles.now count assignment.now other → fault ≡ other }
 {
     if count > 64 {
         return Err(RoleFault::TooManyPermissions);
@@ -92,9 +126,8 @@ pub fn granted(roles: &[Role], count: u8, assignment: &Assignment) -> Result<Per
 fn sets_fit(roles: &[Role], count: u8, assignment: &Assignment) -> bool
     ensures { IsTrue result ↔ SetsFit roles.now count assignment.now }
 {
-    assignment.add.fits(count)
-        && assignment.remove.fits(count)
-        && roles.iter().all(|role| role.perms.fits(count))
+    let count = usize::from(count);
+    assignment.fits(count) && roles.iter().all(|role| role.perms.fits(count))
 }
 
 fn base_set(roles: &[Role], count: u8, base: Base) -> Result<PermSet, RoleFault>

@@ -3,6 +3,8 @@
 
 mod list;
 mod name;
+mod text;
 
 pub use list::List;
 pub use name::{NAME_LIMIT, Name};
+pub use text::Text;

@@ -7,8 +7,8 @@ pub returns-then-count-eq64 : goal.returns-then-count-eq64
 unfolding Has
 returns-then-count-eq64 c p = rw c.if-count-eq64.true (bit_of_ones 64 p)
 
-pub returns-else-count-eq64 : goal.returns-else-count-eq64
+pub returns : goal.returns
 unfolding Has
-returns-else-count-eq64 c p =
+returns c p =
     let low : c.args.count < 64 = omega arith in
     rw ones_below (bit_of_ones c.args.count p)

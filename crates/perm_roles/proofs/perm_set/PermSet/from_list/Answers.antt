@@ -4,6 +4,7 @@ use Rattle.std.specs.Int.{bit_at}
 use Rattle.std.proofs.lemmas.Option.{slice_get_within, slice_get-get_or}
 use Rattle.perm_roles.specs.PermSet.{Has}
 use Rattle.perm_roles.proofs.Bits.{bit_of_set}
+use Rattle.perm_roles.proofs.Words.{is_set_of}
 use Rattle.perm_roles.proofs.perm_set.PermSet.from_list.Goals as goal
 use Rattle.perm_roles.proofs.perm_set.PermSet.from_list.Goals.{then-is_in, else-is_in}
 
@@ -46,3 +47,6 @@ returns-clause-members c p = (
   λ h. ((c.loop-place.invariant p).0 h).1,
   λ h. (c.loop-place.invariant p).1 (let inside = slice_get_within c.args.list.now p true h in omega arith, h),
 )
+
+pub returns-clause-value : goal.returns-clause-value
+returns-clause-value c = is_set_of _ c.args.list.now (omega arith) (returns-clause-members c)

@@ -1,11 +1,12 @@
-//! The worked rows of roles and names.
+//! The worked rows of names, permission sets and roles.
 
-use super::*;
+use perm_roles::{Assignment, Base, PermSet, Role, RoleFault, granted, is_listed, named_role};
+use plain_data::Name;
 use std::alloc::Global;
 use std::test::Fail;
 
-fn name(alloc: Global, text: &str) -> Result<Name2, Fail> {
-    Ok(Name2::new(String::from_str(alloc, text)?).ok_or("no name")?)
+fn name(alloc: Global, text: &str) -> Result<Name, Fail> {
+    Ok(Name::from_str(alloc, text)?.ok_or("no name")?)
 }
 
 fn role(alloc: Global, title: &str, perms: PermSet, default: bool) -> Result<Role, Fail> {
@@ -30,6 +31,9 @@ fn assignments_give_permissions(rt: HostRuntime) -> Result<(), Fail> {
         role(rt.alloc(), "writer", view_and_edit, false)?,
     ];
     let poll = [role(rt.alloc(), "voter", view, true)?];
+    let bad_role = Err(RoleFault::BadRole(2));
+    let too_many = Err(RoleFault::TooManyPermissions);
+    let all = Ok(PermSet::all(64));
     let rows: [(
         &[Role],
         u8,
@@ -40,14 +44,7 @@ fn assignments_give_permissions(rt: HostRuntime) -> Result<(), Fail> {
     ); 7] = [
         (&notes, 3, Base::Role(1), manage, edit_and_manage, Ok(view)),
         (&notes, 3, Base::NoRole, none, none, Ok(none)),
-        (
-            &notes,
-            3,
-            Base::Role(2),
-            none,
-            none,
-            Err(RoleFault::BadRole(2)),
-        ),
+        (&notes, 3, Base::Role(2), none, none, bad_role),
         (
             &notes,
             2,
@@ -56,23 +53,9 @@ fn assignments_give_permissions(rt: HostRuntime) -> Result<(), Fail> {
             none,
             Err(RoleFault::LongSet),
         ),
-        (
-            &notes,
-            64,
-            Base::AllAccess,
-            none,
-            none,
-            Ok(PermSet::all(64)),
-        ),
+        (&notes, 64, Base::AllAccess, none, none, all),
         (&poll, 2, Base::NoRole, none, none, Ok(view)),
-        (
-            &poll,
-            65,
-            Base::AllAccess,
-            none,
-            none,
-            Err(RoleFault::TooManyPermissions),
-        ),
+        (&poll, 65, Base::AllAccess, none, none, too_many),
     ];
     for (roles, count, base, add, remove, want) in rows {
         let assignment = Assignment { base, add, remove };
@@ -82,6 +65,27 @@ fn assignments_give_permissions(rt: HostRuntime) -> Result<(), Fail> {
             "{assignment:?} of {count}"
         );
     }
+
+    // What a base names, and whether it is listed.
+    for (base, is_there, title) in [
+        (Base::Role(1), true, Some("writer")),
+        (Base::Role(2), false, None),
+        (Base::NoRole, true, None),
+        (Base::AllAccess, true, None),
+    ] {
+        let named = named_role(&notes, base).map(|role| role.title.as_str());
+        assert_eq!(rt;
+            (is_listed(&notes, base), named),
+            (is_there, title),
+            "{base:?}"
+        );
+    }
+    let assignment = Assignment {
+        base: Base::NoRole,
+        add: view,
+        remove: manage,
+    };
+    assert!(rt; assignment.fits(3) && !assignment.fits(2));
     Ok(())
 }
 
@@ -89,14 +93,16 @@ fn assignments_give_permissions(rt: HostRuntime) -> Result<(), Fail> {
 fn sets_have_positions(rt: HostRuntime) -> Result<(), Fail> {
     let all = PermSet::all(64);
     let set = PermSet::from_list(&[true, false, true], 3)?;
-    assert_eq!(rt;
-        PermSet::from_list(&[true, true, true], 2),
-        Err(RoleFault::LongSet)
-    );
-    assert_eq!(rt;
-        PermSet::from_list(&[], 65),
-        Err(RoleFault::TooManyPermissions)
-    );
+    for (list, count, fault) in [
+        (&[true, true, true] as &[bool], 2, RoleFault::LongSet),
+        (&[], 65, RoleFault::TooManyPermissions),
+    ] {
+        assert_eq!(rt;
+            PermSet::from_list(list, count),
+            Err(fault),
+            "{list:?} of {count}"
+        );
+    }
     assert_eq!(rt;
         (all.len(), set.len(), set.has(2), set.has(1)),
         (64, 2, true, false)
@@ -104,7 +110,10 @@ fn sets_have_positions(rt: HostRuntime) -> Result<(), Fail> {
     assert_eq!(rt; set.union(&PermSet::all(2)), PermSet::all(3));
     assert_eq!(rt; all.meet(&set).minus(&PermSet::all(1)).len(), 1);
     assert!(rt; PermSet::empty().is_empty() && !set.is_empty());
-    assert!(rt; all.contains(&set) && set.fits(3) && !set.fits(2));
+    assert!(rt; all.contains(&set) && set.fits(3) && !set.fits(2) && all.fits(1000));
+    for (set, bits) in [(PermSet::empty(), 0), (set, 5), (all, u64::MAX)] {
+        assert_eq!(rt; (set.bits(), PermSet::from_bits(bits)), (bits, set));
+    }
     assert_eq!(rt;
         format!(in rt.alloc(); "{}", RoleFault::BadRole(2))?.as_str(),
         "there is no role 2"
@@ -126,7 +135,7 @@ fn names_have_a_form(rt: HostRuntime) -> Result<(), Fail> {
         ("a b", true),
     ];
     for (text, is_name) in rows {
-        let name = Name2::new(String::from_str(rt.alloc(), text)?);
+        let name = Name::new(String::from_str(rt.alloc(), text)?);
         assert_eq!(rt; name.is_some(), is_name, "{text}");
     }
     let name = name(rt.alloc(), "é")?;

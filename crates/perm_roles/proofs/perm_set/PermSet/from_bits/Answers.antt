@@ -1,0 +1,16 @@
+use Rattle.std.proofs.Common.{refl, sym}
+use Rattle.perm_roles.specs.PermSet.{Has, bits_of}
+use Rattle.perm_roles.proofs.Sets.{same_word}
+use Rattle.perm_roles.proofs.perm_set.PermSet.from_bits.Goals as goal
+
+pub returns-clause-word : goal.returns-clause-word
+unfolding bits_of
+returns-clause-word c = refl
+
+pub returns-clause-members : goal.returns-clause-members
+unfolding Has
+returns-clause-members c p = (λ h. h, λ h. h)
+
+pub returns-clause-same : goal.returns-clause-same
+unfolding bits_of
+returns-clause-same c set e = same_word _ set (sym e)
