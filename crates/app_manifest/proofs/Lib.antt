@@ -1,5 +1,6 @@
 pub mod FirstPlace
-pub mod Forms
+pub mod PlainForms
 pub mod Kept
 pub mod Listed
+pub mod Objects
 pub mod Sets

@@ -4,7 +4,7 @@ use Rattle.std.proofs.lemmas.List.{take_more}
 use Rattle.serde_json.specs.Data.{Data}
 use Rattle.serde_json.specs.View.{view, items_view}
 use Rattle.serde_json.specs.declared.value.Value.{Value}
-use Rattle.app_manifest.specs.Draft.{each_of}
+use Rattle.app_manifest.specs.Fields.{each_of}
 
 -- the first value's part and the others' parts
 both_there : {A : Type 0} (o : Option A) (rest : Option (List A)) (xs : List A) → option_and_then (λ x. option_and_then (λ ys. Some (x ∷ ys)) rest) o ≡ Some xs → (x : A) × (ys : List A) × (o ≡ Some x) × (rest ≡ Some ys) × (xs ≡ x ∷ ys)

@@ -1,14 +1,13 @@
 -- The faults that a manifest has as a whole.
-use Rattle.std.specs.Prelude.{ℕ, ◌&&◌, nat_lt, Bool, List, length, take, Option, Some, None, option_map, Result, Ok, Err, if◌then◌else◌}
+use Rattle.std.specs.Prelude.{ℕ, ◌&&◌, nat_lt, Bool, List, length, take, Option, Some, None, option_map, if◌then◌else◌}
 use Rattle.std.specs.List.{list_any}
-use Rattle.std.specs.Option.{option_or, option_map_or}
+use Rattle.std.specs.Option.{option_or}
 use Rattle.std.specs.Str.{bytes_eq}
-use Rattle.serde_json.specs.Data.{Data}
 use Rattle.app_manifest.specs.declared.fault.ManifestFault.{ManifestFault}
 use Rattle.app_manifest.specs.declared.fault.ManifestFault.TheVariants.{TooMany, DoubleName, LongSet, TwoDefaults}
 use Rattle.app_manifest.specs.declared.manifest.PermissionDef.{PermissionDef}
 use Rattle.app_manifest.specs.Places.{first_from}
-use Rattle.app_manifest.specs.Draft.{RoleDraft, ManifestDraft, and_then, draft_of}
+use Rattle.app_manifest.specs.Draft.{RoleDraft, ManifestDraft}
 
 -- the first list that is too long: more than 64 permissions, 32 roles or 16 match requests
 abbrev pub too_many : ManifestDraft → Option ℕ
@@ -36,11 +35,3 @@ whole_fault draft =
     (option_or (option_map DoubleName (double_name draft.permissions))
     (option_or (option_map LongSet (long_set (length draft.permissions) draft.roles))
     (option_map TwoDefaults (second_that (λ role. role.default) draft.roles))))
-
--- a draft, or the first fault that it has as a whole
-abbrev pub checked : ManifestDraft → Result ManifestDraft ManifestFault
-checked draft = option_map_or Err (whole_fault draft) (Ok draft)
-
--- the manifest that a JSON value states, or its first fault
-abbrev pub stated_by : Data → Result ManifestDraft ManifestFault
-stated_by d = and_then (draft_of d) checked

@@ -1,16 +1,16 @@
 -- What a JSON value states field by field, before its lists are compared.
-use Rattle.std.specs.Prelude.{ℕ, ◌^◌, nat_lt, Bool, false, List, [], ◌∷◌, codes, Option, Some, None, option_and_then, Result, Ok, Err, if◌then◌else◌}
+use Rattle.std.specs.Prelude.{ℕ, ◌^◌, nat_lt, Bool, List, [], codes, Option, Some, None, Result, Ok, Err, if◌then◌else◌}
 use Rattle.std.specs.Option.{ok_or}
 use Rattle.std.specs.Result.{result_ok}
-use Rattle.serde_json.specs.Data.{Data, Items}
-use Rattle.serde_json.specs.Find.{get, as_array, as_bool, as_number, as_str, as_u64}
-use Rattle.host_base.specs.Name.{is_plain}
+use Rattle.serde_json.specs.Data.{Data}
+use Rattle.serde_json.specs.Find.{get, as_number, as_str, as_u64}
 use Rattle.powerbox_match.specs.Descriptor.{DescriptorData}
 use Rattle.powerbox_match.specs.Shape.{descriptor_of}
 use Rattle.app_manifest.specs.declared.fault.ManifestFault.{ManifestFault}
 use Rattle.app_manifest.specs.declared.fault.ManifestFault.TheVariants.{BadField}
 use Rattle.app_manifest.specs.declared.manifest.PermissionDef.{PermissionDef}
-use Rattle.app_manifest.specs.Text.{text_with, is_title, is_permission_name}
+use Rattle.app_manifest.specs.Text.{text_with, is_permission_name}
+use Rattle.app_manifest.specs.Fields.{◌>>=◌, list_of, title_of, text_or_empty, flag_or_false, flags_of}
 
 -- a role as it is stated, its set still a list of booleans
 pub record RoleDraft : Type 0 where
@@ -27,41 +27,6 @@ pub record ManifestDraft : Type 0 where
   pub permissions : List PermissionDef
   pub roles : List RoleDraft
   pub match_requests : List DescriptorData
-
--- `?` of an `Option`, for the parts that are put together
-infixl 10 ◌>>=◌
-abbrev pub ◌>>=◌ : {A B : Type 0} → Option A → (A → Option B) → Option B
-found >>= next = option_and_then next found
-
--- what each value of a list states, if each states something
-abbrev pub each_of : {A : Type 0} → (Data → Option A) → Items → Option (List A)
-each_of part Items.no_items = Some []
-each_of part (Items.item d ds) = do
-  x ← part d
-  xs ← each_of part ds
-  Some (x ∷ xs)
-
--- the list that a value states, if it is a list and each of its values states something
-abbrev pub list_of : {A : Type 0} → (Data → Option A) → Option Data → Option (List A)
-list_of part found = found >>= as_array >>= each_of part
-
--- a title, which has to be there
-abbrev pub title_of : Option Data → Option (List ℕ)
-title_of found = text_with is_title (found >>= as_str)
-
--- a text of any form, which is empty where it is missing
-abbrev pub stated_or_empty : Option Data → Option (List ℕ)
-stated_or_empty None = Some []
-stated_or_empty (Some d) = as_str d
-
--- a longer text, which is empty where it is missing
-abbrev pub text_or_empty : Option Data → Option (List ℕ)
-text_or_empty found = text_with is_plain (stated_or_empty found)
-
--- a boolean, which is false where it is missing
-abbrev pub flag_or_false : Option Data → Option Bool
-flag_or_false None = Some false
-flag_or_false (Some d) = as_bool d
 
 -- a whole number of 32 bits, which has to be there
 abbrev pub version_of : Option Data → Option ℕ
@@ -83,7 +48,7 @@ abbrev pub role_of : Data → Option RoleDraft
 role_of d = do
   title ← title_of (get (codes "title") d)
   verb ← text_or_empty (get (codes "verbPhrase") d)
-  list ← list_of as_bool (get (codes "permissions") d)
+  list ← flags_of (get (codes "permissions") d)
   default ← flag_or_false (get (codes "default") d)
   obsolete ← flag_or_false (get (codes "obsolete") d)
   Some (record { title = title; verb = verb; list = list; default = default; obsolete = obsolete })

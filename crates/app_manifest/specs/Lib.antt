@@ -1,7 +1,10 @@
+pub mod Fault
 pub mod Places
 pub mod Text
+pub mod Fields
 pub mod Draft
-pub mod Stored
-pub mod Checks
 pub mod Manifest
+pub mod Checks
+pub mod Stated
 pub mod Upgrade
+pub mod ReadParts

@@ -1,7 +1,7 @@
 //! Why bytes state no manifest, or why a manifest may not take the place of another.
 
 ghost use Rattle.std.specs.Prelude.{◌≡◌};
-ghost use Rattle.app_manifest.specs.declared.fault.ManifestFault.TheVariants.{Memory};
+ghost use Rattle.app_manifest.specs.declared.fault.ManifestError.TheVariants.{Fault, Memory};
 
 use std::alloc::{AllocError, AllocFailed};
 use thiserror::Error;
@@ -36,23 +36,75 @@ pub enum ManifestFault {
     /// The new list has this many roles, and the old one more.
     #[error("only {0} roles are left")]
     LostRole(usize),
+}
+
+impl ManifestFault {
+    ghost use Rattle.app_manifest.specs.Fault.{number_of, argument_of};
+
+    /// The number by which the fault is told to others, 1 to 8.
+    pub fn number(&self) -> u8
+        ensures { result ≡ number_of self.now }
+    {
+        match self {
+            ManifestFault::NotJson => 1,
+            ManifestFault::BadField(_) => 2,
+            ManifestFault::TwoDefaults(_) => 3,
+            ManifestFault::DoubleName(_) => 4,
+            ManifestFault::LongSet(_) => 5,
+            ManifestFault::TooMany(_) => 6,
+            ManifestFault::LostName(_) => 7,
+            ManifestFault::LostRole(_) => 8,
+        }
+    }
+
+    /// The number of a field, of a list or of roles or the position that the fault names, or 0
+    /// where it names none.
+    pub fn argument(&self) -> usize
+        ensures { result ≡ argument_of self.now }
+    {
+        match self {
+            ManifestFault::NotJson => 0,
+            ManifestFault::BadField(number) | ManifestFault::TooMany(number) => usize::from(*number),
+            ManifestFault::DoubleName(place)
+            | ManifestFault::LongSet(place)
+            | ManifestFault::TwoDefaults(place)
+            | ManifestFault::LostName(place) => *place,
+            ManifestFault::LostRole(count) => *count,
+        }
+    }
+}
+
+/// Why there is no manifest: a fault, or want of memory.
+#[derive(Clone, Copy, PartialEq, Eq, Debug, Error)]
+pub enum ManifestError {
+    /// What was stated has a fault.
+    #[error("{0}")]
+    Fault(ManifestFault),
     /// There was no memory left.
     #[error("out of memory")]
     Memory,
 }
 
-impl From<AllocError> for ManifestFault {
-    ghost from_gives = { λ _ fault. fault ≡ Memory };
+impl From<ManifestFault> for ManifestError {
+    ghost from_gives = { λ fault error. error ≡ Fault fault };
 
-    fn from(_error: AllocError) -> ManifestFault {
-        ManifestFault::Memory
+    fn from(fault: ManifestFault) -> ManifestError {
+        ManifestError::Fault(fault)
     }
 }
 
-impl<T: Drop> From<AllocFailed<T>> for ManifestFault {
-    ghost from_gives = { λ _ fault. fault ≡ Memory };
+impl From<AllocError> for ManifestError {
+    ghost from_gives = { λ _ error. error ≡ Memory };
 
-    fn from(_error: AllocFailed<T>) -> ManifestFault {
-        ManifestFault::Memory
+    fn from(_error: AllocError) -> ManifestError {
+        ManifestError::Memory
+    }
+}
+
+impl<T: Drop> From<AllocFailed<T>> for ManifestError {
+    ghost from_gives = { λ _ error. error ≡ Memory };
+
+    fn from(_error: AllocFailed<T>) -> ManifestError {
+        ManifestError::Memory
     }
 }

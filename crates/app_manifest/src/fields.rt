@@ -1,27 +1,64 @@
-//! The parts of a manifest that a JSON value states.
+//! What the fields of a JSON object state: texts, flags and numbers.
 
-ghost use Rattle.std.specs.Prelude.{◌≡◌, Some, IfOk, map, option_map, option_and_then};
+ghost use Rattle.std.specs.Prelude.{◌≡◌, [], IfOk, option_map, option_and_then};
 ghost use Rattle.serde_json.specs.View.{view, items_view};
-ghost use Rattle.serde_json.specs.Find.{as_array, as_bool};
-ghost use Rattle.powerbox_match.specs.Descriptor.{descriptor_view, offers_view};
-ghost use Rattle.app_manifest.specs.Draft.{flag_or_false, version_of, list_of, permission_of, role_of, request_of, requests_of};
-ghost use Rattle.app_manifest.specs.Stored.{role_draft};
+ghost use Rattle.serde_json.specs.Find.{as_array, as_str};
+ghost use Rattle.app_manifest.specs.Text.{text_with, is_permission_name};
+ghost use Rattle.app_manifest.specs.Fields.{title_of, stated_or_empty, text_or_empty, flag_or_false, flags_of};
+ghost use Rattle.app_manifest.specs.Draft.{version_of};
 
-use crate::manifest::PermissionDef;
-use crate::role::RoleDraft;
-use crate::text::{permission_name_from, role_text_from, role_title_from, text_from, title_from};
-use powerbox_match::{Descriptor, ShapeFault, descriptor_from};
+use crate::forms::{is_permission_name, is_plain, is_title};
+use plain_data::Name;
 use serde_json::Value;
 use std::alloc::{AllocError, Global};
 
-pub(crate) fn version_from(value: Option<&Value>) -> Option<u32>
-    ensures { result ≡ version_of (option_map (λ v. view v.now) value.entry) }
+/// The title that a field states, or none where it is missing, no text or not of the form.
+pub fn title_from(alloc: Global, value: Option<&Value>) -> Result<Option<Name>, AllocError>
+    ensures { IfOk result (λ found. found ≡ title_of (option_map (λ v. view v.now) value.entry)) }
 {
-    let number = value.and_then(Value::as_u64)?;
-    u32::try_from(number).ok()
+    match value.and_then(Value::as_str) {
+        Some(text) if is_title(text) => Ok(Some(Name::from_plain(alloc, text)?)),
+        _ => Ok(None),
+    }
 }
 
-fn flag_from(value: Option<&Value>) -> Option<bool>
+/// The text that a field states, which is empty where the field is missing, or none where it is no
+/// text or hasn't the form of a name.
+pub fn text_from(alloc: Global, value: Option<&Value>) -> Result<Option<Name>, AllocError>
+    ensures { IfOk result (λ found. found ≡ text_or_empty (option_map (λ v. view v.now) value.entry)) }
+{
+    match stated_or_empty(value) {
+        Some(text) if is_plain(text) => Ok(Some(Name::from_plain(alloc, text)?)),
+        _ => Ok(None),
+    }
+}
+
+fn stated_or_empty(value: Option<&Value>) -> Option<&str>
+    ensures { option_map (λ s. s.now) result
+        ≡ stated_or_empty (option_map (λ v. view v.now) value.entry) }
+{
+    match value {
+        Some(value) => value.as_str(),
+        None => Some(""),
+    }
+}
+
+pub(crate) fn permission_name_from(
+    alloc: Global,
+    value: Option<&Value>,
+) -> Result<Option<Name>, AllocError>
+    ensures { IfOk result (λ found. found
+        ≡ text_with is_permission_name (option_and_then as_str (option_map (λ v. view v.now) value.entry))) }
+{
+    match value.and_then(Value::as_str) {
+        Some(text) if is_permission_name(text) => Ok(Some(Name::from_plain(alloc, text)?)),
+        _ => Ok(None),
+    }
+}
+
+/// The boolean that a field states, which is false where the field is missing, or none where it is
+/// no boolean.
+pub fn flag_from(value: Option<&Value>) -> Option<bool>
     ensures { result ≡ flag_or_false (option_map (λ v. view v.now) value.entry) }
 {
     match value {
@@ -30,107 +67,10 @@ fn flag_from(value: Option<&Value>) -> Option<bool>
     }
 }
 
-// The values of a list, if there is one.
-fn items_of(value: Option<&Value>) -> Option<&Vec<Value>>
-    ensures { option_map (λ v. items_view v.now.items) result
-        ≡ option_and_then as_array (option_map (λ v. view v.now) value.entry) }
-{
-    value?.as_array()
-}
-
-pub(crate) fn permissions_from(
-    alloc: Global,
-    value: Option<&Value>,
-) -> Result<Option<Vec<PermissionDef>>, AllocError>
+/// The list of booleans that a field states, or none where it is missing or no list of booleans.
+pub fn flags_from(alloc: Global, value: Option<&Value>) -> Result<Option<Vec<bool>>, AllocError>
     ensures { IfOk result (λ found. option_map (λ list. list.items) found
-        ≡ list_of permission_of (option_map (λ v. view v.now) value.entry)) }
-{
-    let Some(items) = items_of(value) else {
-        return Ok(None);
-    };
-    let mut permissions = Vec::new(alloc);
-    for item in items {
-        let Some(permission) = permission_from(alloc, item)? else {
-            return Ok(None);
-        };
-        permissions.push(permission)?;
-    }
-    Ok(Some(permissions))
-}
-
-fn permission_from(alloc: Global, value: &Value) -> Result<Option<PermissionDef>, AllocError>
-    ensures { IfOk result (λ found. found ≡ permission_of (view value.now)) }
-{
-    let Some(name) = permission_name_from(alloc, value.get("name"))? else {
-        return Ok(None);
-    };
-    let Some(title) = title_from(alloc, value.get("title"))? else {
-        return Ok(None);
-    };
-    let Some(description) = text_from(alloc, value.get("description"))? else {
-        return Ok(None);
-    };
-    let Some(obsolete) = flag_from(value.get("obsolete")) else {
-        return Ok(None);
-    };
-    Ok(Some(PermissionDef {
-        name,
-        title,
-        description,
-        obsolete,
-    }))
-}
-
-pub(crate) fn roles_from(
-    alloc: Global,
-    value: Option<&Value>,
-) -> Result<Option<Vec<RoleDraft>>, AllocError>
-    ensures { IfOk result (λ found. option_map (λ list. map role_draft list.items) found
-        ≡ list_of role_of (option_map (λ v. view v.now) value.entry)) }
-{
-    let Some(items) = items_of(value) else {
-        return Ok(None);
-    };
-    let mut roles = Vec::new(alloc);
-    for item in items {
-        let Some(role) = role_from(alloc, item)? else {
-            return Ok(None);
-        };
-        roles.push(role)?;
-    }
-    Ok(Some(roles))
-}
-
-fn role_from(alloc: Global, value: &Value) -> Result<Option<RoleDraft>, AllocError>
-    ensures { IfOk result (λ found. option_map role_draft found ≡ role_of (view value.now)) }
-{
-    let Some(title) = role_title_from(alloc, value.get("title"))? else {
-        return Ok(None);
-    };
-    let Some(verb) = role_text_from(alloc, value.get("verbPhrase"))? else {
-        return Ok(None);
-    };
-    let Some(list) = flags_from(alloc, value.get("permissions"))? else {
-        return Ok(None);
-    };
-    let Some(default) = flag_from(value.get("default")) else {
-        return Ok(None);
-    };
-    let Some(obsolete) = flag_from(value.get("obsolete")) else {
-        return Ok(None);
-    };
-    Ok(Some(RoleDraft {
-        title,
-        verb,
-        list,
-        default,
-        obsolete,
-    }))
-}
-
-fn flags_from(alloc: Global, value: Option<&Value>) -> Result<Option<Vec<bool>>, AllocError>
-    ensures { IfOk result (λ found. option_map (λ list. list.items) found
-        ≡ list_of as_bool (option_map (λ v. view v.now) value.entry)) }
+        ≡ flags_of (option_map (λ v. view v.now) value.entry)) }
 {
     let Some(items) = items_of(value) else {
         return Ok(None);
@@ -145,42 +85,17 @@ fn flags_from(alloc: Global, value: Option<&Value>) -> Result<Option<Vec<bool>>,
     Ok(Some(flags))
 }
 
-pub(crate) fn requests_from(
-    alloc: Global,
-    value: Option<&Value>,
-) -> Result<Option<Vec<Descriptor>>, AllocError>
-    ensures { IfOk result (λ found. option_map (λ list. offers_view list.items) found
-        ≡ requests_of (option_map (λ v. view v.now) value.entry)) }
+// The values of a list, if there is one.
+pub(crate) fn items_of(value: Option<&Value>) -> Option<&Vec<Value>>
+    ensures { option_map (λ v. items_view v.now.items) result
+        ≡ option_and_then as_array (option_map (λ v. view v.now) value.entry) }
 {
-    match value {
-        Some(value) => descriptors_from(alloc, value),
-        None => Ok(Some(Vec::new(alloc))),
-    }
+    value?.as_array()
 }
 
-fn descriptors_from(alloc: Global, value: &Value) -> Result<Option<Vec<Descriptor>>, AllocError>
-    ensures { IfOk result (λ found. option_map (λ list. offers_view list.items) found
-        ≡ list_of request_of (Some (view value.now))) }
+pub(crate) fn version_from(value: Option<&Value>) -> Option<u32>
+    ensures { result ≡ version_of (option_map (λ v. view v.now) value.entry) }
 {
-    let Some(items) = value.as_array() else {
-        return Ok(None);
-    };
-    let mut descriptors = Vec::new(alloc);
-    for item in items {
-        let Some(descriptor) = request_from(alloc, item)? else {
-            return Ok(None);
-        };
-        descriptors.push(descriptor)?;
-    }
-    Ok(Some(descriptors))
-}
-
-fn request_from(alloc: Global, value: &Value) -> Result<Option<Descriptor>, AllocError>
-    ensures { IfOk result (λ found. option_map descriptor_view found ≡ request_of (view value.now)) }
-{
-    match descriptor_from(alloc, value) {
-        Ok(descriptor) => Ok(Some(descriptor)),
-        Err(ShapeFault::Memory) => Err(AllocError),
-        Err(_) => Ok(None),
-    }
+    let number = value.and_then(Value::as_u64)?;
+    u32::try_from(number).ok()
 }

@@ -1,7 +1,7 @@
 use Rattle.std.proofs.Common.{◌≡◌, Some, None, option_and_then, sym, ap, ◌∙◌, rules}
 use Rattle.serde_json.specs.View.{view, items_view}
 use Rattle.serde_json.specs.Find.{as_bool}
-use Rattle.app_manifest.specs.Draft.{each_of}
+use Rattle.app_manifest.specs.Fields.{each_of}
 use Rattle.app_manifest.proofs.Listed.{each_of_more, each_of_none}
 use Rattle.app_manifest.proofs.fields.flags_from.Goals as goal
 

@@ -1,10 +1,10 @@
 use Rattle.std.proofs.Common.{◌≡◌, [], ◌∷◌, Some, None, option_and_then, map, sym, ap, ◌∙◌, rules}
 use Rattle.std.proofs.lemmas.List.{map-append}
 use Rattle.serde_json.specs.View.{view, items_view}
-use Rattle.powerbox_match.specs.Descriptor.{descriptor_view}
-use Rattle.app_manifest.specs.Draft.{each_of, request_of}
+use Rattle.app_manifest.specs.Fields.{each_of}
+use Rattle.app_manifest.specs.Draft.{request_of}
 use Rattle.app_manifest.proofs.Listed.{each_of_more, each_of_none}
-use Rattle.app_manifest.proofs.fields.descriptors_from.Goals as goal
+use Rattle.app_manifest.proofs.lists.descriptors_from.Goals as goal
 
 pub returns-in_default-2 : goal.returns-in_default-2
 returns-in_default-2 c =
@@ -15,6 +15,6 @@ returns-in_default-2 c =
 
 pub loop-item-preserved : goal.loop-item-preserved
 loop-item-preserved c =
-    let stated : request_of (view c.item-item.result) ≡ Some (descriptor_view c.in-Some-2.descriptor) = search rules in
-    rw (c.in_ok-push.ensures.items, map-append descriptor_view c.loop-item.descriptors.items (c.in-Some-2.descriptor ∷ []))
-    (each_of_more request_of c.deref-item-items.result.now c.loop-item.item-index c.item-item.result (map descriptor_view c.loop-item.descriptors.items) (descriptor_view c.in-Some-2.descriptor) c.loop-item-test.true c.item-item.is c.loop-item.invariant stated)
+    let stated : request_of (view c.item-item.result) ≡ Some c.in-Some-2.descriptor = search rules in
+    rw c.in_ok-push.ensures.items
+    (each_of_more request_of c.deref-item-items.result.now c.loop-item.item-index c.item-item.result c.loop-item.descriptors.items c.in-Some-2.descriptor c.loop-item-test.true c.item-item.is c.loop-item.invariant stated)

@@ -1,6 +1,6 @@
 use Rattle.std.proofs.Common.{sym, ◌∙◌}
-use Rattle.app_manifest.proofs.Forms.{plain_permission_name}
-use Rattle.app_manifest.proofs.text.permission_name_from.Goals as goal
+use Rattle.app_manifest.proofs.PlainForms.{plain_permission_name}
+use Rattle.app_manifest.proofs.fields.permission_name_from.Goals as goal
 
 pub from_plain-requires : goal.from_plain-requires
 from_plain-requires c =

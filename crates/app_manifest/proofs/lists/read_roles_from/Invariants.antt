@@ -1,8 +1,9 @@
 use Rattle.std.proofs.Common.{◌≡◌, Some, map, take}
 use Rattle.serde_json.specs.View.{items_view}
-use Rattle.app_manifest.specs.Draft.{each_of, role_of}
-use Rattle.app_manifest.specs.Stored.{role_draft}
-use Rattle.app_manifest.proofs.fields.roles_from.Given as goal
+use Rattle.app_manifest.specs.Fields.{each_of}
+use Rattle.app_manifest.specs.Draft.{role_of}
+use Rattle.app_manifest.specs.ReadParts.{role_draft}
+use Rattle.app_manifest.proofs.lists.read_roles_from.Given as goal
 
 abbrev pub invariant-loop-item : goal.invariant-loop-item
 invariant-loop-item l =

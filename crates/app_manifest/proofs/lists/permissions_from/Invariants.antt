@@ -1,7 +1,8 @@
 use Rattle.std.proofs.Common.{◌≡◌, Some, take}
 use Rattle.serde_json.specs.View.{items_view}
-use Rattle.app_manifest.specs.Draft.{each_of, permission_of}
-use Rattle.app_manifest.proofs.fields.permissions_from.Given as goal
+use Rattle.app_manifest.specs.Fields.{each_of}
+use Rattle.app_manifest.specs.Draft.{permission_of}
+use Rattle.app_manifest.proofs.lists.permissions_from.Given as goal
 
 abbrev pub invariant-loop-item : goal.invariant-loop-item
 invariant-loop-item l =

@@ -1,10 +1,11 @@
 use Rattle.std.proofs.Common.{◌≡◌, [], ◌∷◌, Some, None, option_and_then, map, sym, ap, ◌∙◌, rules}
 use Rattle.std.proofs.lemmas.List.{map-append}
 use Rattle.serde_json.specs.View.{view, items_view}
-use Rattle.app_manifest.specs.Draft.{each_of, role_of}
-use Rattle.app_manifest.specs.Stored.{role_draft}
+use Rattle.app_manifest.specs.Fields.{each_of}
+use Rattle.app_manifest.specs.Draft.{role_of}
+use Rattle.app_manifest.specs.ReadParts.{role_draft}
 use Rattle.app_manifest.proofs.Listed.{each_of_more, each_of_none}
-use Rattle.app_manifest.proofs.fields.roles_from.Goals as goal
+use Rattle.app_manifest.proofs.lists.read_roles_from.Goals as goal
 
 pub returns-in_default-2 : goal.returns-in_default-2
 returns-in_default-2 c =

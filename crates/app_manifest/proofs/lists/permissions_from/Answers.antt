@@ -1,8 +1,9 @@
 use Rattle.std.proofs.Common.{◌≡◌, Some, None, option_and_then, sym, ap, ◌∙◌, rules}
 use Rattle.serde_json.specs.View.{view, items_view}
-use Rattle.app_manifest.specs.Draft.{each_of, permission_of}
+use Rattle.app_manifest.specs.Fields.{each_of}
+use Rattle.app_manifest.specs.Draft.{permission_of}
 use Rattle.app_manifest.proofs.Listed.{each_of_more, each_of_none}
-use Rattle.app_manifest.proofs.fields.permissions_from.Goals as goal
+use Rattle.app_manifest.proofs.lists.permissions_from.Goals as goal
 
 pub returns-in_default-2 : goal.returns-in_default-2
 returns-in_default-2 c =
