@@ -5,7 +5,7 @@ ghost use Rattle.grain_supervise.specs.Line.{Line, fresh_line};
 ghost use Rattle.grain_supervise.specs.InMemory.{EchoState, echo_text, echo_answer, echo_back};
 ghost use Rattle.grain_supervise.specs.declared.ask.Ask.{Ask};
 
-use crate::ask::Ask;
+use crate::ask::{Ask, put_ask};
 use crate::link::{AskFault, Link};
 use host_base::{Answer, Bytes, CallCount, Fails, GrainId, Memory, RunId};
 use itoa::Buffer;
@@ -122,10 +122,7 @@ impl Link for EchoLink {
             text: kept,
             back,
         };
-        match self.asked.push(ask) {
-            Ok(()) => {}
-            Err(_) => unreachable!(),
-        }
+        put_ask(&mut self.asked, ask);
         if failed {
             Err(AskFault::LinkFailed)
         } else {

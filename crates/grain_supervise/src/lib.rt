@@ -2,13 +2,13 @@
 #![tactic(auto)]
 
 mod ask;
-
+mod canned_link;
 mod echo_link;
-mod link;
 mod limit;
+mod link;
 
 pub use ask::Ask;
-
+pub use canned_link::CannedLink;
 pub use echo_link::EchoLink;
-pub use link::{AskFault, Link};
 pub use limit::{LongAnswer, whole_answer};
+pub use link::{AskFault, Link};
