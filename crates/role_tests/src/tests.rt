@@ -80,6 +80,7 @@ fn assignments_give_permissions(rt: HostRuntime) -> Result<(), Fail> {
             "{base:?}"
         );
     }
+    assert_eq!(rt; notes[1].clone()?, notes[1]);
     let assignment = Assignment {
         base: Base::NoRole,
         add: view,
@@ -114,10 +115,19 @@ fn sets_have_positions(rt: HostRuntime) -> Result<(), Fail> {
     for (set, bits) in [(PermSet::empty(), 0), (set, 5), (all, u64::MAX)] {
         assert_eq!(rt; (set.bits(), PermSet::from_bits(bits)), (bits, set));
     }
-    assert_eq!(rt;
-        format!(in rt.alloc(); "{}", RoleFault::BadRole(2))?.as_str(),
-        "there is no role 2"
-    );
+    for (fault, text) in [
+        (RoleFault::BadRole(2), "there is no role 2"),
+        (
+            RoleFault::LongSet,
+            "a set is of more permissions than there are",
+        ),
+        (
+            RoleFault::TooManyPermissions,
+            "there are more than 64 permissions",
+        ),
+    ] {
+        assert_eq!(rt; format!(in rt.alloc(); "{fault}")?.as_str(), text);
+    }
     Ok(())
 }
 
