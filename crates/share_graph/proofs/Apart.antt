@@ -1,9 +1,10 @@
 -- In a well-formed state, a digest is one row's.
-use Rattle.std.proofs.Common.{◌≡◌, ◌++◌, ℕ, List, map, Contains, Option, Some, ap}
+use Rattle.std.proofs.Common.{◌≡◌, ◌++◌, ℕ, List, map, Contains, Option, Some, ap, sym, subst}
 use Rattle.std.specs.List.{filter_map}
 use Rattle.std.specs.Option.{option_map}
 use Rattle.std.proofs.lemmas.List.Elements.{Contains-append_left, Contains-append_right}
 use Rattle.host_base.specs.declared.digest.Digest.{Digest}
+use Rattle.share_graph.specs.declared.fault.Kind.{Kind}
 use Rattle.share_graph.specs.declared.fault.Kind.TheVariants as kind
 use Rattle.share_graph.specs.declared.grants.Grant.{Grant}
 use Rattle.share_graph.specs.declared.rows.Account.{Account}
@@ -17,22 +18,25 @@ use Rattle.share_graph.specs.Kinds.{KnownDigest, HasDigest}
 use Rattle.share_graph.specs.WellFormed.{IsWellFormed}
 use Rattle.share_graph.proofs.Contained.{contains-map, contains-filter_map, single}
 
-abbrev logins : State → List KnownDigest
+abbrev pub logins : State → List KnownDigest
 logins s = map (λ account. record { kind = kind.Account; num = account.num.0; digest = account.login }) s.tables.accounts
 
-abbrev token_of : Grant → Option KnownDigest
-token_of grant = option_map (λ d. record { kind = kind.Grant; num = grant.num.0; digest = d }) grant.digest
+abbrev pub known_token : ℕ → Digest → KnownDigest
+known_token num d = record { kind = kind.Grant; num = num; digest = d }
 
-abbrev tokens : State → List KnownDigest
+abbrev pub token_of : Grant → Option KnownDigest
+token_of grant = option_map (λ d. known_token grant.num.0 d) grant.digest
+
+abbrev pub tokens : State → List KnownDigest
 tokens s = filter_map token_of s.tables.grants
 
-abbrev references : State → List KnownDigest
+abbrev pub references : State → List KnownDigest
 references s = map (λ saved. record { kind = kind.Saved; num = saved.num.0; digest = saved.digest }) s.tables.saved
 
-abbrev keys : State → List KnownDigest
+abbrev pub keys : State → List KnownDigest
 keys s = map (λ session. record { kind = kind.Session; num = session.num.0; digest = session.digest }) s.sessions
 
-abbrev run_tokens : State → List KnownDigest
+abbrev pub run_tokens : State → List KnownDigest
 run_tokens s = map (λ run. record { kind = kind.Run; num = run.num.0; digest = run.digest }) s.runs
 
 pub login_known : (s : State) (account : Account) → Contains s.tables.accounts account → HasDigest s account.login kind.Account account.num.0
@@ -50,7 +54,7 @@ token_known s grant d listed has =
     (Contains-append_left (logins s ++ tokens s) (references s) _
     (Contains-append_right (logins s) (tokens s) _
     (contains-filter_map token_of s.tables.grants grant (record { kind = kind.Grant; num = grant.num.0; digest = d }) listed
-        (ap (λ (o : Option Digest). option_map (λ (e : Digest). record { kind = kind.Grant; num = grant.num.0; digest = e }) o) has)))))
+    (ap (λ (o : Option Digest). option_map (λ (e : Digest). record { kind = kind.Grant; num = grant.num.0; digest = e }) o) has)))))
 
 pub reference_known : (s : State) (saved : Saved) → Contains s.tables.saved saved → HasDigest s saved.digest kind.Saved saved.num.0
 reference_known s saved listed =
@@ -69,6 +73,10 @@ pub run_token_known : (s : State) (run : Run) → Contains s.runs run → HasDig
 run_token_known s run listed =
     Contains-append_right (logins s ++ tokens s ++ references s ++ keys s) (run_tokens s) _
     (contains-map (λ (row : Run). record { kind = kind.Run; num = row.num.0; digest = row.digest }) s.runs run listed)
+
+-- the same by equal digests and numbers
+pub known_by : (s : State) (d e : Digest) (k : Kind) (n m : ℕ) → e ≡ d → n ≡ m → HasDigest s e k m → HasDigest s d k n
+known_by s d e k n m digests nums known = subst (λ (x : Digest). HasDigest s x k n) digests (subst (λ (i : ℕ). HasDigest s e k i) (sym nums) known)
 
 -- and so each key finds one row at the most
 pub login_one : (s : State) → IsWellFormed s → (d : Digest) → IsOne (λ account. IsOneOf s.tables.accounts (HasLogin d) account)

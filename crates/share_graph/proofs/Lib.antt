@@ -1,3 +1,4 @@
+pub mod KnownRows
 pub mod OneAnswer
 pub mod Contained
 pub mod MissingOne
@@ -5,6 +6,7 @@ pub mod Least
 pub mod TreesAgree
 pub mod Coherence
 pub mod Apart
+pub mod Unused
 pub mod WayEnds
 pub mod WaysOne
 pub mod Marked

@@ -41,7 +41,6 @@ abbrev pub first◌then◌ : {A : Type 0} → (Option A → Type 0) → (Option 
 first◌then◌ {A} Answers Rest a = ((x : A) × (a ≡ Some x) × Answers (Some x)) ⊎ (Answers None × Rest a)
 
 infixr 10 first◌then◌
-
 -- a relation with one answer at the most
 pub record IsOne {A : Type 0} (R : A → Type 0) : Type 0 where
   pub one : (a b : A) → R a → R b → a ≡ b

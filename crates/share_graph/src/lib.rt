@@ -2,6 +2,7 @@
 #![tactic(auto)]
 
 mod asking;
+mod clashing;
 mod desk;
 mod event;
 mod facts;
@@ -18,6 +19,7 @@ mod state;
 mod ways;
 
 pub use asking::{app_of, is_admin, is_bearer, is_enabled, is_kept, is_node, may_receive};
+pub use clashing::clash;
 pub use desk::{Caller, DeskFault, Made, Offer, Outcome, Readiness};
 pub use event::Event;
 pub use facts::{Fact, Node};

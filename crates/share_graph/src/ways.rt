@@ -1,5 +1,6 @@
 ghost use Rattle.std.specs.Prelude.{◌≡◌};
 ghost use Rattle.share_graph.specs.Checked.{IsChecked};
+ghost use Rattle.share_graph.specs.Forms.{IsOne};
 ghost use Rattle.share_graph.specs.Known.{HasGrant};
 ghost use Rattle.share_graph.specs.Ways.{is_for_sharing, maker_of, IsOrigin, IsRootMaker, IsShownAs, IsWayTo};
 
@@ -64,19 +65,23 @@ fn way_end(tables: &Tables, num: GrantId) -> (Origin, bool)
 }
 
 /// Where the way of a grant ends.
+#[tactic(auto, using(crate::proofs::WaysOne::origin_one))]
 pub fn origin_of(tables: &Tables, num: GrantId) -> Origin
     requires checked { IsChecked tables.now }
     requires there { HasGrant tables.now num }
-    ensures { IsOrigin tables.now num result }
+    ensures origin { IsOrigin tables.now num result }
+    ensures one { IsOne (IsOrigin tables.now num) }
 {
     way_end(tables, num).0
 }
 
 /// The account that a grant comes from in the end.
+#[tactic(auto, using(crate::proofs::WaysOne::maker_one))]
 pub fn root_maker(tables: &Tables, num: GrantId) -> AccountId
     requires checked { IsChecked tables.now }
     requires there { HasGrant tables.now num }
-    ensures { IsRootMaker tables.now num result }
+    ensures maker { IsRootMaker tables.now num result }
+    ensures one { IsOne (IsRootMaker tables.now num) }
 {
     origin_of(tables, num).maker()
 }
@@ -85,7 +90,8 @@ pub fn root_maker(tables: &Tables, num: GrantId) -> AccountId
 pub fn shown_as(tables: &Tables, num: GrantId) -> Option<AccountId>
     requires checked { IsChecked tables.now }
     requires there { HasGrant tables.now num }
-    ensures { IsShownAs tables.now num result }
+    ensures shown { IsShownAs tables.now num result }
+    ensures one { IsOne (IsShownAs tables.now num) }
 {
     let (end, shared) = way_end(tables, num);
     if shared { None } else { Some(end.maker()) }
