@@ -1,8 +1,8 @@
 -- What is lacking where entry isn't held.
+use Rattle.std.specs.Option.{is_some, MatchOption}
 use Rattle.std.proofs.Common.{◌≡◌, ◌<◌, ◌≤◌, ◌⊎◌, ◌+◌, ◌↔◌, ℕ, Bool, true, false, IsTrue, List, Option, Some, None, slice_get, length, refl, sym, ◌∙◌, subst, inl, inr, arith}
 use Rattle.std.proofs.lemmas.Bool.{false≢true}
 use Rattle.std.proofs.lemmas.Option.{slice_get_read}
-use Rattle.host_base.specs.declared.ids.AccountId.{AccountId}
 use Rattle.host_base.specs.declared.ids.GrainId.{GrainId}
 use Rattle.host_base.specs.declared.ids.GrantId.{GrantId}
 use Rattle.share_graph.specs.declared.facts.Fact.TheVariants.{Open}
@@ -14,28 +14,16 @@ use Rattle.share_graph.specs.declared.grants.Target.{Target}
 use Rattle.share_graph.specs.declared.grants.Target.TheVariants as target
 use Rattle.share_graph.specs.declared.state.Tables.{Tables}
 use Rattle.share_graph.specs.Derivation.{Holds, IsMetBy, IsMet, via, site}
-use Rattle.share_graph.specs.Known.{HasAccount, HasGrain}
-use Rattle.share_graph.specs.Missing.{AreMet, IsLost}
+use Rattle.share_graph.specs.Missing.{AreMet, IsNode, IsMissing}
 use Rattle.share_graph.specs.Nodes.{node_at, source_of, MayReceive}
 use Rattle.share_graph.specs.Parents.{IsNoUser}
-use Rattle.share_graph.specs.Rows.{IsGrant, IsKept, IsTrashed, IsEnabled, IsDisabled}
+use Rattle.share_graph.specs.Rows.{IsGrant, IsKept}
 use Rattle.least_access.specs.Solved.{Table, HeldAt, IsSolutionOf}
 
--- a grain that isn't kept is in the trash
-pub trashed : (t : Tables) (n : GrainId) → HasGrain t n → (IsKept t n → ⊥) → IsTrashed t n
-trashed t n (grain, is) lost = by_flag grain.trashed refl
-  where
-    by_flag : (b : Bool) → grain.trashed ≡ b → IsTrashed t n
-    by_flag true in_trash = (grain, is, in_trash)
-    by_flag false kept = absurd (lost (grain, is, kept))
-
--- an account that isn't enabled is disabled
-pub disabled : (t : Tables) (a : AccountId) → HasAccount t a → (IsEnabled t a → ⊥) → IsDisabled t a
-disabled t a (account, is) lost = by_flag account.enabled refl
-  where
-    by_flag : (b : Bool) → account.enabled ≡ b → IsDisabled t a
-    by_flag true on = absurd (lost (account, is, on))
-    by_flag false off = (account, is, off)
+-- what a grant was given from holds no entry; a grant of the site was given from nothing
+abbrev pub IsLost : Tables → Option Node → Type 0
+IsLost t (Some from) = Holds t from Open → ⊥
+IsLost t None = ⊥
 
 -- a test that fails tells that what it tests isn't so
 pub not_so : (P : Type 0) (test : Bool) → IsTrue test ↔ P → test ≡ false → P → ⊥
@@ -91,3 +79,13 @@ met_more t needs i need there met below k other less is =
 
 pub all_met : (t : Tables) (needs : List Need) (i : ℕ) → length needs ≤ i → MetBelow t needs i → AreMet t needs
 all_met t needs i end below need (k, less, is) = below k need (omega arith) (slice_get_read needs (length needs) k need refl less (sym is))
+
+-- where entry is held nothing is missing
+pub entered : (t : Tables) (at : Node) → IsNode t at → Holds t at Open → IsMissing t at None
+entered t (node.User n a) there held = inl (refl, held)
+entered t (node.Grant g) there held = (there.grant, there.is_row, inl (refl, held))
+
+-- what was found is there, with what is so of it
+pub some_found : {X : Type 0} (o : Option X) (P : Type 0) (Q : X → Type 0) → MatchOption o P Q → is_some o ≡ true → (x : X) × Q x
+some_found None P Q m found = absurd (false≢true found)
+some_found (Some x) P Q m found = (x, m)

@@ -1,3 +1,4 @@
+pub mod Rooms
 pub mod Nodes
 pub mod Facts
 pub mod NeedTests

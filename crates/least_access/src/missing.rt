@@ -1,13 +1,12 @@
 //! The first step that is missing where a node holds no entry.
 
-ghost use Rattle.std.specs.Prelude.{◌≡◌, MatchOption, false};
+ghost use Rattle.std.specs.Prelude.{◌≡◌, MatchOption, Some, false};
 ghost use Rattle.share_graph.specs.declared.facts.Fact.TheVariants.{Open};
 ghost use Rattle.share_graph.specs.declared.facts.Node.TheVariants as node;
-ghost use Rattle.share_graph.specs.Coherent.{IsCoherent};
+ghost use Rattle.share_graph.specs.Checked.{IsChecked};
 ghost use Rattle.share_graph.specs.Derivation.{Holds};
-ghost use Rattle.share_graph.specs.Known.{HasGrain, HasAccount};
-ghost use Rattle.share_graph.specs.Missing.{IsNode, AreMet, IsFirstUnmet, UserLacks, GrantLacks, IsMissing};
-ghost use Rattle.share_graph.specs.Parents.{IsNoUser};
+ghost use Rattle.share_graph.specs.Forms.{IsOne};
+ghost use Rattle.share_graph.specs.Missing.{IsNode, AreMet, IsFirstUnmet, UserMissing, GrantMissing, IsMissing};
 ghost use Rattle.share_graph.specs.Rows.{IsGrant};
 ghost use Rattle.least_access.specs.Solved.{IsSolutionOf};
 
@@ -17,9 +16,8 @@ use share_graph::{Grant, Need, Node, Tables, grant as find_grant, is_enabled, is
 
 // What an account without entry lacks on a grain.
 fn user_lacks(tables: &Tables, num: GrainId, account: AccountId) -> Denial
-    requires grain { HasGrain tables.now num }
-    requires account { HasAccount tables.now account }
-    ensures { UserLacks tables.now num account result }
+    requires none { Holds tables.now (node.User num account) Open → ⊥ }
+    ensures { UserMissing tables.now num account (Some result) }
 {
     if !is_kept(tables, num) {
         return Denial::GrainTrashed(num);
@@ -46,11 +44,10 @@ fn first_unmet(solved: &Solved, tables: &Tables, needs: &[Need]) -> Option<usize
 // What a grant without entry lacks.
 fn grant_lacks(solved: &Solved, tables: &Tables, num: GrantId, grant: &Grant) -> Denial
     requires solution { IsSolutionOf tables.now solved.now }
-    requires coherent { IsCoherent tables.now }
+    requires checked { IsChecked tables.now }
     requires row { IsGrant tables.now num grant.now }
-    requires own { IsNoUser grant.now.target }
     requires none { Holds tables.now (node.Grant num) Open → ⊥ }
-    ensures { GrantLacks tables.now num grant.now result }
+    ensures { GrantMissing tables.now num grant.now (Some result) }
 {
     if !is_kept(tables, grant.grain) {
         return Denial::GrainTrashed(grant.grain);
@@ -68,9 +65,10 @@ impl Solved {
     /// Why a node holds no entry: nothing where it does, else the first step that is missing.
     pub fn why_not(&self, tables: &Tables, node: Node) -> Option<Denial>
         requires solution { IsSolutionOf tables.now self.now }
-        requires coherent { IsCoherent tables.now }
+        requires checked { IsChecked tables.now }
         requires there { IsNode tables.now node }
-        ensures { IsMissing tables.now node result }
+        ensures missing { IsMissing tables.now node result }
+        ensures one { IsOne (IsMissing tables.now node) }
     {
         if self.access(node).is_some() {
             return None;

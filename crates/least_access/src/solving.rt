@@ -4,10 +4,12 @@ ghost use Rattle.std.specs.Prelude.{◌≡◌, ◌↔◌, [], ℕ, IsTrue, IfOk,
 ghost use Rattle.perm_roles.specs.PermSet.{Has};
 ghost use Rattle.share_graph.specs.declared.facts.Fact.{Fact};
 ghost use Rattle.share_graph.specs.declared.facts.Node.{Node};
+ghost use Rattle.share_graph.specs.Checked.{IsChecked};
 ghost use Rattle.share_graph.specs.Coherent.{IsCoherent, HasNumbers};
 ghost use Rattle.share_graph.specs.Derivation.{Owns, IsFactOf, IsMetBy};
 ghost use Rattle.share_graph.specs.Rows.{IsGrain, IsApp};
 ghost use Rattle.share_graph.specs.Trees.{HasTree};
+ghost use Rattle.share_graph.specs.WellFormed.{IsWithinLimits};
 ghost use Rattle.least_access.specs.Held.{IsIn};
 ghost use Rattle.least_access.specs.Rounds.{IsSound, HasOwners, HasNodes};
 ghost use Rattle.least_access.specs.Solved.{HeldAt, IsSolutionOf};
@@ -90,9 +92,10 @@ fn add_nodes(tables: &Tables, table: &mut Table) -> Result<(), Memory>
 }
 
 /// What each node holds: exactly the facts of which there is a derivation, which are those that a finite tree shows.
+#[tactic(auto, using(share_graph::proofs::Coherence::coherent, share_graph::proofs::Coherence::has_numbers))]
 pub fn solve(alloc: Global, tables: &Tables) -> Result<Solved, Memory>
-    requires coherent { IsCoherent tables.now }
-    requires numbers { HasNumbers tables.now }
+    requires checked { IsChecked tables.now }
+    requires limits { IsWithinLimits tables.now }
     ensures solution { IfOk result (IsSolutionOf tables.now) }
     ensures trees { IfOk result (λ solved. (at : Node) (fact : Fact) → HeldAt solved at fact ↔ HasTree tables.now at fact) }
 {

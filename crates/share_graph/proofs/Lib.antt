@@ -1,3 +1,5 @@
+pub mod Fits
+pub mod Walks
 pub mod KnownRows
 pub mod OneAnswer
 pub mod Contained
