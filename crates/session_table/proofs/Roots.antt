@@ -15,10 +15,11 @@ use Rattle.share_graph.specs.declared.sessions.Session.{Session}
 use Rattle.share_graph.specs.declared.state.State.{State}
 use Rattle.share_graph.specs.declared.state.Tables.{Tables}
 use Rattle.share_graph.specs.Coherent.{IsCoherent}
+use Rattle.share_graph.specs.Keys.{IsBearer}
 use Rattle.share_graph.specs.Known.{HasGrain}
-use Rattle.share_graph.specs.Parents.{IsNoUser}
+use Rattle.share_graph.specs.Parents.{IsNoUser, IsOwnNode}
 use Rattle.share_graph.specs.Rows.{IsGrant}
-use Rattle.share_graph.specs.WellFormed.{IsBearer, IsJudgeable, IsRootedSession, IsRootedHandle, MayRoot}
+use Rattle.share_graph.specs.WellFormed.{IsWellFormed, IsRootedSession, IsRootedHandle, MayRoot}
 use Rattle.session_table.specs.Behind.{IsBehind}
 use Rattle.session_table.specs.Standing.{behind_grant, behind_session}
 
@@ -46,19 +47,21 @@ root_is_behind t n (root.Grant g) tab grain (grant, is, on, bearer) = record {
   root = (grant, is);
 }
 
-pub session_is_behind : (s : State) → IsJudgeable s → (session : Session) → Contains s.sessions session → IsBehind s.tables (behind_session session)
+pub session_is_behind : (s : State) → IsWellFormed s → (session : Session) → Contains s.sessions session → IsBehind s.tables (behind_session session)
 session_is_behind s ok session c =
     let rooted = All-contains (IsRootedSession s.tables) s.sessions session ok.rooted.sessions c in
     root_is_behind s.tables session.grain session.root _ rooted.grain rooted.root
 
 -- a handle's grant is there
-pub handle_is_rooted : (s : State) → IsJudgeable s → (handle : Handle) → Contains s.handles handle → IsRootedHandle s handle
+pub handle_is_rooted : (s : State) → IsWellFormed s → (handle : Handle) → Contains s.handles handle → IsRootedHandle s handle
 handle_is_rooted s ok handle c = All-contains (IsRootedHandle s) s.handles handle ok.rooted.handles c
 
 -- a grant that a grain claimed goes to no account
 pub claimed_is_no_user : (h : GrainId) (to : Target) → to ≡ target.Grain h → IsNoUser to
 claimed_is_no_user h to is = subst IsNoUser (sym is) tt
 
--- a run's grain is there
-pub has_grain_of_run : (s : State) → IsJudgeable s → (run : Run) → Contains s.runs run → HasGrain s.tables run.grain
-has_grain_of_run s ok run c = All-contains (λ (other : Run). HasGrain s.tables other.grain) s.runs run ok.rooted.runs c
+-- and so is a node of its own
+pub handle_is_node : (s : State) → IsWellFormed s → (handle : Handle) → Contains s.handles handle → IsOwnNode s.tables handle.grant
+handle_is_node s ok handle c =
+    let rooted = handle_is_rooted s ok handle c in
+    record { grant = rooted.grant; is_row = rooted.is_grant; no_user = claimed_is_no_user rooted.run.grain rooted.grant.target rooted.claimed }

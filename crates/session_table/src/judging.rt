@@ -1,8 +1,9 @@
 //! The verdict on each form of key.
 
-ghost use Rattle.std.specs.Prelude.{◌↔◌, IfOk, IsTrue};
+ghost use Rattle.std.specs.Prelude.{IfOk};
 ghost use Rattle.host_base.specs.declared.key.Key.TheVariants as key;
-ghost use Rattle.share_graph.specs.WellFormed.{IsBearer, IsJudgeable};
+ghost use Rattle.share_graph.specs.Forms.{IsOne};
+ghost use Rattle.share_graph.specs.WellFormed.{IsWellFormed};
 ghost use Rattle.least_access.specs.Solved.{IsSolutionOf};
 ghost use Rattle.session_table.specs.Verdict.{IsVerdict};
 
@@ -11,21 +12,9 @@ use crate::reaching::{grant_stands, reaches};
 use host_base::{Denial, Digest, Key, Memory, TabMark, Verdict};
 use least_access::Solved;
 use share_graph::{
-    State, Target, by_grant_token, by_run_token, by_session_key, grant as find_grant,
-    handle as find_handle, is_kept,
+    State, by_bearer_token, by_run_token, by_session_key, handle as find_handle, is_kept,
 };
 use std::alloc::Global;
-
-pub(crate) fn is_bearer(target: Target) -> bool
-    ensures { IsTrue result ↔ IsBearer target }
-{
-    match target {
-        Target::Bearer { .. } => true,
-        Target::User(_) => false,
-        Target::Claim(_) => false,
-        Target::Grain(_) => false,
-    }
-}
 
 // The verdict on the key of a session.
 fn session_verdict(
@@ -34,7 +23,7 @@ fn session_verdict(
     solved: &Solved,
     digest: &Digest,
 ) -> Result<Verdict, Memory>
-    requires judgeable { IsJudgeable state.now }
+    requires formed { IsWellFormed state.now }
     requires solution { IsSolutionOf state.now.tables solved.now }
     ensures { IfOk result (IsVerdict state.now (key.Session digest.now)) }
 {
@@ -58,16 +47,13 @@ fn bearer_verdict(
     solved: &Solved,
     digest: &Digest,
 ) -> Result<Verdict, Memory>
-    requires judgeable { IsJudgeable state.now }
+    requires formed { IsWellFormed state.now }
     requires solution { IsSolutionOf state.now.tables solved.now }
     ensures { IfOk result (IsVerdict state.now (key.Bearer digest.now)) }
 {
-    let Some(grant) = by_grant_token(&state.tables, digest) else {
+    let Some(grant) = by_bearer_token(&state.tables, digest) else {
         return Ok(Verdict::Deny(Denial::UnknownKey));
     };
-    if !is_bearer(grant.target) {
-        return Ok(Verdict::Deny(Denial::UnknownKey));
-    }
     grant_stands(alloc, state, solved, grant.num, grant)
 }
 
@@ -79,7 +65,7 @@ fn handle_verdict(
     digest: &Digest,
     num: u32,
 ) -> Result<Verdict, Memory>
-    requires judgeable { IsJudgeable state.now }
+    requires formed { IsWellFormed state.now }
     requires solution { IsSolutionOf state.now.tables solved.now }
     ensures { IfOk result (IsVerdict state.now (key.Handle digest.now num)) }
 {
@@ -95,17 +81,15 @@ fn handle_verdict(
     let Some(handle) = find_handle(state, run.num, num) else {
         return Ok(Verdict::Deny(Denial::UnknownKey));
     };
-    let Some(grant) = find_grant(&state.tables, handle.grant) else {
-        unreachable!()
-    };
-    reaches(alloc, state, solved, handle.grant, grant)
+    reaches(alloc, state, solved, handle.grant)
 }
 
 /// The verdict on a key.
 pub fn verdict(alloc: Global, state: &State, solved: &Solved, key: &Key) -> Result<Verdict, Memory>
-    requires judgeable { IsJudgeable state.now }
+    requires formed { IsWellFormed state.now }
     requires solution { IsSolutionOf state.now.tables solved.now }
-    ensures { IfOk result (IsVerdict state.now key.now) }
+    ensures verdict { IfOk result (IsVerdict state.now key.now) }
+    ensures one { IsOne (IsVerdict state.now key.now) }
 {
     match key {
         Key::Session(digest) => session_verdict(alloc, state, solved, digest),

@@ -2,13 +2,12 @@
 
 ghost use Rattle.std.specs.Prelude.{◌≡◌, IfOk};
 ghost use Rattle.share_graph.specs.declared.facts.Fact.TheVariants.{Open};
-ghost use Rattle.share_graph.specs.Coherent.{IsCoherent};
+ghost use Rattle.share_graph.specs.Checked.{IsChecked};
 ghost use Rattle.share_graph.specs.Derivation.{Holds};
-ghost use Rattle.share_graph.specs.Keys.{IsOneOf, IsLiveRun};
 ghost use Rattle.least_access.specs.Solved.{IsSolutionOf};
 ghost use Rattle.session_table.specs.Behind.{IsBehind};
 ghost use Rattle.session_table.specs.Standing.{node_on as the_node_on};
-ghost use Rattle.session_table.specs.Verdict.{IsPermit, StandsBy};
+ghost use Rattle.session_table.specs.Verdict.{IsPermit, Stands};
 
 use crate::names::names_of;
 use crate::showing::shown_for;
@@ -37,12 +36,11 @@ fn permit_of(
     tab: Option<TabMark>,
     run: &Run,
 ) -> Result<Permit, Memory>
-    requires coherent { IsCoherent state.now.tables }
+    requires checked { IsChecked state.now.tables }
     requires solution { IsSolutionOf state.now.tables solved.now }
     requires there { IsBehind state.now.tables (record { grain = num; root = root; tab = tab }) }
     requires entry { Holds state.now.tables (the_node_on num root) Open }
-    requires live { IsOneOf state.now.runs (IsLiveRun num) run.now }
-    ensures { IfOk result (IsPermit state.now (record { grain = num; root = root; tab = tab })) }
+    ensures { IfOk result (IsPermit state.now (record { grain = num; root = root; tab = tab }) run.now) }
 {
     let Some(set) = solved.access(node_on(num, root)) else {
         unreachable!()
@@ -51,7 +49,7 @@ fn permit_of(
         unreachable!()
     };
     let names = names_of(alloc, app, set)?;
-    let shown = shown_for(alloc, &state.tables, root)?;
+    let shown = shown_for(&state.tables, root)?;
     Ok(Permit {
         run: run.num,
         grain: num,
@@ -70,10 +68,10 @@ pub fn stands(
     root: Root,
     tab: Option<TabMark>,
 ) -> Result<Verdict, Memory>
-    requires coherent { IsCoherent state.now.tables }
+    requires checked { IsChecked state.now.tables }
     requires solution { IsSolutionOf state.now.tables solved.now }
     requires there { IsBehind state.now.tables (record { grain = num; root = root; tab = tab }) }
-    ensures { IfOk result (StandsBy state.now (record { grain = num; root = root; tab = tab })) }
+    ensures { IfOk result (Stands state.now (record { grain = num; root = root; tab = tab })) }
 {
     let missing = solved.why_not(&state.tables, node_on(num, root));
     if let Some(reason) = missing {

@@ -1,17 +1,17 @@
 //! The verdict on a grant of which the way ends at an account or at the site.
 
 ghost use Rattle.std.specs.Prelude.{IfOk};
-ghost use Rattle.share_graph.specs.Coherent.{IsCoherent};
-ghost use Rattle.share_graph.specs.Parents.{IsNoUser};
+ghost use Rattle.share_graph.specs.Checked.{IsChecked};
+ghost use Rattle.share_graph.specs.Parents.{IsNoUser, IsOwnNode};
 ghost use Rattle.share_graph.specs.Rows.{IsGrant};
 ghost use Rattle.least_access.specs.Solved.{IsSolutionOf};
-ghost use Rattle.session_table.specs.Verdict.{StandsBy, ReachesBy};
+ghost use Rattle.session_table.specs.Verdict.{Stands, Reaches};
 ghost use Rattle.session_table.specs.Standing.{behind_grant};
 
 use crate::permits::stands;
 use host_base::{GrantId, Memory, TabMark, Verdict};
 use least_access::Solved;
-use share_graph::{Grant, Node, Origin, Root, State, origin_of};
+use share_graph::{Grant, Node, Origin, Root, State, grant as find_grant, origin_of};
 use std::alloc::Global;
 
 /// The verdict on a grant.
@@ -22,11 +22,11 @@ pub fn grant_stands(
     num: GrantId,
     grant: &Grant,
 ) -> Result<Verdict, Memory>
-    requires coherent { IsCoherent state.now.tables }
+    requires checked { IsChecked state.now.tables }
     requires solution { IsSolutionOf state.now.tables solved.now }
     requires row { IsGrant state.now.tables num grant.now }
     requires own { IsNoUser grant.now.target }
-    ensures { IfOk result (StandsBy state.now (behind_grant num grant.now)) }
+    ensures { IfOk result (Stands state.now (behind_grant num grant.now)) }
 {
     let tab: Option<TabMark> = None;
     stands(alloc, state, solved, grant.grain, Root::Grant(num), tab)
@@ -38,14 +38,15 @@ pub fn reaches(
     state: &State,
     solved: &Solved,
     num: GrantId,
-    grant: &Grant,
 ) -> Result<Verdict, Memory>
-    requires coherent { IsCoherent state.now.tables }
+    requires checked { IsChecked state.now.tables }
     requires solution { IsSolutionOf state.now.tables solved.now }
-    requires row { IsGrant state.now.tables num grant.now }
-    requires own { IsNoUser grant.now.target }
-    ensures { IfOk result (ReachesBy state.now num grant.now) }
+    requires own { IsOwnNode state.now.tables num }
+    ensures { IfOk result (Reaches state.now num) }
 {
+    let Some(grant) = find_grant(&state.tables, num) else {
+        unreachable!()
+    };
     match origin_of(&state.tables, num) {
         Origin::Account(_) => grant_stands(alloc, state, solved, num, grant),
         Origin::Site { tag, item, .. } => {

@@ -1,5 +1,5 @@
 -- A node has one first missing step at the most.
-use Rattle.std.proofs.Common.{◌≡◌, ◌<◌, ◌⊎◌, ℕ, List, Option, Some, sym, ◌∙◌, ap, subst, arith, inl, inr}
+use Rattle.std.proofs.Common.{◌≡◌, ◌<◌, ◌⊎◌, ℕ, List, Option, Some, None, sym, ◌∙◌, ap, subst, arith, inl, inr}
 use Rattle.host_base.specs.declared.verdict.Denial.{Denial}
 use Rattle.host_base.specs.declared.verdict.Denial.TheVariants.{Unmet}
 use Rattle.host_base.specs.declared.ids.GrantId.{GrantId}
@@ -58,3 +58,15 @@ entry_one {A} deny t at rest =
     must_one (λ a held lacks. lacks_none t at lacks.0 lacks.2 held)
     (record { one = λ a b x y. let same : Some x.0 ≡ Some y.0 = missing_cases t at (Some x.0) (Some y.0) x.2 y.2 in let one : x.0 ≡ y.0 = cc in x.1 ∙ ap deny one ∙ sym y.1 })
     rest
+
+-- where nothing is missing, entry is held
+pub none_held : (t : Tables) (at : Node) → IsMissing t at None → Holds t at Open
+none_held t (node.User n u) (inl (e, held)) = held
+none_held t (node.User n u) (inr (never, inl (e, out))) = cc
+none_held t (node.User n u) (inr (never, inr (kept, inl (e, off)))) = cc
+none_held t (node.User n u) (inr (never, inr (kept, inr (on, e)))) = cc
+none_held t (node.Grant g) (grant, is, inl (e, held)) = held
+none_held t (node.Grant g) (grant, is, inr (never, inl (e, out))) = cc
+none_held t (node.Grant g) (grant, is, inr (never, inr (kept, inl (e, gone)))) = cc
+none_held t (node.Grant g) (grant, is, inr (never, inr (kept, inr (live, inl (i, e, first))))) = cc
+none_held t (node.Grant g) (grant, is, inr (never, inr (kept, inr (live, inr (met, e))))) = cc
