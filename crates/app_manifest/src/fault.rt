@@ -64,7 +64,9 @@ impl ManifestFault {
     {
         match self {
             ManifestFault::NotJson => 0,
-            ManifestFault::BadField(number) | ManifestFault::TooMany(number) => usize::from(*number),
+            ManifestFault::BadField(number) | ManifestFault::TooMany(number) => usize::from(
+                *number,
+            ),
             ManifestFault::DoubleName(place)
             | ManifestFault::LongSet(place)
             | ManifestFault::TwoDefaults(place)

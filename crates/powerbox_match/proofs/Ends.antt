@@ -15,10 +15,10 @@ use Rattle.powerbox_match.specs.Shape.{text_of, value_of, stated_items, stated_f
 use Rattle.powerbox_match.proofs.Tidy.{Entry as Field}
 use Rattle.powerbox_match.proofs.Stated.{item_count-stated, field_count-stated, is_ascending-stated}
 
-within : (n m : ℕ) → n ≡ m → m ≤ 1000 → leb n 1000 ≡ true
+pub within : (n m : ℕ) → n ≡ m → m ≤ 1000 → leb n 1000 ≡ true
 within n m e h = grind (arith, nat_tests)
 
-beyond : (n m : ℕ) → n ≡ m → 1000 < m → leb n 1000 ≡ false
+pub beyond : (n m : ℕ) → n ≡ m → 1000 < m → leb n 1000 ≡ false
 beyond n m e h = grind (arith, nat_tests)
 
 none_within : {A : Type 0} (b : Bool) (f : A → TagData) (o : Option A) → o ≡ None → cond b (option_map f o) None ≡ None

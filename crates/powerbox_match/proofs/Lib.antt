@@ -4,6 +4,7 @@ pub mod Listed
 pub mod Stated
 pub mod Tidy
 pub mod Merge
+pub mod Within
 pub mod Steps
 pub mod Views
 pub mod Strongest

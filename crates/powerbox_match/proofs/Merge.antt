@@ -11,7 +11,7 @@ use Rattle.std.proofs.lemmas.List.{drop_more}
 use Rattle.std.proofs.lemmas.Map.Text.{is_eq-slice_cmp}
 use Rattle.powerbox_match.specs.Value.{TagData, FieldsData, no_fields, field, is_below, is_ascending, is_tidy, are_fields_tidy, tag_data, fields_data}
 use Rattle.powerbox_match.specs.Matching.{get_field, value_matches, fields_match}
-use Rattle.powerbox_match.specs.MatchingSteps.{fields_from}
+use Rattle.powerbox_match.specs.Steps.{fields_not_below}
 use Rattle.powerbox_match.proofs.Tidy.{Entry, is_ascending-drop}
 
 -- ---- the order of names
@@ -57,7 +57,7 @@ below_from_apart m n h k = ap is_lt (nat_list_cmp_total.antisymm n m ∙ below_f
 
 -- ---- below
 
-is_below-trans : (m n : List ℕ) (fs : FieldsData) → is_lt (slice_cmp nat_cmp m n) ≡ true → is_below n fs ≡ true → is_below m fs ≡ true
+pub is_below-trans : (m n : List ℕ) (fs : FieldsData) → is_lt (slice_cmp nat_cmp m n) ≡ true → is_below n fs ≡ true → is_below m fs ≡ true
 is_below-trans m n no_fields h k = refl
 is_below-trans m n (field l v fs) h k =
     rw (below_trans m n l h (first_so _ _ k)) (is_below-trans m n fs h (second_so _ _ k))
@@ -71,47 +71,47 @@ get_field-below n (field l v fs) h =
 
 -- ---- the fields from a name on
 
-get_field-fields_from_at : (b : Bool) (n k : List ℕ) (g : Entry) (gs : List Entry) → is_lt (slice_cmp nat_cmp g.0 k) ≡ b → is_lt (slice_cmp nat_cmp n k) ≡ false
-    → get_field n (fields_data (fields_from k gs)) ≡ get_field n (fields_data gs) → get_field n (fields_data (cond b (fields_from k gs) (g ∷ gs))) ≡ get_field n (fields_data (g ∷ gs))
-get_field-fields_from_at false n k g gs b h later = refl
-get_field-fields_from_at true n k g gs b h later = rw (apart n g.0 k b h) later
+get_field-fields_not_below_at : (b : Bool) (n k : List ℕ) (g : Entry) (gs : List Entry) → is_lt (slice_cmp nat_cmp g.0 k) ≡ b → is_lt (slice_cmp nat_cmp n k) ≡ false
+    → get_field n (fields_data (fields_not_below k gs)) ≡ get_field n (fields_data gs) → get_field n (fields_data (cond b (fields_not_below k gs) (g ∷ gs))) ≡ get_field n (fields_data (g ∷ gs))
+get_field-fields_not_below_at false n k g gs b h later = refl
+get_field-fields_not_below_at true n k g gs b h later = rw (apart n g.0 k b h) later
 
 -- a field is found among those from a name on, unless its name is below that name
-get_field-fields_from : (n k : List ℕ) (gs : List Entry) → is_lt (slice_cmp nat_cmp n k) ≡ false → get_field n (fields_data (fields_from k gs)) ≡ get_field n (fields_data gs)
-get_field-fields_from n k [] h = refl
-get_field-fields_from n k (g ∷ gs) h = get_field-fields_from_at _ n k g gs refl h (get_field-fields_from n k gs h)
+get_field-fields_not_below : (n k : List ℕ) (gs : List Entry) → is_lt (slice_cmp nat_cmp n k) ≡ false → get_field n (fields_data (fields_not_below k gs)) ≡ get_field n (fields_data gs)
+get_field-fields_not_below n k [] h = refl
+get_field-fields_not_below n k (g ∷ gs) h = get_field-fields_not_below_at _ n k g gs refl h (get_field-fields_not_below n k gs h)
 
-fields_match-fields_from : (k : List ℕ) (fs : FieldsData) (gs : List Entry) → is_below k fs ≡ true → fields_match fs (fields_data (fields_from k gs)) ≡ fields_match fs (fields_data gs)
-fields_match-fields_from k no_fields gs h = refl
-fields_match-fields_from k (field n v fs) gs h =
+fields_match-fields_not_below : (k : List ℕ) (fs : FieldsData) (gs : List Entry) → is_below k fs ≡ true → fields_match fs (fields_data (fields_not_below k gs)) ≡ fields_match fs (fields_data gs)
+fields_match-fields_not_below k no_fields gs h = refl
+fields_match-fields_not_below k (field n v fs) gs h =
     let below : is_lt (slice_cmp nat_cmp k n) ≡ true = first_so _ _ h in
-    let same : get_field n (fields_data (fields_from k gs)) ≡ get_field n (fields_data gs) = get_field-fields_from n k gs (not_below_back k n below) in
-    let later : fields_match fs (fields_data (fields_from k gs)) ≡ fields_match fs (fields_data gs) = fields_match-fields_from k fs gs (second_so _ _ h) in
+    let same : get_field n (fields_data (fields_not_below k gs)) ≡ get_field n (fields_data gs) = get_field-fields_not_below n k gs (not_below_back k n below) in
+    let later : fields_match fs (fields_data (fields_not_below k gs)) ≡ fields_match fs (fields_data gs) = fields_match-fields_not_below k fs gs (second_so _ _ h) in
     rw (same, later)
 
-is_ascending-fields_from_at : (b : Bool) (k : List ℕ) (g : Entry) (gs : List Entry) → is_ascending (fields_data (fields_from k gs)) ≡ true → is_ascending (fields_data (g ∷ gs)) ≡ true → is_ascending (fields_data (cond b (fields_from k gs) (g ∷ gs))) ≡ true
-is_ascending-fields_from_at true k g gs later here = later
-is_ascending-fields_from_at false k g gs later here = here
+is_ascending-fields_not_below_at : (b : Bool) (k : List ℕ) (g : Entry) (gs : List Entry) → is_ascending (fields_data (fields_not_below k gs)) ≡ true → is_ascending (fields_data (g ∷ gs)) ≡ true → is_ascending (fields_data (cond b (fields_not_below k gs) (g ∷ gs))) ≡ true
+is_ascending-fields_not_below_at true k g gs later here = later
+is_ascending-fields_not_below_at false k g gs later here = here
 
-pub is_ascending-fields_from : (k : List ℕ) (gs : List Entry) → is_ascending (fields_data gs) ≡ true → is_ascending (fields_data (fields_from k gs)) ≡ true
-is_ascending-fields_from k [] h = h
-is_ascending-fields_from k (g ∷ gs) h = is_ascending-fields_from_at _ k g gs (is_ascending-fields_from k gs (second_so _ _ h)) h
+pub is_ascending-fields_not_below : (k : List ℕ) (gs : List Entry) → is_ascending (fields_data gs) ≡ true → is_ascending (fields_data (fields_not_below k gs)) ≡ true
+is_ascending-fields_not_below k [] h = h
+is_ascending-fields_not_below k (g ∷ gs) h = is_ascending-fields_not_below_at _ k g gs (is_ascending-fields_not_below k gs (second_so _ _ h)) h
 
-are_fields_tidy-fields_from_at : (b : Bool) (k : List ℕ) (g : Entry) (gs : List Entry) → are_fields_tidy (fields_data (fields_from k gs)) ≡ true → are_fields_tidy (fields_data (g ∷ gs)) ≡ true → are_fields_tidy (fields_data (cond b (fields_from k gs) (g ∷ gs))) ≡ true
-are_fields_tidy-fields_from_at true k g gs later here = later
-are_fields_tidy-fields_from_at false k g gs later here = here
+are_fields_tidy-fields_not_below_at : (b : Bool) (k : List ℕ) (g : Entry) (gs : List Entry) → are_fields_tidy (fields_data (fields_not_below k gs)) ≡ true → are_fields_tidy (fields_data (g ∷ gs)) ≡ true → are_fields_tidy (fields_data (cond b (fields_not_below k gs) (g ∷ gs))) ≡ true
+are_fields_tidy-fields_not_below_at true k g gs later here = later
+are_fields_tidy-fields_not_below_at false k g gs later here = here
 
-pub are_fields_tidy-fields_from : (k : List ℕ) (gs : List Entry) → are_fields_tidy (fields_data gs) ≡ true → are_fields_tidy (fields_data (fields_from k gs)) ≡ true
-are_fields_tidy-fields_from k [] h = h
-are_fields_tidy-fields_from k (g ∷ gs) h = are_fields_tidy-fields_from_at _ k g gs (are_fields_tidy-fields_from k gs (second_so _ _ h)) h
+pub are_fields_tidy-fields_not_below : (k : List ℕ) (gs : List Entry) → are_fields_tidy (fields_data gs) ≡ true → are_fields_tidy (fields_data (fields_not_below k gs)) ≡ true
+are_fields_tidy-fields_not_below k [] h = h
+are_fields_tidy-fields_not_below k (g ∷ gs) h = are_fields_tidy-fields_not_below_at _ k g gs (are_fields_tidy-fields_not_below k gs (second_so _ _ h)) h
 
-first_at : (b : Bool) (k : List ℕ) (g h : Entry) (gs : List Entry) → is_lt (slice_cmp nat_cmp g.0 k) ≡ b → (Some h ≡ slice_get (fields_from k gs) 0 → is_lt (slice_cmp nat_cmp h.0 k) ≡ false)
-    → Some h ≡ slice_get (cond b (fields_from k gs) (g ∷ gs)) 0 → is_lt (slice_cmp nat_cmp h.0 k) ≡ false
+first_at : (b : Bool) (k : List ℕ) (g h : Entry) (gs : List Entry) → is_lt (slice_cmp nat_cmp g.0 k) ≡ b → (Some h ≡ slice_get (fields_not_below k gs) 0 → is_lt (slice_cmp nat_cmp h.0 k) ≡ false)
+    → Some h ≡ slice_get (cond b (fields_not_below k gs) (g ∷ gs)) 0 → is_lt (slice_cmp nat_cmp h.0 k) ≡ false
 first_at true k g h gs b later e = later e
 first_at false k g h gs b later e = let same : h ≡ g = cc in rw same b
 
 -- the first field from a name on isn't below it
-first_not_below : (k : List ℕ) (gs : List Entry) (h : Entry) → Some h ≡ slice_get (fields_from k gs) 0 → is_lt (slice_cmp nat_cmp h.0 k) ≡ false
+first_not_below : (k : List ℕ) (gs : List Entry) (h : Entry) → Some h ≡ slice_get (fields_not_below k gs) 0 → is_lt (slice_cmp nat_cmp h.0 k) ≡ false
 first_not_below k [] h e = absurd (cc)
 first_not_below k (g ∷ gs) h e = first_at _ k g h gs refl (first_not_below k gs h) e
 
@@ -123,21 +123,21 @@ is_met v given = option_map_or (λ w. value_matches v w) given true
 
 -- a field is met, or not, by the fields from its name on, and then come the fields after it
 fields_match_step : (x : Entry) (xs gs : List Entry) → is_ascending (fields_data (x ∷ xs)) ≡ true
-    → fields_match (fields_data (x ∷ xs)) (fields_data gs) ≡ (is_met (tag_data x.1) (get_field x.0 (fields_data (fields_from x.0 gs))) && fields_match (fields_data xs) (fields_data (fields_from x.0 gs)))
+    → fields_match (fields_data (x ∷ xs)) (fields_data gs) ≡ (is_met (tag_data x.1) (get_field x.0 (fields_data (fields_not_below x.0 gs))) && fields_match (fields_data xs) (fields_data (fields_not_below x.0 gs)))
 fields_match_step x xs gs h =
-    let same : get_field x.0 (fields_data (fields_from x.0 gs)) ≡ get_field x.0 (fields_data gs) = get_field-fields_from x.0 x.0 gs (not_below_itself x.0) in
-    let later : fields_match (fields_data xs) (fields_data (fields_from x.0 gs)) ≡ fields_match (fields_data xs) (fields_data gs) = fields_match-fields_from x.0 (fields_data xs) gs (first_so _ _ h) in
+    let same : get_field x.0 (fields_data (fields_not_below x.0 gs)) ≡ get_field x.0 (fields_data gs) = get_field-fields_not_below x.0 x.0 gs (not_below_itself x.0) in
+    let later : fields_match (fields_data xs) (fields_data (fields_not_below x.0 gs)) ≡ fields_match (fields_data xs) (fields_data gs) = fields_match-fields_not_below x.0 (fields_data xs) gs (first_so _ _ h) in
     rw (same, later)
 
 -- the same in a walk over the query's fields
 pub fields_match_more : (ws : List Entry) (i : ℕ) (x : Entry) (gs : List Entry) (b : Bool) → i < length ws → x ≡ get_or ws i x → is_ascending (fields_data ws) ≡ true
-    → is_met (tag_data x.1) (get_field x.0 (fields_data (fields_from x.0 gs))) ≡ b
-    → fields_match (fields_data (drop i ws)) (fields_data gs) ≡ (b && fields_match (fields_data (drop (i + 1) ws)) (fields_data (fields_from x.0 gs)))
+    → is_met (tag_data x.1) (get_field x.0 (fields_data (fields_not_below x.0 gs))) ≡ b
+    → fields_match (fields_data (drop i ws)) (fields_data gs) ≡ (b && fields_match (fields_data (drop (i + 1) ws)) (fields_data (fields_not_below x.0 gs)))
 fields_match_more ws i x gs b within is up met =
     let here : drop i ws ≡ x ∷ drop (i + 1) ws = drop_more ws i x within ∙ ap (λ (y : Entry). y ∷ drop (i + 1) ws) (sym is) in
     let left : is_ascending (fields_data (x ∷ drop (i + 1) ws)) ≡ true = ap (λ (ys : List Entry). is_ascending (fields_data ys)) (sym here) ∙ is_ascending-drop i ws up in
     ap (λ (ys : List Entry). fields_match (fields_data ys) (fields_data gs)) here ∙ fields_match_step x (drop (i + 1) ws) gs left
-    ∙ ap (λ (c : Bool). c && fields_match (fields_data (drop (i + 1) ws)) (fields_data (fields_from x.0 gs))) met
+    ∙ ap (λ (c : Bool). c && fields_match (fields_data (drop (i + 1) ws)) (fields_data (fields_not_below x.0 gs))) met
 
 bytes_eq_back : (m n : List ℕ) (b : Bool) → bytes_eq m n ≡ b → bytes_eq n m ≡ b
 bytes_eq_back m n b h = nat_list_eq_equiv.symm n m ∙ h
@@ -153,20 +153,20 @@ get_field_other_at k (g ∷ gs) h e other below up =
     rw (here, get_field-below k (fields_data gs) (is_below-trans k g.0 (fields_data gs) lower (first_so _ _ up)))
 
 -- where the first field left has another name, none has the name
-pub get_field_other : (k : List ℕ) (rest : List Entry) (h : Entry) → fields_from k rest ≡ rest → Some h ≡ slice_get rest 0 → bytes_eq h.0 k ≡ false → is_ascending (fields_data rest) ≡ true
+pub get_field_other : (k : List ℕ) (rest : List Entry) (h : Entry) → fields_not_below k rest ≡ rest → Some h ≡ slice_get rest 0 → bytes_eq h.0 k ≡ false → is_ascending (fields_data rest) ≡ true
     → None ≡ get_field k (fields_data rest)
 get_field_other k rest h from e other up =
     get_field_other_at k rest h e other (first_not_below k rest h (rw from e)) up
 
-fields_from_again_at : (b : Bool) (k : List ℕ) (g : Entry) (gs : List Entry) → is_lt (slice_cmp nat_cmp g.0 k) ≡ b → fields_from k (fields_from k gs) ≡ fields_from k gs
-    → fields_from k (cond b (fields_from k gs) (g ∷ gs)) ≡ cond b (fields_from k gs) (g ∷ gs)
-fields_from_again_at true k g gs b later = later
-fields_from_again_at false k g gs b later = rw b
+fields_not_below_again_at : (b : Bool) (k : List ℕ) (g : Entry) (gs : List Entry) → is_lt (slice_cmp nat_cmp g.0 k) ≡ b → fields_not_below k (fields_not_below k gs) ≡ fields_not_below k gs
+    → fields_not_below k (cond b (fields_not_below k gs) (g ∷ gs)) ≡ cond b (fields_not_below k gs) (g ∷ gs)
+fields_not_below_again_at true k g gs b later = later
+fields_not_below_again_at false k g gs b later = rw b
 
 -- the fields from a name on begin there
-pub fields_from_again : (k : List ℕ) (gs : List Entry) → fields_from k (fields_from k gs) ≡ fields_from k gs
-fields_from_again k [] = refl
-fields_from_again k (g ∷ gs) = fields_from_again_at _ k g gs refl (fields_from_again k gs)
+pub fields_not_below_again : (k : List ℕ) (gs : List Entry) → fields_not_below k (fields_not_below k gs) ≡ fields_not_below k gs
+fields_not_below_again k [] = refl
+fields_not_below_again k (g ∷ gs) = fields_not_below_again_at _ k g gs refl (fields_not_below_again k gs)
 
 -- a field of a tidy list is tidy
 pub get_field_tidy : (k : List ℕ) (fs : FieldsData) (v : TagData) → Some v ≡ get_field k fs → are_fields_tidy fs ≡ true → is_tidy v ≡ true

@@ -7,7 +7,7 @@ use Rattle.powerbox_match.specs.declared.value.Quality.{Quality}
 use Rattle.powerbox_match.specs.declared.value.Quality.TheVariants.{Acceptable, Preferred, Unacceptable}
 use Rattle.powerbox_match.specs.Descriptor.{DescriptorData}
 use Rattle.powerbox_match.specs.Matching.{matches_with, some_match}
-use Rattle.powerbox_match.specs.MatchingSteps.{strongest, stronger}
+use Rattle.powerbox_match.specs.Steps.{strongest, stronger}
 
 -- the strongest, by which qualities occur
 abbrev pick : Bool → Bool → Bool → Option Quality

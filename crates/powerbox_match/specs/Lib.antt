@@ -2,6 +2,6 @@ pub mod Value
 pub mod Descriptor
 pub mod Code
 pub mod Matching
-pub mod MatchingSteps
+pub mod Steps
 pub mod Choices
 pub mod Shape

@@ -76,6 +76,11 @@ abbrev mutual
   are_items_tidy no_items = true
   are_items_tidy (item v vs) = is_tidy v && are_items_tidy vs
 
+-- whether a value is within the limits of a tag: it nests at most 16 deep, each list in it has at most 1,000 entries,
+-- and the names of fields ascend
+abbrev pub is_within_limits : TagData → Bool
+is_within_limits d = nat_le (nesting d) 16 && is_tidy d
+
 -- the fields of a list, in order
 abbrev pub fields_of : List (List ℕ × TagData) → FieldsData
 fields_of [] = no_fields

@@ -1,15 +1,12 @@
 //! Tags, descriptors and queries, each within its limits.
 
 ghost use Rattle.std.specs.Prelude.{◌≡◌, ◌≤◌, IsTrue, length};
-ghost use Rattle.powerbox_match.specs.Value.{nesting, is_tidy, tag_data};
+ghost use Rattle.powerbox_match.specs.Value.{nesting, is_tidy, is_within_limits, tag_data};
 
 use crate::value::{Quality, TagValue};
 use plain_data::List;
 use std::alloc::AllocError;
 use std::marker::Model;
-
-/// The most tags that a descriptor has.
-pub const DESCRIPTOR_TAG_LIMIT: usize = 32;
 
 /// A statement about an object: an id that says what is stated, and a value.
 ///
@@ -39,8 +36,7 @@ impl Model for Tag {
 impl Tag {
     /// The tag of an id and a value that is within the limits of a tag.
     pub fn new(id: u64, value: TagValue) -> Self
-        requires shallow { nesting (tag_data value) ≤ 16 }
-        requires tidy { IsTrue (is_tidy (tag_data value)) }
+        requires { IsTrue (is_within_limits (tag_data value)) }
         ensures { result ≡ (id, tag_data value) }
     {
         Tag { id, value }
@@ -56,6 +52,7 @@ impl Tag {
     /// The value, which is within the limits of a tag.
     pub fn value(&self) -> &TagValue
         ensures value { tag_data result.now ≡ self.now.1 }
+        ensures within { IsTrue (is_within_limits self.now.1) }
         ensures shallow { nesting self.now.1 ≤ 16 }
         ensures tidy { IsTrue (is_tidy self.now.1) }
     {

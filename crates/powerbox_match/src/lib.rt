@@ -7,14 +7,16 @@ mod coded_value;
 mod depth;
 mod descriptor;
 mod fault;
+mod limits;
 mod matching;
 mod reading;
 mod shape;
 mod value;
 
 pub use choices::{Choice, Choices};
-pub use descriptor::{DESCRIPTOR_TAG_LIMIT, Descriptor, Query, Tag};
+pub use descriptor::{Descriptor, Query, Tag};
 pub use fault::ShapeFault;
+pub use limits::{DESCRIPTOR_TAG_LIMIT, ENTRY_LIMIT, VALUE_DEPTH_LIMIT};
 pub use matching::matches;
 pub use shape::{descriptor_from, query_from};
 pub use value::{Quality, TagValue};

@@ -3,7 +3,7 @@
 ghost use Rattle.std.specs.Prelude.{◌≡◌, IsTrue, option_map};
 ghost use Rattle.powerbox_match.specs.Value.{is_tidy, is_ascending, are_fields_tidy, are_items_tidy, tag_data, fields_data, items_data};
 ghost use Rattle.powerbox_match.specs.Matching.{value_matches, fields_match, get_field, items_match, any_item, tag_matches, descriptor_matches, pair_quality, matches_with, match_of};
-ghost use Rattle.powerbox_match.specs.MatchingSteps.{fields_from, strongest, stronger};
+ghost use Rattle.powerbox_match.specs.Steps.{fields_not_below, strongest, stronger};
 
 use crate::descriptor::{Descriptor, Query, Tag};
 use crate::value::{Quality, TagValue};
@@ -37,7 +37,7 @@ fn fields_match(wanted: &[(Name, TagValue)], given: &[(Name, TagValue)]) -> bool
 {
     let mut rest = given;
     for field in wanted {
-        rest = fields_from(&field.0, rest);
+        rest = fields_not_below(&field.0, rest);
         if let Some(other) = first_named(&field.0, rest)
             && !value_matches(&field.1, other)
         {
@@ -48,8 +48,8 @@ fn fields_match(wanted: &[(Name, TagValue)], given: &[(Name, TagValue)]) -> bool
 }
 
 // The fields without those in front whose names are below a name.
-fn fields_from<'a>(name: &Name, fields: &'a [(Name, TagValue)]) -> &'a [(Name, TagValue)]
-    ensures { result.now ≡ fields_from name.now fields.now }
+fn fields_not_below<'a>(name: &Name, fields: &'a [(Name, TagValue)]) -> &'a [(Name, TagValue)]
+    ensures { result.now ≡ fields_not_below name.now fields.now }
 {
     for (place, (other, _)) in fields.iter().enumerate() {
         if other.as_str() >= name.as_str() {
@@ -62,7 +62,7 @@ fn fields_from<'a>(name: &Name, fields: &'a [(Name, TagValue)]) -> &'a [(Name, T
 // The value of the field with a name, among fields that begin there.
 fn first_named<'a>(name: &Name, fields: &'a [(Name, TagValue)]) -> Option<&'a TagValue>
     requires ascending { IsTrue (is_ascending (fields_data fields.now)) }
-    requires from_there { fields_from name.now fields.now ≡ fields.now }
+    requires from_there { fields_not_below name.now fields.now ≡ fields.now }
     ensures { option_map (λ v. tag_data v.now) result
         ≡ get_field name.now (fields_data fields.now) }
 {

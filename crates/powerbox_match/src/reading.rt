@@ -7,12 +7,11 @@ ghost use Rattle.powerbox_match.specs.Value.{TagData, is_tidy, tag_data, fields_
 ghost use Rattle.powerbox_match.specs.Shape.{json_nesting, json_items_nesting, json_members_nesting, text_of, value_of};
 
 use crate::fault::ShapeFault;
+use crate::limits::ENTRY_LIMIT;
 use crate::value::TagValue;
 use plain_data::Name;
 use serde_json::{Map, Value};
 use std::alloc::{AllocError, Global};
-
-const ENTRY_LIMIT: usize = 1000;
 
 // A value that states none is a fault of `tags`.
 const BAD_TAG: ShapeFault = ShapeFault::BadShape(1);

@@ -8,15 +8,14 @@ ghost use Rattle.powerbox_match.specs.Value.{tag_data, is_tidy};
 ghost use Rattle.powerbox_match.specs.Shape.{json_nesting, tag_nesting, value_or_any, tag_of, tag_list, tags_or_fault, quality_named, quality_or_fault, descriptor_of, query_of};
 
 use crate::depth::values_nest_within;
-use crate::descriptor::{DESCRIPTOR_TAG_LIMIT, Descriptor, Query, Tag};
+use crate::descriptor::{Descriptor, Query, Tag};
 use crate::fault::ShapeFault;
+use crate::limits::{DESCRIPTOR_TAG_LIMIT, VALUE_DEPTH_LIMIT};
 use crate::reading::value_from;
 use crate::value::{Quality, TagValue};
 use plain_data::List;
 use serde_json::Value;
 use std::alloc::Global;
-
-const VALUE_DEPTH_LIMIT: usize = 16;
 
 // The numbers of the fields, as faults name them.
 const BAD_QUERY: ShapeFault = ShapeFault::BadShape(0);

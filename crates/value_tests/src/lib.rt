@@ -2,4 +2,7 @@
 #![tactic(auto)]
 
 #[cfg(test)]
+mod manifests;
+
+#[cfg(test)]
 mod powerbox;

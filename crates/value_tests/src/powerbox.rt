@@ -1,6 +1,7 @@
-use plain_data::List;
+use plain_data::{List, Name};
 use powerbox_match::{
-    Choice, Choices, Quality, Query, ShapeFault, TagValue, descriptor_from, matches, query_from,
+    Choice, Choices, Descriptor, Quality, Query, ShapeFault, Tag, TagValue, descriptor_from,
+    matches, query_from,
 };
 use serde_json::Value;
 use std::alloc::{AllocError, Global};
@@ -206,6 +207,53 @@ fn a_copy_of_a_descriptor_matches_alike(rt: HostRuntime) -> Result<(), Fail> {
     let mut copies = List::empty(alloc);
     copies.push(descriptor.clone()?)?;
     assert_eq!(rt; matches(&copies, &[descriptor]), Some(Quality::Preferred));
+    Ok(())
+}
+
+// Lists within lists, that many deep.
+fn nested(alloc: Global, depth: usize) -> Result<TagValue, AllocError> {
+    let mut value = TagValue::Any;
+    for _ in 1..depth {
+        let mut items = Vec::new(alloc);
+        items.push(value)?;
+        value = TagValue::Items(items);
+    }
+    Ok(value)
+}
+
+// Fields of these names, in this order.
+fn named(alloc: Global, names: &[&str]) -> Result<TagValue, AllocError> {
+    let mut fields = Vec::new(alloc);
+    for name in names {
+        if let Some(name) = Name::from_str(alloc, *name)? {
+            fields.push((name, TagValue::Any))?;
+        }
+    }
+    Ok(TagValue::Fields(fields))
+}
+
+#[test]
+fn values_have_limits(rt: HostRuntime) -> Result<(), Fail> {
+    let alloc = rt.alloc();
+    for (depth, is_within) in [(1, true), (16, true), (17, false)] {
+        let value = nested(alloc, depth)?;
+        assert_eq!(rt; value.is_within_limits(), is_within, "{depth}");
+    }
+    for (names, is_within) in [
+        (["a", "b"], true),
+        (["b", "a"], false),
+        (["a", "a"], false),
+        (["", "a"], true),
+    ] {
+        let value = named(alloc, &names)?;
+        assert_eq!(rt; value.is_within_limits(), is_within, "{names:?}");
+        if value.is_within_limits() {
+            let mut tags = Vec::new(alloc);
+            tags.push(Tag::new(7, value))?;
+            let descriptor = Descriptor::new(tags, Quality::Preferred);
+            assert_eq!(rt; descriptor.tags().len(), 1);
+        }
+    }
     Ok(())
 }
 

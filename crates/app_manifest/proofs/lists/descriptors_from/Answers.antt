@@ -1,5 +1,4 @@
-use Rattle.std.proofs.Common.{◌≡◌, [], ◌∷◌, Some, None, option_and_then, map, sym, ap, ◌∙◌, rules}
-use Rattle.std.proofs.lemmas.List.{map-append}
+use Rattle.std.proofs.Common.{◌≡◌, Some, None, option_and_then, sym, ap, ◌∙◌, rules}
 use Rattle.serde_json.specs.View.{view, items_view}
 use Rattle.app_manifest.specs.Fields.{each_of}
 use Rattle.app_manifest.specs.Draft.{request_of}

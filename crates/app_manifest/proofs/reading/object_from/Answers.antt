@@ -1,4 +1,4 @@
-use Rattle.std.proofs.Common.{◌≡◌, false, refl, sym, ◌∙◌}
+use Rattle.std.proofs.Common.{refl, sym, ◌∙◌}
 use Rattle.app_manifest.proofs.Objects.{object_there, no_value}
 use Rattle.app_manifest.proofs.reading.object_from.Goals as goal
 

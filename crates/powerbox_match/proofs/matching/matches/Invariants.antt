@@ -1,6 +1,6 @@
 use Rattle.std.proofs.Common.{◌≡◌, take}
 use Rattle.powerbox_match.specs.Matching.{some_match}
-use Rattle.powerbox_match.specs.MatchingSteps.{strongest}
+use Rattle.powerbox_match.specs.Steps.{strongest}
 use Rattle.powerbox_match.proofs.matching.matches.Given as goal
 
 abbrev pub invariant-loop-wanted : goal.invariant-loop-wanted
