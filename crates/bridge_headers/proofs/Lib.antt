@@ -1,1 +1,4 @@
+pub mod ClientLines
+pub mod LineLemmas
+pub mod Listed
 pub mod Texts

@@ -1,9 +1,10 @@
-// The text of a request as a grain gets it: who asks, and with which permissions.
+//! What passes between a client and a grain: the text of a request as a grain gets it, and the relay of its answer.
 #![tactic(auto)]
 
 pub mod asked;
 pub mod identity;
-mod text;
+mod lines;
+mod names;
 
 pub use asked::grain_text;
 pub use identity::user_id;

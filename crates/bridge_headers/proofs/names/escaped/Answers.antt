@@ -1,8 +1,8 @@
 use Rattle.std.proofs.Common.{◌≡◌, string_bytes, ◌∙◌, arith}
 use Rattle.percent_encoding.specs.Percent.{percent_encode}
-use Rattle.bridge_headers.specs.declared.text.TheConstants.{ESCAPED}
+use Rattle.bridge_headers.specs.declared.names.TheConstants.{ESCAPED}
 use Rattle.bridge_headers.proofs.Texts.{percent_encode-name}
-use Rattle.bridge_headers.proofs.text.escaped.Goals as goal
+use Rattle.bridge_headers.proofs.names.escaped.Goals as goal
 
 pub returns-in-Ok : goal.returns-in-Ok
 returns-in-Ok c =

@@ -1,7 +1,7 @@
 use Rattle.std.proofs.Common.{◌≡◌}
 use Rattle.bridge_headers.proofs.Texts.{joined_first, joined_next}
-use Rattle.bridge_headers.proofs.asked.joined.Goals as goal
-use Rattle.bridge_headers.proofs.asked.joined.Goals.{then-i-gt0+in_ok-put, else-i-gt0}
+use Rattle.bridge_headers.proofs.names.joined.Goals as goal
+use Rattle.bridge_headers.proofs.names.joined.Goals.{then-i-gt0+in_ok-put, else-i-gt0}
 
 pub loop-i-preserved : goal.loop-i-preserved
 loop-i-preserved c =
