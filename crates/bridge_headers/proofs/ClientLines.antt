@@ -7,16 +7,9 @@ use Rattle.host_base.specs.declared.request.Request.{Request}
 use Rattle.bridge_headers.specs.Lines.{Line, lines_text, passed, same_name}
 use Rattle.bridge_headers.specs.Text.{client_lines, length_line, length_lines, request_line, request_names, server_lines, states_length, grain_text}
 use Rattle.host_base.specs.declared.permit.Permit.{Permit}
-use Rattle.bridge_headers.proofs.LineLemmas.{or_true, passed-more, more_lines}
+use Rattle.bridge_headers.proofs.LineLemmas.{passed-more, more_lines}
 
--- a length that was sent is among the lines
-pub length_at : (fields : List Field) (i : ℕ) (field : Field) → i < length fields → field ≡ get_or fields i field → same_name field.name (codes "content-length") ≡ true
-    → list_any states_length (client_lines fields) ≡ true
-length_at [] i field within is same = absurd (omega arith)
-length_at (x ∷ xs) zero field within is same =
-    ap (λ (b : Bool). b || list_any states_length (client_lines xs)) (ap (λ (f : Field). same_name f.name (codes "content-length")) (sym is) ∙ same)
-length_at (x ∷ xs) (suc i) field within is same = or_true (states_length (x.name, x.value)) _ (length_at xs i field (omega arith) is same)
-
+-- the length line, where a length was sent
 pub length_sent : (request : Request) → list_any states_length (client_lines request.fields) ≡ true → length_lines request ≡ length_line request ∷ []
 length_sent request sent = ap (λ (b : Bool). cond b (length_line request ∷ []) []) sent
 

@@ -1,4 +1,6 @@
 pub mod ClientLines
+pub mod FramingLemmas
+pub mod HeadLemmas
 pub mod LineLemmas
 pub mod Listed
 pub mod Texts

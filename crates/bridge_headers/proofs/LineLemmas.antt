@@ -8,7 +8,7 @@ use Rattle.std.proofs.lemmas.Slice.Eq.{bytes_eq-Decides}
 use Rattle.std.specs.Str.{bytes_eq}
 use Rattle.bridge_headers.specs.Lines.{Line, line_text, lines_text, lower, lower_line, is_passed, passed, same_name}
 
-pub or_true : (a b : Bool) → b ≡ true → (a || b) ≡ true
+or_true : (a b : Bool) → b ≡ true → (a || b) ≡ true
 or_true true b h = refl
 or_true false b h = h
 
@@ -16,12 +16,11 @@ pub true_or : (a b : Bool) → (a || b) ≡ true → (a ≡ true) ⊎ (b ≡ tru
 true_or true b h = inl refl
 true_or false b h = inr h
 
--- a name that is the same as a listed one is among them
-pub listed_at : (name : List ℕ) (names : List (Bor (List ℕ))) (i : ℕ) (d : Bor (List ℕ)) → i < length names → same_name name (get_or names i d).now ≡ true
-    → list_any (same_name name) (map (λ listed. listed.now) names) ≡ true
-listed_at name [] i d within same = absurd (omega arith)
-listed_at name (x ∷ xs) zero d within same = ap (λ b. b || list_any (same_name name) (map (λ listed. listed.now) xs)) same
-listed_at name (x ∷ xs) (suc i) d within same = or_true (same_name name x.now) _ (listed_at name xs i d (omega arith) same)
+-- a test that one item passes is passed by some
+pub any_at : {X Y : Type 0} (p : Y → Bool) (f : X → Y) (xs : List X) (i : ℕ) (d : X) → i < length xs → p (f (get_or xs i d)) ≡ true → list_any p (map f xs) ≡ true
+any_at p f [] i d within passes = absurd (omega arith)
+any_at p f (x ∷ xs) zero d within passes = ap (λ (b : Bool). b || list_any p (map f xs)) passes
+any_at p f (x ∷ xs) (suc i) d within passes = or_true (p (f x)) (list_any p (map f xs)) (any_at p f xs i d (omega arith) passes)
 
 -- the lines that are passed on of one line more
 pub passed-more : (names : List (List ℕ)) (lines : List Line) (line : Line) → lines_text (passed names (lines ++ line ∷ [])) ≡ lines_text (passed names lines) ++ lines_text (passed names (line ∷ []))

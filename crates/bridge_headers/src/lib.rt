@@ -2,9 +2,14 @@
 #![tactic(auto)]
 
 pub mod asked;
+mod fault;
+mod framing;
+mod head;
 pub mod identity;
 mod lines;
 mod names;
+mod stated;
 
 pub use asked::grain_text;
+pub use fault::RelayFault;
 pub use identity::user_id;
