@@ -1,13 +1,14 @@
 -- The client's lines, one after another.
-use Rattle.std.proofs.Common.{◌≡◌, ℕ, zero, suc, ◌+◌, ◌<◌, ◌++◌, ◌||◌, Bool, true, cond, List, [], ◌∷◌, length, get_or, take, ap, sym, ◌∙◌, arith, append_assoc, codes}
+use Rattle.std.proofs.Common.{◌≡◌, ℕ, ◌+◌, ◌<◌, ◌++◌, Bool, true, cond, List, [], ◌∷◌, length, get_or, take, ap, sym, ◌∙◌, codes}
 use Rattle.std.specs.List.{list_any}
 use Rattle.std.proofs.lemmas.List.{map-append, take_more}
 use Rattle.host_base.specs.declared.request.Field.{Field}
 use Rattle.host_base.specs.declared.request.Request.{Request}
-use Rattle.bridge_headers.specs.Lines.{Line, lines_text, passed, same_name}
-use Rattle.bridge_headers.specs.Text.{client_lines, length_line, length_lines, request_line, request_names, server_lines, states_length, grain_text}
+use Rattle.bridge_headers.specs.Lines.{lines_text, passed}
+use Rattle.bridge_headers.specs.Text.{client_lines, length_line, length_lines, request_line, request_names, server_lines, grain_text}
+use Rattle.bridge_headers.specs.Lines.{states_length}
 use Rattle.host_base.specs.declared.permit.Permit.{Permit}
-use Rattle.bridge_headers.proofs.LineLemmas.{passed-more, more_lines}
+use Rattle.bridge_headers.proofs.LineLemmas.{passed_next, more_lines}
 
 -- the length line, where a length was sent
 pub length_sent : (request : Request) → list_any states_length (client_lines request.fields) ≡ true → length_lines request ≡ length_line request ∷ []
@@ -21,10 +22,7 @@ client_more new mid old fields i field within is first second =
     let more : take (i + 1) fields ≡ take i fields ++ field ∷ [] = take_more fields i field within ∙ ap (λ (f : Field). take i fields ++ f ∷ []) (sym is) in
     let lines : client_lines (take (i + 1) fields) ≡ client_lines (take i fields) ++ (field.name, field.value) ∷ [] =
     ap client_lines more ∙ map-append (λ (f : Field). (f.name, f.value)) (take i fields) (field ∷ []) in
-    second ∙ ap (λ (xs : List ℕ). xs ++ lines_text (passed request_names ((field.name, field.value) ∷ []))) first
-    ∙ append_assoc old _ _
-    ∙ ap (λ (xs : List ℕ). old ++ xs) (sym (passed-more request_names (client_lines (take i fields)) (field.name, field.value)))
-    ∙ ap (λ (ls : List Line). old ++ lines_text (passed request_names ls)) (sym lines)
+    passed_next request_names new mid old (client_lines (take i fields)) (client_lines (take (i + 1) fields)) (field.name, field.value) lines first second
 
 -- the parts of a text, one after another
 pub parts : (permit : Permit) (request : Request) (line own client length end body : List ℕ) → line ≡ request_line request → own ≡ line ++ lines_text (server_lines permit)

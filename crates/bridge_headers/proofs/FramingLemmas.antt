@@ -1,6 +1,5 @@
 -- What the lines of a head state.
-use Rattle.std.proofs.Common.{◌≡◌, ℕ, zero, suc, ◌+◌, ◌-◌, ◌*◌, ◌^◌, ◌<◌, ◌≤◌, ◌++◌, ◌&&◌, ◌||◌, Bool, true, false, cond, List, [], ◌∷◌, length, get_or, take, map, filter, refl, ap, sym, ◌∙◌, arith, append-nil, codes, nat_le}
-use Rattle.std.specs.List.{list_any}
+use Rattle.std.proofs.Common.{◌≡◌, ℕ, zero, suc, ◌+◌, ◌-◌, ◌*◌, ◌^◌, ◌<◌, ◌≤◌, ◌++◌, ◌&&◌, Bool, true, false, cond, List, [], ◌∷◌, length, get_or, take, map, filter, refl, ap, sym, ◌∙◌, arith, append-nil, nat_le}
 use Rattle.std.specs.Char.{is_ascii_digit, digit_value}
 use Rattle.std.specs.Str.{all_ascii_digits}
 use Rattle.std.specs.Str.Parse.{digits_value}
@@ -13,9 +12,10 @@ use Rattle.httparse.proofs.ChunkLemmas.{digits_value_after_push}
 use Rattle.httparse.specs.Spans.{header_bytes}
 use Rattle.httparse.specs.declared.spans.HeaderSpan.{HeaderSpan}
 use Rattle.bridge_headers.specs.declared.stated.Stated.{Stated}
-use Rattle.bridge_headers.specs.declared.stated.Stated.TheVariants.{Nothing, Bytes, Bad}
-use Rattle.bridge_headers.specs.Lines.{Line, same_name}
-use Rattle.bridge_headers.specs.Relay.{is_length_text, length_value, stated, stated_of, states_length}
+use Rattle.bridge_headers.specs.declared.stated.Stated.TheVariants.{Bytes, Bad}
+use Rattle.bridge_headers.specs.Lines.{Line}
+use Rattle.bridge_headers.specs.Relay.{is_length_text, length_value, stated, stated_of}
+use Rattle.bridge_headers.specs.Lines.{states_length}
 use Rattle.bridge_headers.specs.Spans.{with_value}
 
 own : IsNumeralModel (λ ds. all_ascii_digits ds ≡ true) (digits_value 10)

@@ -1,10 +1,10 @@
 -- Where a head ends, and that a head is found.
-use Rattle.std.proofs.Common.{◌≡◌, ◌≢◌, ℕ, suc, ◌+◌, ◌-◌, ◌*◌, ◌/◌, ◌<◌, ◌≤◌, ◌++◌, Bool, true, false, cond, List, [], ◌∷◌, Option, Some, None, Result, Ok, Err, All, length, get_or, take, drop, refl, ap, sym, subst, ◌∙◌, arith, codes, nat_eq, append-nil, length-append, length-drop, add-one}
+use Rattle.std.proofs.Common.{◌≡◌, ◌≢◌, ℕ, ◌+◌, ◌-◌, ◌*◌, ◌/◌, ◌<◌, ◌≤◌, Bool, false, cond, List, [], ◌∷◌, Option, Some, None, Result, Ok, Err, All, length, get_or, take, drop, refl, ap, sym, ◌∙◌, arith, codes, nat_eq, append-nil, length-append, length-drop, add-one}
 use Rattle.std.specs.List.{flat_map, starts_with}
 use Rattle.std.specs.Option.{option_map}
 use Rattle.std.proofs.Math.Seq.{drop-cons, take-length}
 use Rattle.std.proofs.lemmas.List.Elements.{All-head, All-tail}
-use Rattle.httparse.specs.Grammar.{LineEnd, crlf, lf, print_end, Field, IsField, print_field, print_section, ResponseHead, IsResponseHead, print_response, ReadsResponse}
+use Rattle.httparse.specs.Grammar.{LineEnd, crlf, lf, print_end, Field, IsField, print_field, ResponseHead, IsResponseHead, print_response, ReadsResponse}
 use Rattle.httparse.specs.Outcome.{IfComplete, IsCompleteAnd}
 use Rattle.httparse.specs.Spans.{FindsResponse, IsResponseAt}
 use Rattle.httparse.specs.declared.Error.{Error}
@@ -24,7 +24,7 @@ plus_one : (found : Option ℕ) (i : ℕ) → option_map (λ n. n + i) (option_m
 plus_one None i = refl
 plus_one (Some n) i = let e : (n + 1) + i ≡ n + (i + 1) = omega arith in ap (λ (k : ℕ). Some k) e
 
-rest_of : (bytes : List ℕ) (i : ℕ) → take (length bytes - i) (drop i bytes) ≡ drop i bytes
+pub rest_of : (bytes : List ℕ) (i : ℕ) → take (length bytes - i) (drop i bytes) ≡ drop i bytes
 rest_of bytes i = ap (λ (n : ℕ). take n (drop i bytes)) (sym (length-drop i bytes)) ∙ take-length (drop i bytes)
 
 -- what is known after i bytes that end no run

@@ -3,4 +3,5 @@ pub mod FramingLemmas
 pub mod HeadLemmas
 pub mod LineLemmas
 pub mod Listed
+pub mod Relayed
 pub mod Texts

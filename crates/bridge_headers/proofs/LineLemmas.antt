@@ -1,4 +1,4 @@
-use Rattle.std.proofs.Common.{◌≡◌, ℕ, zero, suc, ◌<◌, ◌++◌, ◌||◌, Bool, true, false, List, [], ◌∷◌, Bor, length, get_or, map, filter, refl, ap, sym, ◌∙◌, arith, append_assoc, append-nil, ◌⊎◌, inl, inr, All, Contains}
+use Rattle.std.proofs.Common.{◌≡◌, ℕ, zero, suc, ◌<◌, ◌++◌, ◌||◌, Bool, true, false, List, [], ◌∷◌, length, get_or, map, filter, refl, ap, sym, ◌∙◌, arith, append_assoc, append-nil, ◌⊎◌, inl, inr, All, Contains}
 use Rattle.std.specs.List.{list_any, AllByRecursion}
 use Rattle.std.proofs.lemmas.List.Concat.{flat_map-append}
 use Rattle.std.proofs.lemmas.List.Elements.{filter-append, Contains-get_or, Contains-append_right}
@@ -23,7 +23,7 @@ any_at p f (x ∷ xs) zero d within passes = ap (λ (b : Bool). b || list_any p 
 any_at p f (x ∷ xs) (suc i) d within passes = or_true (p (f x)) (list_any p (map f xs)) (any_at p f xs i d (omega arith) passes)
 
 -- the lines that are passed on of one line more
-pub passed-more : (names : List (List ℕ)) (lines : List Line) (line : Line) → lines_text (passed names (lines ++ line ∷ [])) ≡ lines_text (passed names lines) ++ lines_text (passed names (line ∷ []))
+passed-more : (names : List (List ℕ)) (lines : List Line) (line : Line) → lines_text (passed names (lines ++ line ∷ [])) ≡ lines_text (passed names lines) ++ lines_text (passed names (line ∷ []))
 passed-more names lines line =
     ap (λ kept. lines_text (map lower_line kept)) (filter-append (λ sent. is_passed names sent.0) lines (line ∷ []))
     ∙ ap lines_text (map-append lower_line (filter (λ sent. is_passed names sent.0) lines) (filter (λ sent. is_passed names sent.0) (line ∷ [])))
@@ -53,3 +53,10 @@ is_listed name (x ∷ xs) low same =
       | inl here ↦ let e : lower name ≡ x = (bytes_eq-Decides (lower name) (lower x)).0 here ∙ low.0 in (0, omega arith, sym e)
       | inr there ↦ Contains-append_right (x ∷ []) xs (lower name) (is_listed name xs low.1 there)
     ]
+
+-- one line more, of which the text is passed on
+pub passed_next : (names : List (List ℕ)) (new mid old : List ℕ) (lines more : List Line) (line : Line) → more ≡ lines ++ line ∷ [] → mid ≡ old ++ lines_text (passed names lines)
+    → new ≡ mid ++ lines_text (passed names (line ∷ [])) → new ≡ old ++ lines_text (passed names more)
+passed_next names new mid old lines more line is first second =
+    second ∙ ap (λ (xs : List ℕ). xs ++ lines_text (passed names (line ∷ []))) first ∙ append_assoc old _ _ ∙ ap (λ (xs : List ℕ). old ++ xs) (sym (passed-more names lines line))
+    ∙ ap (λ (ls : List Line). old ++ lines_text (passed names ls)) (sym is)

@@ -9,7 +9,8 @@ use Rattle.std.proofs.lemmas.Slice.Eq.{bytes_eq-Decides}
 use Rattle.host_base.specs.declared.permit.Permit.{Permit}
 use Rattle.host_base.specs.declared.request.Request.{Request}
 use Rattle.bridge_headers.specs.Lines.{Line, lower, lower_line, is_passed, passed, same_name}
-use Rattle.bridge_headers.specs.Text.{IsClientLine, IsListed, HasOnlyListed, client_lines, grain_text, length_line, length_lines, lines_of, request_names, server_lines, states_length}
+use Rattle.bridge_headers.specs.Text.{IsClientLine, IsListed, HasOnlyListed, client_lines, grain_text, length_line, length_lines, lines_of, request_names, server_lines}
+use Rattle.bridge_headers.specs.Lines.{states_length}
 use Rattle.bridge_headers.proofs.LineLemmas.{all_contained, is_listed, true_or}
 
 all_low : AllByRecursion (λ listed. lower listed ≡ listed) request_names

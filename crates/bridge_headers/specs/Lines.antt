@@ -27,6 +27,10 @@ same_name a b = bytes_eq (lower a) (lower b)
 unfoldable pub is_passed : List (List ℕ) → List ℕ → Bool
 is_passed names name = list_any (same_name name) names || same_name (take 16 name) (codes "x-sandstorm-app-")
 
+-- whether a line states a length
+abbrev pub states_length : Line → Bool
+states_length line = same_name line.0 (codes "content-length")
+
 -- a line under its name in lower case
 abbrev pub lower_line : Line → Line
 lower_line line = (lower line.0, line.1)

@@ -1,5 +1,5 @@
 -- The relay of a grain's answer.
-use Rattle.std.specs.Prelude.{◌≡◌, ℕ, ◌+◌, ◌++◌, ◌==◌, ◌||◌, ◌&&◌, Bool, List, [], ◌∷◌, Option, Some, None, Result, Ok, Err, length, take, drop, map, filter, min, not, nat_eq, nat_le, nat_lt, unwrap_or, codes, decimal, if◌then◌else◌}
+use Rattle.std.specs.Prelude.{◌≡◌, ℕ, ◌+◌, ◌++◌, ◌==◌, ◌||◌, ◌&&◌, Bool, List, [], ◌∷◌, Option, Some, None, Result, Ok, Err, length, take, drop, map, filter, min, nat_eq, nat_le, nat_lt, unwrap_or, codes, decimal, if◌then◌else◌}
 use Rattle.std.specs.List.{list_any, starts_with}
 use Rattle.std.specs.Option.{option_map}
 use Rattle.std.specs.Str.{all_ascii_digits}
@@ -11,7 +11,7 @@ use Rattle.bridge_headers.specs.declared.stated.Stated.{Stated}
 use Rattle.bridge_headers.specs.declared.stated.Stated.TheVariants.{Nothing, Bytes, Bad}
 use Rattle.bridge_headers.specs.declared.fault.RelayFault.{RelayFault}
 use Rattle.bridge_headers.specs.declared.fault.RelayFault.TheVariants.{BadAnswer, NoLength}
-use Rattle.bridge_headers.specs.Lines.{Line, lines_text, same_name, passed}
+use Rattle.bridge_headers.specs.Lines.{Line, lines_text, same_name, states_length, passed}
 
 -- how long the shortest run is that ends with CR LF CR LF, if there is one
 abbrev pub run_length : List ℕ → Option ℕ
@@ -44,10 +44,6 @@ is_relayed status = nat_le 200 status && nat_lt status 600
 -- whether answers of a status have no body
 abbrev pub is_bodiless : ℕ → Bool
 is_bodiless status = status == 204 || status == 304
-
--- whether a line states a length
-abbrev pub states_length : Line → Bool
-states_length line = same_name line.0 (codes "content-length")
 
 -- whether a line names a transfer encoding
 abbrev pub states_encoding : Line → Bool
@@ -88,9 +84,13 @@ answer_names = codes "content-type" ∷ codes "content-language" ∷ codes "cont
 abbrev pub status_line : ℕ → List ℕ
 status_line status = codes "HTTP/1.1 " ++ decimal status ++ codes " " ++ unwrap_or (reason_phrase status) [] ++ codes "\r\n"
 
+-- the line of a length, but for a status without a body
+abbrev pub length_lines : ℕ → ℕ → List Line
+length_lines status n = if is_bodiless status then [] else (codes "Content-Length", decimal n) ∷ []
+
 -- the lines that a client gets of an answer with a body of that length
 abbrev pub relay_lines : Head → ℕ → List Line
-relay_lines head n = (if is_bodiless head.status then [] else (codes "Content-Length", decimal n) ∷ []) ++ passed answer_names head.lines
+relay_lines head n = length_lines head.status n ++ passed answer_names head.lines
 
 -- what a client gets of an answer of that head and body
 abbrev pub relay_text : Head → List ℕ → Bool → List ℕ

@@ -12,7 +12,7 @@ use Rattle.host_base.specs.declared.permit.Shown.TheVariants.{Anonymous, Account
 use Rattle.host_base.specs.declared.permit.TabMark.{TabMark}
 use Rattle.host_base.specs.declared.request.Field.{Field}
 use Rattle.host_base.specs.declared.request.Request.{Request}
-use Rattle.bridge_headers.specs.Lines.{Line, lines_text, lower_line, same_name, passed}
+use Rattle.bridge_headers.specs.Lines.{Line, lines_text, lower_line, states_length, passed}
 
 -- a letter, a digit, `-`, `_`, `.` or `~`
 abbrev pub is_unreserved : ℕ → Bool
@@ -66,10 +66,6 @@ request_names = codes "accept" ∷ codes "accept-language" ∷ codes "content-ty
 -- the lines that the client sent
 abbrev pub client_lines : List Field → List Line
 client_lines fields = map (λ field. (field.name, field.value)) fields
-
--- whether a line states a length
-abbrev pub states_length : Line → Bool
-states_length line = same_name line.0 (codes "content-length")
 
 abbrev pub length_line : Request → Line
 length_line request = (codes "Content-Length", decimal (length request.body))

@@ -1,7 +1,8 @@
 ghost use Rattle.std.specs.Prelude.{◌≡◌, ◌++◌, OnOk, IfOk};
 ghost use Rattle.std.specs.List.{list_any};
 ghost use Rattle.bridge_headers.specs.Lines.{lines_text, passed};
-ghost use Rattle.bridge_headers.specs.Text.{HasOnlyListed, client_lines, length_lines, request_line, request_names, server_lines, shown_lines, states_length, tab_lines};
+ghost use Rattle.bridge_headers.specs.Text.{HasOnlyListed, client_lines, length_lines, request_line, request_names, server_lines, shown_lines, tab_lines};
+ghost use Rattle.bridge_headers.specs.Lines.{states_length};
 ghost use Rattle.bridge_headers.specs.Text.{grain_text as text_of};
 
 use crate::identity::user_id;

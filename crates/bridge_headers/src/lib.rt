@@ -8,8 +8,10 @@ mod head;
 pub mod identity;
 mod lines;
 mod names;
+mod relay;
 mod stated;
 
 pub use asked::grain_text;
 pub use fault::RelayFault;
 pub use identity::user_id;
+pub use relay::answer_text;

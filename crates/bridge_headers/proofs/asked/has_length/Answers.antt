@@ -1,7 +1,7 @@
-use Rattle.std.proofs.Common.{◌≡◌, Bool, true, codes, sym, ap, ◌∙◌, get_or}
+use Rattle.std.proofs.Common.{◌≡◌, true, codes, sym, ap, ◌∙◌}
 use Rattle.host_base.specs.declared.request.Field.{Field}
 use Rattle.bridge_headers.specs.Lines.{same_name}
-use Rattle.bridge_headers.specs.Text.{states_length}
+use Rattle.bridge_headers.specs.Lines.{states_length}
 use Rattle.bridge_headers.proofs.LineLemmas.{any_at}
 use Rattle.bridge_headers.proofs.asked.has_length.Goals as goal
 

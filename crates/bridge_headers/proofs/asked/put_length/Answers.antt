@@ -3,7 +3,8 @@ use Rattle.std.specs.List.{list_any}
 use Rattle.std.proofs.lemmas.Result.{on_ok_weaker}
 use Rattle.host_base.specs.declared.request.Field.{Field}
 use Rattle.bridge_headers.specs.Lines.{Line, line_text, lines_text}
-use Rattle.bridge_headers.specs.Text.{client_lines, length_line, states_length}
+use Rattle.bridge_headers.specs.Text.{client_lines, length_line}
+use Rattle.bridge_headers.specs.Lines.{states_length}
 use Rattle.bridge_headers.proofs.ClientLines.{length_sent}
 use Rattle.bridge_headers.proofs.LineLemmas.{one_line}
 use Rattle.bridge_headers.proofs.asked.put_length.Goals as goal

@@ -1,7 +1,5 @@
-use Rattle.std.proofs.Common.{◌≡◌, ◌<◌, List, arith, sym, ap, ◌∙◌, map}
+use Rattle.std.proofs.Common.{◌<◌, arith, sym, ◌∙◌, map}
 use Rattle.httparse.specs.Spans.{header_bytes}
-use Rattle.httparse.specs.declared.spans.HeaderSpan.{HeaderSpan}
-use Rattle.bridge_headers.specs.Relay.{stated}
 use Rattle.bridge_headers.proofs.FramingLemmas.{stated_small}
 use Rattle.bridge_headers.proofs.framing.end_of.Goals as goal
 

@@ -1,4 +1,4 @@
-use Rattle.std.proofs.Common.{◌≡◌, List, ℕ, true, get_or, codes, sym, ap, ◌∙◌}
+use Rattle.std.proofs.Common.{◌≡◌, List, ℕ, get_or, codes, sym, ap, ◌∙◌}
 use Rattle.httparse.specs.Spans.{header_bytes}
 use Rattle.bridge_headers.specs.Lines.{same_name}
 use Rattle.bridge_headers.specs.Relay.{states_encoding}

@@ -1,4 +1,4 @@
-use Rattle.std.proofs.Common.{◌≡◌, ◌<◌, true, false, get_or, arith, sym, ap, ◌∙◌, ◌+◌, ◌*◌, ℕ}
+use Rattle.std.proofs.Common.{◌≡◌, ◌<◌, true, get_or, arith, sym, ap, ◌∙◌, ◌+◌, ◌*◌, ℕ}
 use Rattle.std.specs.Char.{is_ascii_digit}
 use Rattle.bridge_headers.proofs.FramingLemmas.{bad_value, digits_more, number_more, number_small}
 use Rattle.bridge_headers.proofs.framing.length_of.Goals as goal
