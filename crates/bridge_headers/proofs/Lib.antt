@@ -1,1 +1,7 @@
+pub mod ClientLines
+pub mod FramingLemmas
+pub mod HeadLemmas
+pub mod LineLemmas
+pub mod Listed
+pub mod Relayed
 pub mod Texts

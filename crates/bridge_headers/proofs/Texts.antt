@@ -4,7 +4,7 @@ use Rattle.std.proofs.lemmas.Bool.{agree_below, agree_below_at}
 use Rattle.std.proofs.lemmas.List.{take_more, length-take-le}
 use Rattle.percent_encoding.specs.AsciiSet.{should_percent_encode}
 use Rattle.percent_encoding.specs.Percent.{percent_encode, encode_byte, percent_encode_byte}
-use Rattle.bridge_headers.specs.declared.text.TheConstants.{ESCAPED}
+use Rattle.bridge_headers.specs.declared.names.TheConstants.{ESCAPED}
 use Rattle.bridge_headers.specs.Text.{is_unreserved, name_byte, name_text}
 
 -- one more piece, behind the first

@@ -1,1 +1,4 @@
+pub mod Lines
+pub mod Relay
+pub mod Spans
 pub mod Text

@@ -1,5 +1,6 @@
-use Rattle.std.specs.Prelude.{ℕ, ◌++◌, ◌==◌, ◌||◌, ◌&&◌, Bool, List, [], ◌∷◌, Option, Some, None, take, nat_le, codes, decimal, if◌then◌else◌, bytes_eq}
-use Rattle.std.specs.List.{flat_map, join_with_byte}
+-- The text that a grain gets for a request.
+use Rattle.std.specs.Prelude.{◌≡◌, ℕ, ◌++◌, ◌==◌, ◌||◌, ◌&&◌, ◌⊎◌, Bool, List, [], ◌∷◌, Option, Some, None, All, Contains, length, take, map, nat_le, codes, decimal, if◌then◌else◌, bytes_eq}
+use Rattle.std.specs.List.{flat_map, list_any, join_with_byte}
 use Rattle.std.specs.Int.{to_be_bytes, w64}
 use Rattle.hex.specs.Hex.{encode_lower}
 use Rattle.percent_encoding.specs.Percent.{percent_encode_byte}
@@ -9,11 +10,9 @@ use Rattle.host_base.specs.declared.permit.Permit.{Permit}
 use Rattle.host_base.specs.declared.permit.Shown.{Shown}
 use Rattle.host_base.specs.declared.permit.Shown.TheVariants.{Anonymous, Account}
 use Rattle.host_base.specs.declared.permit.TabMark.{TabMark}
+use Rattle.host_base.specs.declared.request.Field.{Field}
 use Rattle.host_base.specs.declared.request.Request.{Request}
-
--- a header line
-unfoldable pub field : List ℕ → List ℕ → List ℕ
-field name value = name ++ codes ": " ++ value ++ codes "\r\n"
+use Rattle.bridge_headers.specs.Lines.{Line, lines_text, lower_line, states_length, passed}
 
 -- a letter, a digit, `-`, `_`, `.` or `~`
 abbrev pub is_unreserved : ℕ → Bool
@@ -42,18 +41,64 @@ abbrev pub request_line : Request → List ℕ
 request_line request = asked_method request.method ++ codes " " ++ request.target ++ codes " HTTP/1.1\r\n"
 
 -- the tab and the session, for requests of a session
-abbrev pub tab_fields : Option TabMark → List ℕ
-tab_fields None = []
-tab_fields (Some mark) = field (codes "X-Sandstorm-Tab-Id") (number_text mark.tab) ++ field (codes "X-Sandstorm-Session-Id") (number_text mark.session.0)
+abbrev pub tab_lines : Option TabMark → List Line
+tab_lines None = []
+tab_lines (Some mark) = (codes "X-Sandstorm-Tab-Id", number_text mark.tab) ∷ (codes "X-Sandstorm-Session-Id", number_text mark.session.0) ∷ []
 
 -- who asks
-abbrev pub shown_fields : Shown → List ℕ
-shown_fields Anonymous = field (codes "X-Sandstorm-Username") (codes "Anonymous%20User")
-shown_fields (Account num handle name) =
-    field (codes "X-Sandstorm-Username") (name_text name) ++ field (codes "X-Sandstorm-User-Id") (user_id_text num) ++ field (codes "X-Sandstorm-Preferred-Handle") handle
+abbrev pub shown_lines : Shown → List Line
+shown_lines Anonymous = (codes "X-Sandstorm-Username", codes "Anonymous%20User") ∷ []
+shown_lines (Account num handle name) =
+    (codes "X-Sandstorm-Username", name_text name) ∷ (codes "X-Sandstorm-User-Id", user_id_text num) ∷ (codes "X-Sandstorm-Preferred-Handle", handle) ∷ []
+
+-- the names of the permissions held
+abbrev pub permission_line : Permit → Line
+permission_line permit = (codes "X-Sandstorm-Permissions", join_with_byte 44 permit.names)
+
+-- the lines that the server writes of a permit
+abbrev pub server_lines : Permit → List Line
+server_lines permit = (codes "Host", codes "sandbox") ∷ (codes "Connection", codes "close") ∷ tab_lines permit.tab ++ shown_lines permit.shown ++ permission_line permit ∷ []
+
+-- the names of the client's lines that are passed on
+abbrev pub request_names : List (List ℕ)
+request_names = codes "accept" ∷ codes "accept-language" ∷ codes "content-type" ∷ codes "cookie" ∷ codes "range" ∷ codes "user-agent" ∷ []
+
+-- the lines that the client sent
+abbrev pub client_lines : List Field → List Line
+client_lines fields = map (λ field. (field.name, field.value)) fields
+
+abbrev pub length_line : Request → Line
+length_line request = (codes "Content-Length", decimal (length request.body))
+
+-- the length of the body, where the client sent one
+abbrev pub length_lines : Request → List Line
+length_lines request = if list_any states_length (client_lines request.fields) then length_line request ∷ [] else []
+
+-- all lines that a grain gets
+abbrev pub lines_of : Permit → Request → List Line
+lines_of permit request = server_lines permit ++ passed request_names (client_lines request.fields) ++ length_lines request
+
+-- a text of these lines for a request
+abbrev pub text_of_lines : Request → List Line → List ℕ
+text_of_lines request lines = request_line request ++ lines_text lines ++ codes "\r\n" ++ request.body
 
 -- the text that a grain gets for a request
 abbrev pub grain_text : Permit → Request → List ℕ
-grain_text permit request =
-    request_line request ++ field (codes "Host") (codes "sandbox") ++ field (codes "Connection") (codes "close") ++ tab_fields permit.tab ++ shown_fields permit.shown
-    ++ field (codes "X-Sandstorm-Permissions") (join_with_byte 44 permit.names) ++ codes "\r\n"
+grain_text permit request = text_of_lines request (lines_of permit request)
+
+-- A line that the client sent, under its name in lower case, which is listed or begins with `x-sandstorm-app-`.
+pub record IsClientLine (request : Request) (line : Line) : Type 0 where
+  pub sent : Line
+  pub was_sent : Contains (client_lines request.fields) sent
+  pub lowered : line ≡ lower_line sent
+  pub listed : Contains request_names line.0 ⊎ (take 16 line.0 ≡ codes "x-sandstorm-app-")
+
+-- A line that a grain may get: one of the server's own, one of the client's that is listed, or the length.
+abbrev pub IsListed : Permit → Request → Line → Type 0
+IsListed permit request line = Contains (server_lines permit) line ⊎ (IsClientLine request line ⊎ (line ≡ length_line request))
+
+-- A text of such lines alone.
+pub record HasOnlyListed (permit : Permit) (request : Request) (text : List ℕ) : Type 0 where
+  pub lines : List Line
+  pub text_is : text ≡ text_of_lines request lines
+  pub listed : All (IsListed permit request) lines

@@ -1,0 +1,18 @@
+use Rattle.std.proofs.Common.{◌≡◌, ◌+◌, ◌++◌, List, [], ◌∷◌, ℕ, get_or, take, ap, ◌∙◌}
+use Rattle.httparse.specs.Spans.{header_bytes}
+use Rattle.bridge_headers.specs.Lines.{Line, lines_text, passed}
+use Rattle.bridge_headers.specs.Relay.{answer_names}
+use Rattle.bridge_headers.proofs.FramingLemmas.{blank, lines_at, lines_more}
+use Rattle.bridge_headers.proofs.LineLemmas.{passed_next}
+use Rattle.bridge_headers.proofs.relay.put_answer_lines.Goals as goal
+
+pub loop-field-preserved : goal.loop-field-preserved
+loop-field-preserved c =
+    let head = c.args.head.now in
+    let fields = c.args.fields.now in
+    let i = c.loop-field.field-index in
+    let line : Line = header_bytes head (get_or fields i blank) in
+    let put : c.put_passed.new.text.items ≡ c.loop-field.text.items ++ lines_text (passed answer_names (line ∷ [])) =
+    c.in_ok-put_passed.ensures ∙ ap (λ (name : List ℕ). c.loop-field.text.items ++ lines_text (passed answer_names ((name, c.of-value.result.now) ∷ []))) c.of-name.ensures
+    ∙ ap (λ (value : List ℕ). c.loop-field.text.items ++ lines_text (passed answer_names ((line.0, value) ∷ []))) c.of-value.ensures in
+    passed_next answer_names _ _ _ (lines_at head (take i fields)) (lines_at head (take (i + 1) fields)) line (lines_more head fields i c.loop-field-test.true) c.loop-field.invariant put

@@ -1,0 +1,7 @@
+/// What the length lines of a head state.
+#[derive(Clone, Copy, Debug, PartialEq, Eq)]
+pub enum Stated {
+    Nothing,
+    Bytes(u64),
+    Bad,
+}
