@@ -1,0 +1,3 @@
+pub mod HeadEnds
+pub mod Fronts
+pub mod Streams
