@@ -16,13 +16,13 @@ use Rattle.front_http.specs.declared.refusal.Refusal.TheVariants.{BadHead, NeedL
 abbrev pub lower : List ℕ → List ℕ
 lower text = map to_ascii_lowercase text
 
--- whether a header line has this name, which is given in lower case
-abbrev pub is_named : List ℕ → Field → Bool
-is_named name field = bytes_eq (lower field.name) name
+-- whether two texts are equal but for ASCII case
+abbrev pub is_same : List ℕ → List ℕ → Bool
+is_same text other = bytes_eq (lower text) (lower other)
 
 -- the values of the header lines of this name, in their order
 abbrev pub values_of : List ℕ → List Field → List (List ℕ)
-values_of name fields = map (λ (field : Field). field.value) (filter (is_named name) fields)
+values_of name fields = map (λ (field : Field). field.value) (filter (λ (field : Field). is_same field.name name) fields)
 
 -- the value of a list that has exactly one
 abbrev pub only : List (List ℕ) → Option (List ℕ)
@@ -50,23 +50,23 @@ framing hosts lengths codings =
 
 -- the length of the body behind a head with these header lines, or why the head is refused
 unfoldable pub body_length : List Field → Result ℕ Refusal
-body_length fields = framing (length (values_of (codes "host") fields)) (values_of (codes "content-length") fields) (values_of (codes "transfer-encoding") fields)
+body_length fields = framing (length (values_of (codes "Host") fields)) (values_of (codes "Content-Length") fields) (values_of (codes "Transfer-Encoding") fields)
 
 -- the text of a credential: what follows the scheme `Bearer` and one space
 abbrev pub bearer_text : List ℕ → Option (List ℕ)
-bearer_text value = if bytes_eq (lower (take 7 value)) (codes "bearer ") then Some (drop 7 value) else None
+bearer_text value = if is_same (take 7 value) (codes "Bearer ") then Some (drop 7 value) else None
 
 -- the digest of the credential of a request with exactly one `Authorization` line
 unfoldable pub bearer_of : List Field → Option Digest
-bearer_of fields = option_map (λ text. record { 0 = sha256 text }) (option_and_then bearer_text (only (values_of (codes "authorization") fields)))
+bearer_of fields = option_map (λ text. record { 0 = sha256 text }) (option_and_then bearer_text (only (values_of (codes "Authorization") fields)))
 
 -- whether no request follows: by the version 1.0, or by a `Connection` line `close`
 unfoldable pub closes : ℕ → List Field → Bool
-closes minor fields = minor == 0 || list_any (λ value. bytes_eq (lower value) (codes "close")) (values_of (codes "connection") fields)
+closes minor fields = minor == 0 || list_any (λ value. is_same value (codes "close")) (values_of (codes "Connection") fields)
 
 -- the host, in lower case
 unfoldable pub host_of : List Field → List ℕ
-host_of fields = lower (unwrap_or (only (values_of (codes "host") fields)) [])
+host_of fields = lower (unwrap_or (only (values_of (codes "Host") fields)) [])
 
 -- a header line of the head parser: its name, and its value without the blanks around it
 abbrev pub field_of : HeadField → Field

@@ -1,3 +1,5 @@
 pub mod Heads
 pub mod Stream
 pub mod Reading
+pub mod Fields
+pub mod Spans

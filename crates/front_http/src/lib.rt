@@ -2,6 +2,8 @@
 #![tactic(auto)]
 
 mod fault;
+mod fields;
+mod head;
 mod refusal;
 
 pub use fault::FrontFault;
