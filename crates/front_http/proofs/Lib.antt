@@ -4,3 +4,6 @@ pub mod Streams
 pub mod Digits
 pub mod HeadSizes
 pub mod HeadParts
+pub mod Looking
+pub mod Pieces
+pub mod Remaining

@@ -3,3 +3,4 @@ pub mod Stream
 pub mod Reading
 pub mod Fields
 pub mod Spans
+pub mod Pending

@@ -58,3 +58,15 @@ fault_at refusal.BadHead at = fault.BadHead at
 fault_at refusal.LongHead at = fault.LongHead at
 fault_at refusal.NeedLength at = fault.NeedLength at
 fault_at refusal.LongBody at = fault.LongBody at
+
+-- none, and a request that is cut off, come only where the source told its end
+abbrev pub EndsRead : Result (Option Request) FrontFault → Bool → Type 0
+EndsRead (Ok None) ended = ended ≡ true
+EndsRead (Ok (Some request)) ended = Unit {0}
+EndsRead (Err (fault.CutOff n)) ended = ended ≡ true
+EndsRead (Err (fault.BadHead at)) ended = Unit {0}
+EndsRead (Err (fault.LongHead at)) ended = Unit {0}
+EndsRead (Err (fault.NeedLength at)) ended = Unit {0}
+EndsRead (Err (fault.LongBody at)) ended = Unit {0}
+EndsRead (Err fault.ReadFault) ended = Unit {0}
+EndsRead (Err fault.Memory) ended = Unit {0}

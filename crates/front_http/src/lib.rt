@@ -3,8 +3,13 @@
 
 mod fault;
 mod fields;
+mod find;
 mod head;
+mod held;
+mod look;
+mod reader;
 mod refusal;
 
 pub use fault::FrontFault;
+pub use reader::RequestReader;
 pub use refusal::Refusal;
