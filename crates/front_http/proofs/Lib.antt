@@ -7,3 +7,4 @@ pub mod HeadParts
 pub mod Looking
 pub mod Pieces
 pub mod Remaining
+pub mod MemoryText

@@ -4,3 +4,4 @@ pub mod Reading
 pub mod Fields
 pub mod Spans
 pub mod Pending
+pub mod Texts

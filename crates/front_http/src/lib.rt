@@ -9,7 +9,9 @@ mod held;
 mod look;
 mod reader;
 mod refusal;
+mod texts;
 
 pub use fault::FrontFault;
 pub use reader::RequestReader;
 pub use refusal::Refusal;
+pub use texts::{memory_reply, refusal_body, reply_text};
