@@ -1,0 +1,10 @@
+pub mod HeadEnds
+pub mod Fronts
+pub mod Streams
+pub mod Digits
+pub mod HeadSizes
+pub mod HeadParts
+pub mod Looking
+pub mod Pieces
+pub mod Remaining
+pub mod MemoryText

@@ -1,0 +1,17 @@
+//! The requests of a stream of bytes, their routes, and the texts of the server's own answers.
+#![tactic(auto)]
+
+mod fault;
+mod fields;
+mod find;
+mod head;
+mod held;
+mod look;
+mod reader;
+mod refusal;
+mod texts;
+
+pub use fault::FrontFault;
+pub use reader::RequestReader;
+pub use refusal::Refusal;
+pub use texts::{memory_reply, refusal_body, reply_text};
