@@ -1,0 +1,5 @@
+mod Places
+mod Digests
+mod Manifests
+mod Checked
+pub mod WellFormed
