@@ -10,6 +10,7 @@ use crate::manifest::{Manifest, PermissionDef};
 /// at its position, and there are no fewer roles.
 ///
 /// So each set of permissions and each number of a role that fitted the old one fits the new one.
+#[tactic(auto, using(crate::proofs::Kept::still_fits))]
 pub fn upgrade(old: &Manifest, new: Manifest) -> Result<Manifest, ManifestFault>
     ensures same { IfOk result (λ manifest. manifest ≡ new) }
     ensures ok { IfOk result (λ _. upgrade_fault old.now new ≡ None) }
