@@ -1,5 +1,5 @@
 ghost use Rattle.std.specs.Prelude.{◌≡◌, ◌↔◌, ◌∷◌, [], IsTrue, codes};
-ghost use Rattle.admin_cli.specs.Words.{IsPlay};
+ghost use Rattle.admin_run.specs.Words.{IsPlay};
 
 fn says_play(word: &str) -> bool
     ensures { IsTrue result ↔ (word.now ≡ codes "play") }

@@ -1,13 +1,15 @@
-ghost use Rattle.std.specs.Prelude.{◌≡◌, IfOk};
+ghost use Rattle.std.specs.Prelude.{◌≡◌, [], IfOk};
 ghost use Rattle.host_base.specs.Outside.{Inlet, Outlet, Rose};
-ghost use Rattle.cloud_serve.specs.Line.{Line};
-ghost use Rattle.admin_cli.specs.Words.{IsPlay};
-ghost use Rattle.admin_cli.specs.Run.{status_by, BeginsSmall, Plays, TellsUsage, Completes};
+ghost use Rattle.grain_supervise.specs.Line.{Line};
+ghost use Rattle.admin_run.specs.Words.{IsPlay};
+ghost use Rattle.admin_run.specs.Run.{status_by, play_book, Plays, TellsUsage, Completes};
 
 use crate::words::is_play;
-use cloud_serve::{Desk, End, Link, SoloDesk, serve_conn, small_book};
+use cloud_serve::{Desk, End, SoloDesk, serve_conn};
+use grain_supervise::Link;
 use host_base::{Memory, Sink, Source, WriteFailed};
 use least_access::solve;
+use small_book::small_book;
 use std::alloc::Global;
 
 /// What the program is run with beside its words, its input and its output.
@@ -35,13 +37,15 @@ fn status_of(end: End) -> u8
         End::Refused(_, _) => 3,
         End::ReadFault => 4,
         End::WriteFault => 5,
+        End::CutOff(_) => 6,
         End::Memory => 7,
+        End::Spent => 8,
     }
 }
 
 // The desk that `play` begins with: over the small book.
 fn small_desk(alloc: Global) -> Result<SoloDesk, Memory>
-    ensures { IfOk result (λ desk. BeginsSmall (⟦<SoloDesk as Desk>⟧.book desk)) }
+    ensures { IfOk result (λ desk. ⟦<SoloDesk as Desk>⟧.book desk ≡ play_book) }
 {
     let book = small_book(alloc)?;
     let solved = solve(alloc, &book.tables)?;

@@ -1,12 +1,13 @@
-use Rattle.std.specs.Prelude.{◌≡◌, ℕ, ◌⊎◌, ◌++◌, List, [], Some, take, codes}
+-- What the program does: the connection that `play` serves, the usage line, and the statuses.
+use Rattle.std.specs.Prelude.{◌≡◌, ℕ, ◌<◌, ◌⊎◌, ◌++◌, List, [], Some, length, take, codes}
 use Rattle.host_base.specs.Outside.{Inlet, Outlet, Rose}
+use Rattle.front_http.specs.Stream.{Requests, Ending, Done, Last, Cut, Bad, IsStream}
+use Rattle.grain_supervise.specs.Line.{Line}
 use Rattle.cloud_serve.specs.declared.serve.End.{End}
 use Rattle.cloud_serve.specs.declared.serve.End.TheVariants as end
 use Rattle.cloud_serve.specs.Book.{Book}
-use Rattle.cloud_serve.specs.Line.{Line}
-use Rattle.cloud_serve.specs.Served.{Served, Stands}
-use Rattle.cloud_serve.specs.SmallBook.{IsSmallBook}
-use Rattle.cloud_serve.specs.Stream.{Requests, Ending, Done, BadHead, IsStream}
+use Rattle.cloud_serve.specs.Served.{Served, Stands, limit}
+use Rattle.small_book.specs.SmallBook.{small_book}
 
 -- the status of each end of a connection
 abbrev pub status_by : End → ℕ
@@ -14,24 +15,23 @@ status_by end.Done = 0
 status_by (end.Refused status at) = 3
 status_by end.ReadFault = 4
 status_by end.WriteFault = 5
+status_by (end.CutOff n) = 6
 status_by end.Memory = 7
+status_by end.Spent = 8
 
--- A desk begins with the small book, and has seen no entry of the history.
-pub record BeginsSmall (book : Book) : Type 0 where
-  pub start : IsSmallBook book.start
-  pub seen : book.seen ≡ []
+-- the history of `play`: it begins with the small book, and has no entry, since there are no commands
+abbrev pub play_book : Book
+play_book = record { start = small_book; seen = []; accepted = 0 }
 
--- One connection was served from the small book, over the program's input, output and link: the headline.
+-- One connection was served from the small book, over the program's input, output and link, and the history stayed as it was:
+-- the headline.
 pub record ServesPlay (inlet inlet' : Inlet) (outlet outlet' : Outlet) (line line' : Line) (status : ℕ) : Type 0 where
-  pub first : Book
-  pub begins : BeginsSmall first
   pub end : End
   pub places : List ℕ
   pub served : ℕ
   pub forwarded : ℕ
-  pub final : Book
-  pub headline : Served (record { inlet = inlet; outlet = outlet; line = line; book = first })
-      (record { inlet = inlet'; outlet = outlet'; line = line'; book = final }) end 0 places served forwarded
+  pub headline : Served (record { inlet = inlet; outlet = outlet; line = line; book = play_book })
+      (record { inlet = inlet'; outlet = outlet'; line = line'; book = play_book }) end 0 places served forwarded
   pub status_is : status ≡ status_by end
 
 -- nothing was done
@@ -47,12 +47,14 @@ Plays inlet inlet' outlet outlet' line line' status = ServesPlay inlet inlet' ou
 -- the status that the end of a stream asks for
 abbrev pub status_of_stream : Ending → ℕ
 status_of_stream Done = 0
-status_of_stream (BadHead at) = 3
+status_of_stream Last = 0
+status_of_stream (Cut n) = 6
+status_of_stream (Bad refusal at) = 3
 
--- Where neither count rose, the status is that of the stream's end, or memory ran out.
+-- Where neither count rose, the status of a stream below the limit is that of its end, or memory ran out.
 abbrev pub Completes : Inlet → Inlet → Outlet → Outlet → ℕ → Type 0
-Completes inlet inlet' outlet outlet' status = (bytes : List ℕ) (requests : Requests) → inlet.left ≡ Some bytes → IsStream bytes requests → Stands inlet.faults inlet'.faults → Stands outlet.faults outlet'.faults
-    → (status ≡ 7) ⊎ (status ≡ status_of_stream requests.end)
+Completes inlet inlet' outlet outlet' status = (bytes : List ℕ) (requests : Requests) → inlet.left ≡ Some bytes → IsStream 0 bytes requests → length requests.list < limit
+    → Stands inlet.faults inlet'.faults → Stands outlet.faults outlet'.faults → (status ≡ 7) ⊎ (status ≡ status_of_stream requests.end)
 
 -- the usage line
 abbrev pub usage_line : List ℕ

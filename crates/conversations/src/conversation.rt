@@ -1,0 +1,44 @@
+use std::alloc::{AllocError, Global};
+
+/// A conversation: what is sent, what must come of it, and what the objects between do.
+#[derive(Debug, Drop)]
+pub struct Conversation {
+    pub name: String,
+    pub words: Vec<String>,
+    /// What the client sends.
+    pub sent: Vec<u8>,
+    /// What must come back.
+    pub answered: Vec<u8>,
+    /// What must have been asked of grains, one text after another, where that is told.
+    pub asked: Option<Vec<u8>>,
+    /// The answers of the grains, one after another. Where there are none, each text is its own answer.
+    pub grains: Vec<Vec<u8>>,
+    /// How many bytes the source gives at a time at the most, where that is told.
+    pub gives: Option<usize>,
+    /// The calls that fail, from 1.
+    pub source_fails: Vec<u64>,
+    pub sink_fails: Vec<u64>,
+    pub link_fails: Vec<u64>,
+    pub status: u8,
+}
+
+impl Conversation {
+    /// A conversation of a name in which nothing is sent and nothing comes back.
+    pub fn new(alloc: Global, name: &str) -> Result<Self, AllocError> {
+        let mut words = Vec::new(alloc);
+        words.push(String::from_str(alloc, "play")?)?;
+        Ok(Conversation {
+            name: String::from_str(alloc, name)?,
+            words,
+            sent: Vec::new(alloc),
+            answered: Vec::new(alloc),
+            asked: None,
+            grains: Vec::new(alloc),
+            gives: None,
+            source_fails: Vec::new(alloc),
+            sink_fails: Vec::new(alloc),
+            link_fails: Vec::new(alloc),
+            status: 0,
+        })
+    }
+}

@@ -1,0 +1,119 @@
+//! How a file is read: line by line, each conversation from a line that begins with `=`.
+
+use crate::conversation::Conversation;
+use crate::notation::put_line;
+use std::alloc::{AllocError, Global};
+
+// What stands after the mark that a line begins with.
+fn after<'a>(line: &'a str, mark: &str) -> Option<&'a str> {
+    let rest = line.strip_prefix(mark)?;
+    Some(rest.strip_prefix(' ').unwrap_or(rest))
+}
+
+// The words of a text.
+fn words(alloc: Global, text: &str) -> Result<Vec<String>, AllocError> {
+    let mut words = Vec::new(alloc);
+    for word in text.split_whitespace() {
+        words.push(String::from_str(alloc, word)?)?;
+    }
+    Ok(words)
+}
+
+// The numbers of a text, or none where a word is no number.
+fn numbers(alloc: Global, text: &str) -> Result<Option<Vec<u64>>, AllocError> {
+    let mut numbers = Vec::new(alloc);
+    for word in text.split_whitespace() {
+        let Ok(number) = word.parse::<u64>() else {
+            return Ok(None);
+        };
+        numbers.push(number)?;
+    }
+    Ok(Some(numbers))
+}
+
+// Reads a setting: its name, and its value. It is false where it can't be read.
+fn read_setting(
+    alloc: Global,
+    conversation: &mut Conversation,
+    name: &str,
+    value: &str,
+) -> Result<bool, AllocError> {
+    match name {
+        "words" => conversation.words = words(alloc, value)?,
+        "grain" => conversation.grains.push(Vec::new(alloc))?,
+        "status" => match value.parse::<u8>() {
+            Ok(status) => conversation.status = status,
+            Err(_) => return Ok(false),
+        },
+        "gives" => match value.parse::<usize>() {
+            Ok(most) => conversation.gives = Some(most),
+            Err(_) => return Ok(false),
+        },
+        _ => {
+            let Some(calls) = numbers(alloc, value)? else {
+                return Ok(false);
+            };
+            match name {
+                "source" => conversation.source_fails = calls,
+                "sink" => conversation.sink_fails = calls,
+                "link" => conversation.link_fails = calls,
+                _ => return Ok(false),
+            }
+        }
+    }
+    Ok(true)
+}
+
+// Reads a line of a conversation. It is false where it can't be read.
+fn read_line(
+    alloc: Global,
+    conversation: &mut Conversation,
+    line: &str,
+) -> Result<bool, AllocError> {
+    if let Some(text) = after(line, ">") {
+        return put_line(alloc, &mut conversation.sent, text);
+    }
+    if let Some(text) = after(line, "<") {
+        return put_line(alloc, &mut conversation.answered, text);
+    }
+    if let Some(text) = after(line, "?") {
+        let mut asked = conversation.asked.take().unwrap_or(Vec::new(alloc));
+        let read = put_line(alloc, &mut asked, text)?;
+        conversation.asked = Some(asked);
+        return Ok(read);
+    }
+    if let Some(text) = after(line, "|") {
+        return match conversation.grains.last_mut() {
+            Some(answer) => put_line(alloc, answer, text),
+            None => Ok(false),
+        };
+    }
+    let (name, value) = line.split_once(' ').unwrap_or((line, ""));
+    read_setting(alloc, conversation, name, value)
+}
+
+/// The conversations of a text, or the number of the first line that can't be read, from 1. Empty lines and those that begin with
+/// `#` say nothing.
+pub fn conversations(
+    alloc: Global,
+    text: &str,
+) -> Result<Result<Vec<Conversation>, usize>, AllocError> {
+    let mut read = Vec::new(alloc);
+    for (place, line) in text.lines().enumerate() {
+        if line.is_empty() || line.starts_with('#') {
+            continue;
+        }
+        if let Some(name) = after(line, "=") {
+            read.push(Conversation::new(alloc, name)?)?;
+            continue;
+        }
+        let known = match read.last_mut() {
+            Some(conversation) => read_line(alloc, conversation, line)?,
+            None => false,
+        };
+        if !known {
+            return Ok(Err(place.saturating_add(1)));
+        }
+    }
+    Ok(Ok(read))
+}
