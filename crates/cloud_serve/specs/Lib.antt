@@ -3,3 +3,5 @@ pub mod Digests
 pub mod Routes
 pub mod Texts
 pub mod Turns
+pub mod Effects
+pub mod Taking

@@ -5,5 +5,6 @@ pub mod desk;
 mod digest;
 mod route;
 mod texts;
+mod turn;
 
 pub use desk::{Desk, SoloDesk};
