@@ -1,3 +1,5 @@
 pub mod Growth
 pub mod Sites
 pub mod Taking
+pub mod Serving
+pub mod Runs

@@ -5,3 +5,5 @@ pub mod Texts
 pub mod Turns
 pub mod Effects
 pub mod Taking
+pub mod Served
+pub mod Serving

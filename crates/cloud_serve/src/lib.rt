@@ -3,8 +3,11 @@
 
 pub mod desk;
 mod digest;
+mod ending;
 mod route;
+pub mod serve;
 mod texts;
 mod turn;
 
 pub use desk::{Desk, SoloDesk};
+pub use serve::{ConnEnd, End, Places, serve_conn};

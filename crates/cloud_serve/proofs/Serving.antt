@@ -1,0 +1,212 @@
+-- What serving one request comes to, over plain values.
+use Rattle.std.proofs.Common.{◌≡◌, ℕ, ◌+◌, ◌<◌, ◌≤◌, ◌++◌, Bool, true, false, List, [], ◌∷◌, Option, Some, None, Result, Ok, Err, length, take, refl, sym, ◌∙◌, ap, subst, arith, append-nil, inl, inr}
+use Rattle.host_base.specs.Outside.{Outlet, Rose}
+use Rattle.host_base.specs.declared.request.Request.{Request}
+use Rattle.front_http.specs.declared.fault.FrontFault.{FrontFault}
+use Rattle.front_http.specs.declared.fault.FrontFault.TheVariants as fault
+use Rattle.front_http.specs.declared.refusal.Refusal.{Refusal}
+use Rattle.front_http.specs.declared.refusal.Refusal.TheVariants as refusal
+use Rattle.front_http.specs.Reading.{Reading, IsRemaining, Gave, Ended, Next, over}
+use Rattle.front_http.specs.Stream.{Requests, Ending, Done, Last, Cut, Bad, none_but}
+use Rattle.grain_supervise.specs.Line.{Line}
+use Rattle.cloud_serve.specs.declared.serve.End.{End}
+use Rattle.cloud_serve.specs.declared.serve.End.TheVariants as end
+use Rattle.cloud_serve.specs.Book.{Book}
+use Rattle.cloud_serve.specs.Effects.{AskedOf, TakesNone}
+use Rattle.cloud_serve.specs.Texts.{wants_head, refusal_status, refused_text, memory_text}
+use Rattle.cloud_serve.specs.Taking.{Answers, BreaksOff}
+use Rattle.cloud_serve.specs.Served.{World, InHand, Nothing, Refusing, Answering, Broken, NoRoom, request_in, asked_in, text_in, IsLawfulIn, HandAt, CauseAt, IsOver, IsRefusedIn, StreamAt, WrittenAt, CountAt, limit, Splits}
+use Rattle.cloud_serve.specs.Serving.{ClosesWith, RefusesBy, Halts, TookOne, StopsOne, TakesOne, OneMore, Stops, Steps}
+use Rattle.cloud_serve.proofs.Growth.{takes_none_refl, asked_none}
+
+pub took_one : (low last counted counts : ℕ) (request : Request) (out out' : Outlet) (line line' : Line) (old new : Book) (place : ℕ) (text : List ℕ) → Answers old new line line' counted counts low last request place text
+    → ((before : List ℕ) → out.written ≡ Some before → out'.written ≡ Some (before ++ text)) → TookOne low last counted counts request out out' line line' old new place
+took_one low last counted counts request out out' line line' old new place text a wrote = record {
+  turn = a.turn;
+  request_is = a.request_is;
+  place_is = a.place_is;
+  lawful = a.lawful;
+  none_taken = a.none_taken;
+  asked_of = a.asked_of;
+  counts_is = a.counts_is;
+  written = λ before is. wrote before is ∙ ap (λ (xs : List ℕ). Some (before ++ xs)) (sym a.answer_is);
+}
+
+pub stops_answer : (low last counted counts : ℕ) (request : Request) (out out' : Outlet) (line line' : Line) (old new : Book) (place : ℕ) (text : List ℕ) → Answers old new line line' counted counts low last request place text
+    → ((before : List ℕ) → out.written ≡ Some before → (n : ℕ) × (out'.written ≡ Some (before ++ take n text))) → Rose out.faults out'.faults → StopsOne low last counted counts request out out' line line' old new end.WriteFault
+stops_answer low last counted counts request out out' line line' old new place text a wrote rose = record {
+  hand = Answering a.turn;
+  request_is = ap (λ (r : Request). r ∷ []) a.request_is;
+  lawful = a.lawful;
+  none_taken = a.none_taken;
+  asked_of = a.asked_of;
+  counts_is = a.counts_is;
+  written = λ before is. let part = wrote before is in (part.0, part.1 ∙ ap (λ (xs : List ℕ). Some (before ++ take part.0 xs)) (sym a.answer_is));
+  hand_at = tt;
+  cause = λ inlet inlet'. rose;
+  free = λ more. tt;
+  count = λ served less. less;
+}
+
+pub stops_broken : (low last counted counts : ℕ) (request : Request) (out out' : Outlet) (line line' : Line) (old new : Book) (result : End) (text : List ℕ) → BreaksOff old new line line' counted counts low request
+    → text ≡ memory_text (wants_head request) → ClosesWith out out' text end.Memory result → StopsOne low last counted counts request out out' line line' old new result
+stops_broken low last counted counts request out out' line line' old new result text b is (inl whole) = subst (λ (e : End). StopsOne low last counted counts request out out' line line' old new e) (sym whole.0) (record {
+  hand = Broken b.turn;
+  request_is = ap (λ (r : Request). r ∷ []) b.request_is;
+  lawful = b.begun;
+  none_taken = b.none_taken;
+  asked_of = b.asked_of;
+  counts_is = b.counts_is;
+  written = λ before told. whole.1 before told ∙ ap (λ (xs : List ℕ). Some (before ++ xs)) (is ∙ ap (λ (r : Request). memory_text (wants_head r)) (sym b.request_is));
+  hand_at = tt;
+  cause = λ inlet inlet'. tt;
+  free = λ more. tt;
+  count = λ served less. less;
+})
+stops_broken low last counted counts request out out' line line' old new result text b is (inr part) = subst (λ (e : End). StopsOne low last counted counts request out out' line line' old new e) (sym part.0) (record {
+  hand = Broken b.turn;
+  request_is = ap (λ (r : Request). r ∷ []) b.request_is;
+  lawful = b.begun;
+  none_taken = b.none_taken;
+  asked_of = b.asked_of;
+  counts_is = b.counts_is;
+  written = λ before told. let w = part.2 before told in (w.0, w.1 ∙ ap (λ (xs : List ℕ). Some (before ++ take w.0 xs)) (is ∙ ap (λ (r : Request). memory_text (wants_head r)) (sym b.request_is)));
+  hand_at = tt;
+  cause = λ inlet inlet'. part.1;
+  free = λ more. tt;
+  count = λ served less. less;
+})
+
+-- a request that was given splits what remained
+gave_splits : (reading reading' : Reading) (left : List ℕ) (request : Request) (told : Option (List ℕ)) → (g : Gave reading left request reading' told) → (all : Requests) → IsRemaining reading left all
+    → (more : Requests) × IsRemaining reading' g.rest more × Splits all (request ∷ []) more
+gave_splits reading reading' left request told g all is =
+    let s = g.splits all is in
+    (s.0, s.1, record { list = ap (λ (r : Requests). r.list) s.2; end = ap (λ (r : Requests). r.end) s.2 })
+
+splits_by : (all more : Requests) (front back : List Request) → front ≡ back → Splits all front more → Splits all back more
+splits_by all more front back same s = subst (λ (rs : List Request). Splits all rs more) same s
+
+pub steps_one : (low last counted counts : ℕ) (reading reading' : Reading) (old new : World) (request : Request) (result : Result ℕ End)
+    → ((left : List ℕ) → old.inlet.left ≡ Some left → Gave reading left request reading' new.inlet.left)
+    → TakesOne low last counted counts request old.outlet new.outlet old.line new.line old.book new.book result → Steps low last counted counts reading reading' old new result
+steps_one low last counted counts reading reading' old new request (Ok place) gives t = record {
+  turn = t.turn;
+  place_is = t.place_is;
+  lawful = t.lawful;
+  none_taken = t.none_taken;
+  asked_of = t.asked_of;
+  counts_is = t.counts_is;
+  stream = λ left is.
+      let g = gives left is in (
+        g.rest,
+        g.told_is,
+        λ all remains.
+            let s = gave_splits reading reading' left request new.inlet.left g all remains in
+            (s.0, s.1, splits_by all s.0 (request ∷ []) (t.turn.request ∷ []) (ap (λ (r : Request). r ∷ []) (sym t.request_is)) s.2),
+      );
+  written = t.written;
+}
+steps_one low last counted counts reading reading' old new request (Err e) gives t = record {
+  hand = t.hand;
+  lawful = t.lawful;
+  none_taken = t.none_taken;
+  asked_of = t.asked_of;
+  counts_is = t.counts_is;
+  stream = λ left is all remains.
+      let s = gave_splits reading reading' left request new.inlet.left (gives left is) all remains in
+      (s.0, splits_by all s.0 (request ∷ []) (request_in t.hand) (sym t.request_is) s.2, t.free s.0);
+  written = t.written;
+  hand_at = t.hand_at;
+  cause = t.cause old.inlet new.inlet;
+  count = t.count;
+}
+
+-- no request is in hand, and none was answered
+pub record IsBare (hand : InHand) : Type 0 where
+  pub request : request_in hand ≡ []
+  pub asked : asked_in hand ≡ []
+  pub lawful : (book : Book) (low last : ℕ) → IsLawfulIn hand book low last
+
+bare_nothing : IsBare Nothing
+bare_nothing = record { request = refl; asked = refl; lawful = λ book low last. tt }
+
+bare_no_room : IsBare NoRoom
+bare_no_room = record { request = refl; asked = refl; lawful = λ book low last. tt }
+
+bare_refusing : (why : Refusal) (at : ℕ) → IsBare (Refusing why at)
+bare_refusing why at = record { request = refl; asked = refl; lawful = λ book low last. tt }
+
+-- the connection ends with no request in hand
+stops_bare : (low last counted : ℕ) (reading : Reading) (old new : World) (e : End) (hand : InHand) → IsBare hand → old.line ≡ new.line → old.book ≡ new.book
+    → ((left : List ℕ) → old.inlet.left ≡ Some left → (all : Requests) → IsRemaining reading left all → StreamAt e hand all)
+    → ((text : List ℕ) → old.outlet.written ≡ Some text → WrittenAt e text (text_in hand) new.outlet.written) → HandAt e hand → CauseAt e old.inlet new.inlet old.outlet new.outlet
+    → ((served : ℕ) → served < limit → CountAt e served) → Stops low last counted counted reading old new e
+stops_bare low last counted reading old new e hand bare line book stream written at cause count = record {
+  hand = hand;
+  lawful = bare.lawful new.book low last;
+  none_taken = subst (λ (b : Book). TakesNone old.book b) book (takes_none_refl old.book);
+  asked_of = rw bare.asked (subst (λ (l : Line). AskedOf old.line l []) line (asked_none old.line));
+  counts_is = rw bare.asked (omega arith);
+  stream = λ left is all remains. (all, rw bare.request (record { list = refl; end = refl }), stream left is all remains);
+  written = written;
+  hand_at = at;
+  cause = cause;
+  count = count;
+}
+
+-- memory ran out with no request in hand
+pub stops_no_room : (low last counted : ℕ) (reading : Reading) (old new : World) (result : End) (text : List ℕ) → old.line ≡ new.line → old.book ≡ new.book → text ≡ memory_text false
+    → ClosesWith old.outlet new.outlet text end.Memory result → Stops low last counted counted reading old new result
+stops_no_room low last counted reading old new result text line book is (inl whole) = subst (λ (e : End). Stops low last counted counted reading old new e) (sym whole.0)
+    (stops_bare low last counted reading old new end.Memory NoRoom bare_no_room line book (λ left told all remains. tt)
+    (λ before told. whole.1 before told ∙ ap (λ (xs : List ℕ). Some (before ++ xs)) is) tt tt (λ served less. less))
+stops_no_room low last counted reading old new result text line book is (inr part) = subst (λ (e : End). Stops low last counted counted reading old new e) (sym part.0)
+    (stops_bare low last counted reading old new end.WriteFault NoRoom bare_no_room line book (λ left told all remains. tt)
+    (λ before told. let w = part.2 before told in (w.0, w.1 ∙ ap (λ (xs : List ℕ). Some (before ++ take w.0 xs)) is)) tt part.1 (λ served less. less))
+
+refused_all : (reading : Reading) (left : List ℕ) (why : Refusal) (at : ℕ) → Ended reading left (Bad why at) → (all : Requests) → IsRemaining reading left all → IsRefusedIn (Refusing why at) all
+refused_all reading left why at ended all remains = let same = ended.only all remains in (ap (λ (r : Requests). r.list) same, ap (λ (r : Requests). r.end) same)
+
+-- what is refused at a place was answered
+stops_refused : (low last counted : ℕ) (reading : Reading) (old new : World) (why : Refusal) (at : ℕ) (result : End) → old.line ≡ new.line → old.book ≡ new.book
+    → ((left : List ℕ) → old.inlet.left ≡ Some left → Ended reading left (Bad why at)) → RefusesBy old.outlet new.outlet why at result → Stops low last counted counted reading old new result
+stops_refused low last counted reading old new why at result line book ended (inl (inl whole)) = subst (λ (e : End). Stops low last counted counted reading old new e) (sym whole.0)
+    (stops_bare low last counted reading old new (end.Refused (refusal_status why) at) (Refusing why at) (bare_refusing why at) line book
+    (λ left told all remains. refused_all reading left why at (ended left told) all remains) whole.1 (refl, refl) tt (λ served less. less))
+stops_refused low last counted reading old new why at result line book ended (inl (inr part)) = subst (λ (e : End). Stops low last counted counted reading old new e) (sym part.0)
+    (stops_bare low last counted reading old new end.WriteFault (Refusing why at) (bare_refusing why at) line book
+    (λ left told all remains. refused_all reading left why at (ended left told) all remains) part.2 tt part.1 (λ served less. less))
+stops_refused low last counted reading old new why at result line book ended (inr memory) = stops_no_room low last counted reading old new result (memory_text false) line book refl memory
+
+-- nothing is in hand and nothing was written
+unwritten : (old new : Outlet) → new ≡ old → (text : List ℕ) → old.written ≡ Some text → new.written ≡ Some (text ++ [])
+unwritten old new same text is = ap (λ (o : Outlet). o.written) same ∙ is ∙ ap Some (sym (append-nil text))
+
+over_is_over : (closed : Bool) (ending : Ending) → ending ≡ over closed → IsOver ending
+over_is_over true ending is = rw is tt
+over_is_over false ending is = rw is tt
+
+-- the stream is over
+pub stops_done : (low last counted : ℕ) (reading : Reading) (old new : World) → old.line ≡ new.line → old.book ≡ new.book → new.outlet ≡ old.outlet
+    → ((left : List ℕ) → old.inlet.left ≡ Some left → Ended reading left (over reading.closed)) → Stops low last counted counted reading old new end.Done
+stops_done low last counted reading old new line book out ended =
+    stops_bare low last counted reading old new end.Done Nothing bare_nothing line book
+    (λ left told all remains. let same = (ended left told).only all remains in (ap (λ (r : Requests). r.list) same, over_is_over reading.closed all.end (ap (λ (r : Requests). r.end) same)))
+    (unwritten old.outlet new.outlet out) tt tt (λ served less. less)
+
+-- the reader answered a fault
+pub stops_halted : (low last counted : ℕ) (reading reading' : Reading) (old new : World) (f : FrontFault) (result : End) → old.line ≡ new.line → old.book ≡ new.book
+    → ((left : List ℕ) → old.inlet.left ≡ Some left → Next reading left (Err f) reading' new.inlet.left) → (f ≡ fault.ReadFault → Rose old.inlet.faults new.inlet.faults)
+    → Halts old.outlet new.outlet f result → Stops low last counted counted reading old new result
+stops_halted low last counted reading reading' old new (fault.BadHead at) result line book next rose h = stops_refused low last counted reading old new refusal.BadHead at result line book next h
+stops_halted low last counted reading reading' old new (fault.LongHead at) result line book next rose h = stops_refused low last counted reading old new refusal.LongHead at result line book next h
+stops_halted low last counted reading reading' old new (fault.NeedLength at) result line book next rose h = stops_refused low last counted reading old new refusal.NeedLength at result line book next h
+stops_halted low last counted reading reading' old new (fault.LongBody at) result line book next rose h = stops_refused low last counted reading old new refusal.LongBody at result line book next h
+stops_halted low last counted reading reading' old new (fault.CutOff n) result line book next rose h = subst (λ (e : End). Stops low last counted counted reading old new e) (sym h.0)
+    (stops_bare low last counted reading old new (end.CutOff n) Nothing bare_nothing line book
+    (λ left told all remains. let same = (next left told).only all remains in (ap (λ (r : Requests). r.list) same, ap (λ (r : Requests). r.end) same))
+    (unwritten old.outlet new.outlet h.1) tt tt (λ served less. less))
+stops_halted low last counted reading reading' old new fault.ReadFault result line book next rose h = subst (λ (e : End). Stops low last counted counted reading old new e) (sym h.0)
+    (stops_bare low last counted reading old new end.ReadFault Nothing bare_nothing line book (λ left told all remains. tt) (unwritten old.outlet new.outlet h.1) tt (rose refl) (λ served less. less))
+stops_halted low last counted reading reading' old new fault.Memory result line book next rose h = stops_no_room low last counted reading old new result (memory_text false) line book refl h
