@@ -1,0 +1,106 @@
+//! What a request is for.
+ghost use Rattle.std.specs.Prelude.{◌≡◌, ℕ, Some, IfSome};
+ghost use Rattle.front_http.specs.Routes.{HasForm, desk_form, grain_form};
+ghost use Rattle.front_http.specs.Numbers.{with_number as renumbered, form_of, kept_number};
+
+use crate::number::number_between;
+use crate::route::Route;
+
+/// How a path is written: as it stands, or with a number between two texts.
+#[derive(Clone, Copy, Debug)]
+pub enum Texts {
+    Fixed(&'static str),
+    Numbered(&'static str, &'static str),
+    Nowhere,
+}
+
+/// How the desk's paths are written.
+fn desk_texts(route: Route) -> Texts
+    ensures { form_of result ≡ desk_form route }
+{
+    match route {
+        Route::Accounts => Texts::Fixed("/accounts"),
+        Route::AccountAdmin(_) => Texts::Numbered("/accounts/", "/admin"),
+        Route::AccountEnabled(_) => Texts::Numbered("/accounts/", "/enabled"),
+        Route::Apps => Texts::Fixed("/apps"),
+        Route::Grains => Texts::Fixed("/grains"),
+        Route::GrainTrash(_) => Texts::Numbered("/grains/", "/trash"),
+        Route::GrainUntrash(_) => Texts::Numbered("/grains/", "/untrash"),
+        Route::GrainShare(_) => Texts::Numbered("/grains/", "/share"),
+        Route::GrainLink(_) => Texts::Numbered("/grains/", "/link"),
+        Route::GrainToken(_) => Texts::Numbered("/grains/", "/token"),
+        Route::GrainOpen(_) => Texts::Numbered("/grains/", "/open"),
+        Route::GrainWake(_) => Texts::Numbered("/grains/", "/wake"),
+        Route::GrainStop(_) => Texts::Numbered("/grains/", "/stop"),
+        Route::GrainQuery(_) => Texts::Numbered("/grains/", "/query"),
+        Route::GrainChoose(_) => Texts::Numbered("/grains/", "/choose"),
+        Route::Redeem => Texts::Fixed("/redeem"),
+        Route::GrantRevoke(_) => Texts::Numbered("/grants/", "/revoke"),
+        Route::SessionClose(_) => Texts::Numbered("/sessions/", "/close"),
+        Route::Child => Texts::Fixed("/child"),
+        Route::Open => Texts::Fixed("/open"),
+        Route::Wake => Texts::Fixed("/wake"),
+        Route::Session(_) | Route::Api | Route::Use(_) => Texts::Nowhere,
+        Route::Claim | Route::Save | Route::Restore | Route::Drop => Texts::Nowhere,
+    }
+}
+
+/// How a running grain's paths are written.
+fn grain_texts(route: Route) -> Texts
+    ensures { form_of result ≡ grain_form route }
+{
+    match route {
+        Route::Claim => Texts::Fixed("/claim"),
+        Route::Save => Texts::Fixed("/save"),
+        Route::Restore => Texts::Fixed("/restore"),
+        Route::Drop => Texts::Fixed("/drop"),
+        _ => Texts::Nowhere,
+    }
+}
+
+// The route with another number.
+fn with_number(route: Route, number: u32) -> Route
+    ensures { result ≡ renumbered route number }
+{
+    match route {
+        Route::AccountAdmin(_) => Route::AccountAdmin(number),
+        Route::AccountEnabled(_) => Route::AccountEnabled(number),
+        Route::GrainTrash(_) => Route::GrainTrash(number),
+        Route::GrainUntrash(_) => Route::GrainUntrash(number),
+        Route::GrainShare(_) => Route::GrainShare(number),
+        Route::GrainLink(_) => Route::GrainLink(number),
+        Route::GrainToken(_) => Route::GrainToken(number),
+        Route::GrainOpen(_) => Route::GrainOpen(number),
+        Route::GrainWake(_) => Route::GrainWake(number),
+        Route::GrainStop(_) => Route::GrainStop(number),
+        Route::GrainQuery(_) => Route::GrainQuery(number),
+        Route::GrainChoose(_) => Route::GrainChoose(number),
+        Route::GrantRevoke(_) => Route::GrantRevoke(number),
+        Route::SessionClose(_) => Route::SessionClose(number),
+        Route::Use(_) => Route::Use(number),
+        _ => route,
+    }
+}
+
+// The route with the number of a path, where the path is written so.
+fn fit(route: Route, texts: Texts, path: &[u8]) -> Option<Route>
+    ensures found { IfSome result (λ found. (n : ℕ) × HasForm (form_of texts) n path.now × (found ≡ renumbered route n)) }
+    ensures whole { (n : ℕ) → HasForm (form_of texts) n path.now → result ≡ Some (renumbered route (kept_number (form_of texts) n)) }
+{
+    match texts {
+        Texts::Fixed(text) => {
+            if path == text.as_bytes() {
+                Some(with_number(route, 0))
+            } else {
+                None
+            }
+        }
+        Texts::Numbered(before, after) => {
+            match number_between(path, before.as_bytes(), after.as_bytes()) {
+                Some(number) => Some(with_number(route, number)),
+                None => None,
+            }
+        }
+        Texts::Nowhere => None,
+    }
+}
