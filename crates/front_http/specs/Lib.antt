@@ -7,3 +7,4 @@ pub mod Pending
 pub mod Texts
 pub mod Routes
 pub mod Numbers
+pub mod Tables

@@ -14,6 +14,38 @@ pub enum Texts {
     Nowhere,
 }
 
+// The desk's paths and those of a running grain, as the router reads them.
+const DESK_PATHS: [(&str, Route); 21] = [
+    ("/accounts", Route::Accounts),
+    ("/accounts/{n}/admin", Route::AccountAdmin(0)),
+    ("/accounts/{n}/enabled", Route::AccountEnabled(0)),
+    ("/apps", Route::Apps),
+    ("/grains", Route::Grains),
+    ("/grains/{n}/trash", Route::GrainTrash(0)),
+    ("/grains/{n}/untrash", Route::GrainUntrash(0)),
+    ("/grains/{n}/share", Route::GrainShare(0)),
+    ("/grains/{n}/link", Route::GrainLink(0)),
+    ("/grains/{n}/token", Route::GrainToken(0)),
+    ("/grains/{n}/open", Route::GrainOpen(0)),
+    ("/grains/{n}/wake", Route::GrainWake(0)),
+    ("/grains/{n}/stop", Route::GrainStop(0)),
+    ("/grains/{n}/query", Route::GrainQuery(0)),
+    ("/grains/{n}/choose", Route::GrainChoose(0)),
+    ("/redeem", Route::Redeem),
+    ("/grants/{n}/revoke", Route::GrantRevoke(0)),
+    ("/sessions/{n}/close", Route::SessionClose(0)),
+    ("/child", Route::Child),
+    ("/open", Route::Open),
+    ("/wake", Route::Wake),
+];
+
+const GRAIN_PATHS: [(&str, Route); 4] = [
+    ("/claim", Route::Claim),
+    ("/save", Route::Save),
+    ("/restore", Route::Restore),
+    ("/drop", Route::Drop),
+];
+
 /// How the desk's paths are written.
 fn desk_texts(route: Route) -> Texts
     ensures { form_of result ≡ desk_form route }
