@@ -18,4 +18,5 @@ pub use fault::FrontFault;
 pub use reader::RequestReader;
 pub use refusal::Refusal;
 pub use route::Route;
+pub use routes::Routes;
 pub use texts::{memory_reply, refusal_body, reply_text};

@@ -1,10 +1,16 @@
 //! What a request is for.
-ghost use Rattle.std.specs.Prelude.{◌≡◌, ℕ, Some, IfSome};
-ghost use Rattle.front_http.specs.Routes.{HasForm, desk_form, grain_form};
+ghost use Rattle.std.specs.Prelude.{◌≡◌, ℕ, [], Some, IfSome, OnOk, IfOk, fold};
+ghost use Rattle.matchit.specs.Seek.{first};
+ghost use Rattle.front_http.specs.Routes.{HasForm, desk_form, grain_form, number_of};
+ghost use Rattle.front_http.specs.Tables.{with_route, value_of};
 ghost use Rattle.front_http.specs.Numbers.{with_number as renumbered, form_of, kept_number};
 
 use crate::number::number_between;
 use crate::route::Route;
+use host_base::Memory;
+use matchit::{InsertError, Router};
+use std::alloc::Global;
+use std::marker::Model;
 
 /// How a path is written: as it stands, or with a number between two texts.
 #[derive(Clone, Copy, Debug)]
@@ -134,5 +140,80 @@ fn fit(route: Route, texts: Texts, path: &[u8]) -> Option<Route>
             }
         }
         Texts::Nowhere => None,
+    }
+}
+
+fn add(router: &mut Router<Route>, text: &str, route: Route) -> Result<(), InsertError>
+    ensures { OnOk result (router.new ≡ with_route router.old text.now route) }
+{
+    router.insert(text, route)
+}
+
+#[tactic(auto, using(std::proofs::lemmas::List::Sums::fold_more))]
+fn router_of(alloc: Global, paths: &[(&str, Route)]) -> Result<Router<Route>, Memory>
+    ensures { IfOk result (λ router. router ≡ fold (λ rows e. with_route rows e.0.now e.1) [] paths.now) }
+{
+    let mut router = Router::new(alloc);
+    for (text, route) in paths {
+        if add(&mut router, text, *route).is_err() {
+            return Err(Memory);
+        }
+    }
+    Ok(router)
+}
+
+// The route that a router has for a path, whatever the number of the path is.
+fn find(router: &Router<Route>, path: &str) -> Option<Route>
+    ensures { result ≡ value_of (first router.now path.now) }
+{
+    match router.at(path) {
+        Ok(found) => Some(*found.value),
+        Err(_) => None,
+    }
+}
+
+/// The tables of routes.
+#[derive(Drop)]
+pub struct Routes {
+    desk: Router<Route>,
+    grain: Router<Route>,
+}
+
+impl Model for Routes {
+    ghost use Rattle.std.specs.Prelude.{◌≡◌};
+    ghost use Rattle.front_http.specs.Tables.{desk_rows, grain_rows};
+
+    ghost Value = { Unit {0} };
+
+    ghost view = { λ routes. tt };
+
+    ghost invariant = { λ routes. (routes.desk ≡ desk_rows) × (routes.grain ≡ grain_rows) };
+}
+
+impl Routes {
+    /// The tables of the desk and of running grains.
+    #[tactic(auto, unfolding(crate::specs::Tables::desk_rows, crate::specs::Tables::grain_rows))]
+    pub fn new(alloc: Global) -> Result<Self, Memory> {
+        let desk = router_of(alloc, &DESK_PATHS)?;
+        let grain = router_of(alloc, &GRAIN_PATHS)?;
+        Ok(Routes { desk, grain })
+    }
+
+    // A path of the desk.
+    fn desk_route(&self, path: &str) -> Option<Route>
+        ensures found { IfSome result (λ found. HasForm (desk_form found) (number_of found) path.now) }
+        ensures whole { (found : Route) → HasForm (desk_form found) (number_of found) path.now → result ≡ Some found }
+    {
+        let route = find(&self.desk, path)?;
+        fit(route, desk_texts(route), path.as_bytes())
+    }
+
+    // A path of a running grain, but for those of its handles.
+    fn grain_route(&self, path: &str) -> Option<Route>
+        ensures found { IfSome result (λ found. HasForm (grain_form found) (number_of found) path.now) }
+        ensures whole { (found : Route) → HasForm (grain_form found) (number_of found) path.now → result ≡ Some found }
+    {
+        let route = find(&self.grain, path)?;
+        fit(route, grain_texts(route), path.as_bytes())
     }
 }
