@@ -11,3 +11,4 @@ pub mod MemoryText
 pub mod Seeking
 pub mod Tables
 pub mod Renumbering
+pub mod Cutting

@@ -1,11 +1,15 @@
 -- An aid for the contracts of private functions on numbers and routes.
-use Rattle.std.specs.Prelude.{◌≡◌, ℕ, List, [], Option, Some, None, nat_lt, if◌then◌else◌}
+use Rattle.std.specs.Prelude.{◌≡◌, ℕ, ◌<◌, ◌==◌, List, [], Option, Some, None, length, nat_lt, if◌then◌else◌}
+use Rattle.std.specs.List.{position_or_len, before_first, after_first}
 use Rattle.std.specs.Str.Parse.{digits_value}
+use Rattle.std.specs.Borrow.{Bor}
 use Rattle.front_http.specs.declared.route.Route.{Route}
 use Rattle.front_http.specs.declared.route.Route.TheVariants as route
 use Rattle.front_http.specs.declared.routes.Texts.{Texts}
 use Rattle.front_http.specs.declared.routes.Texts.TheVariants as texts
-use Rattle.front_http.specs.Routes.{Form, Fixed, Numbered, Nowhere}
+use Rattle.front_http.specs.declared.routes.HostKind.{HostKind}
+use Rattle.front_http.specs.declared.routes.HostKind.TheVariants as kind
+use Rattle.front_http.specs.Routes.{Form, Fixed, Numbered, Nowhere, Host, Session, Api, Grain, Desk}
 
 -- the route with another number
 abbrev pub with_number : Route → ℕ → Route
@@ -53,3 +57,16 @@ abbrev pub kept_number : Form → ℕ → ℕ
 kept_number (Fixed text) n = 0
 kept_number (Numbered before after) n = n
 kept_number Nowhere n = 0
+
+-- a text is cut at its first slash, or has none
+abbrev pub IsCut : List ℕ → Option (Bor (List ℕ) × Bor (List ℕ)) → Type 0
+IsCut text None = position_or_len (λ byte. byte == 47) text ≡ length text
+IsCut text (Some parts) =
+    (position_or_len (λ byte. byte == 47) text < length text) × (parts.0.now ≡ before_first (λ byte. byte == 47) text) × (parts.1.now ≡ after_first (λ byte. byte == 47) text)
+
+-- which host it is
+abbrev pub kind_of : HostKind → Host
+kind_of kind.Session = Session
+kind_of kind.Api = Api
+kind_of kind.Grain = Grain
+kind_of kind.Desk = Desk

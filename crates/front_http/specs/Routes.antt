@@ -15,7 +15,7 @@ path_of target = before_first (λ byte. byte == 63) target
 
 -- the path goes from the root
 abbrev pub is_rooted : List ℕ → Bool
-is_rooted path = bytes_eq (take 1 path) (codes "/")
+is_rooted path = starts_with nat_eq path (codes "/")
 
 -- 1 to 10 decimal digits, and their number, which is one of 32 bits
 pub record IsNumber (digits : List ℕ) (n : ℕ) : Type 0 where
@@ -119,17 +119,17 @@ pub record IsPost (form : Route → Form) (request : Request) (found : Route) : 
   pub method : request.method ≡ codes "POST"
   pub path : HasForm (form found) (number_of found) (path_of request.target)
 
--- what stands behind the number of a target `/use/{n}/`
+-- the target is `/use/{n}/` and this
 pub record IsUse (n : ℕ) (target rest : List ℕ) : Type 0 where
   pub digits : List ℕ
   pub number : IsNumber digits n
-  pub target_is : target ≡ codes "/use/" ++ (digits ++ (codes "/" ++ rest))
+  pub target_is : target ≡ codes "/use/" ++ (digits ++ (47 ∷ rest))
 
 -- a request that goes through the handle of a number
 pub record IsUsed (request : Request) (n : ℕ) : Type 0 where
   pub method : is_method request.method ≡ true
   pub rest : List ℕ
-  pub path : IsUse n (path_of request.target) rest
+  pub target : IsUse n request.target rest
 
 -- a request to what is asked for by any path from the root
 pub record IsAsked (request : Request) : Type 0 where

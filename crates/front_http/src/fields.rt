@@ -90,7 +90,8 @@ fn credential(value: &[u8]) -> Option<&[u8]>
     }
 }
 
-fn digest_of(text: &[u8]) -> Digest
+/// The digest of a text.
+pub fn digest_of(text: &[u8]) -> Digest
     ensures { result ≡ record { 0 = sha256 text.now } }
 {
     Digest(Sha256::digest(text))

@@ -12,6 +12,7 @@ mod reader;
 mod refusal;
 mod route;
 mod routes;
+mod target;
 mod texts;
 
 pub use fault::FrontFault;
@@ -19,4 +20,5 @@ pub use reader::RequestReader;
 pub use refusal::Refusal;
 pub use route::Route;
 pub use routes::Routes;
+pub use target::use_target;
 pub use texts::{memory_reply, refusal_body, reply_text};

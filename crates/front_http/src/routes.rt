@@ -1,13 +1,16 @@
 //! What a request is for.
-ghost use Rattle.std.specs.Prelude.{◌≡◌, ℕ, [], Some, IfSome, OnOk, IfOk, fold};
+ghost use Rattle.std.specs.Prelude.{◌≡◌, ◌≤◌, ◌↔◌, ℕ, [], length, IsTrue, Some, IfSome, OnOk, IfOk, fold};
 ghost use Rattle.matchit.specs.Seek.{first};
-ghost use Rattle.front_http.specs.Routes.{HasForm, desk_form, grain_form, number_of};
+ghost use Rattle.front_http.specs.Routes.{HasForm, desk_form, grain_form, number_of, IsPost, IsUsed, IsAsked, IsRouteAt, IsRoute, Session, Api, Grain};
+ghost use Rattle.front_http.specs.Routes.{host_kind as host_kind_of, is_method as is_method_of};
 ghost use Rattle.front_http.specs.Tables.{with_route, value_of};
-ghost use Rattle.front_http.specs.Numbers.{with_number as renumbered, form_of, kept_number};
+ghost use Rattle.front_http.specs.Numbers.{with_number as renumbered, form_of, kept_number, kind_of};
 
+use crate::fields::digest_of;
 use crate::number::number_between;
 use crate::route::Route;
-use host_base::Memory;
+use crate::target::{path, session_text, use_parts};
+use host_base::{Memory, Request};
 use matchit::{InsertError, Router};
 use std::alloc::Global;
 use std::marker::Model;
@@ -215,5 +218,131 @@ impl Routes {
     {
         let route = find(&self.grain, path)?;
         fit(route, grain_texts(route), path.as_bytes())
+    }
+
+    // A request to the desk.
+    fn at_desk(&self, request: &Request) -> Option<Route>
+        ensures found { IfSome result (λ found. IsPost desk_form request.now found) }
+        ensures whole { (found : Route) → IsPost desk_form request.now found → result ≡ Some found }
+    {
+        if request.method.as_str() != "POST" {
+            return None;
+        }
+        self.desk_route(path(request.target.as_str()))
+    }
+
+    // A request of a running grain, but for those to its handles.
+    fn at_grain(&self, request: &Request) -> Option<Route>
+        ensures found { IfSome result (λ found. IsPost grain_form request.now found) }
+        ensures whole { (found : Route) → IsPost grain_form request.now found → result ≡ Some found }
+    {
+        if request.method.as_str() != "POST" {
+            return None;
+        }
+        self.grain_route(path(request.target.as_str()))
+    }
+
+    // A request of a running grain.
+    fn of_grain(&self, request: &Request) -> Option<Route>
+        ensures found { IfSome result (λ found. IsRouteAt Grain request.now found) }
+        ensures whole { (found : Route) → IsRouteAt Grain request.now found → result ≡ Some found }
+    {
+        match used_handle(request) {
+            Some(number) => Some(Route::Use(number)),
+            None => self.at_grain(request),
+        }
+    }
+
+    /// What a request is for, or none. It takes no memory.
+    pub fn route(&self, request: &Request) -> Option<Route>
+        ensures found { IfSome result (λ found. IsRoute request.now found) }
+        ensures whole { (found : Route) → IsRoute request.now found → result ≡ Some found }
+    {
+        match host_kind(request.host.as_slice()) {
+            HostKind::Session => session_route(request),
+            HostKind::Api => api_route(request),
+            HostKind::Grain => self.of_grain(request),
+            HostKind::Desk => self.at_desk(request),
+        }
+    }
+}
+
+/// Which host a request is for.
+#[derive(Clone, Copy, Debug)]
+pub enum HostKind {
+    Session,
+    Api,
+    Grain,
+    Desk,
+}
+
+fn host_kind(host: &[u8]) -> HostKind
+    ensures kind { kind_of result ≡ host_kind_of host.now }
+    ensures long { result ≡ HostKind.Session → 3 ≤ length host.now }
+{
+    if host.starts_with(b"ui-") {
+        HostKind::Session
+    } else if host.starts_with(b"api.") {
+        HostKind::Api
+    } else if host.starts_with(b"grain.") {
+        HostKind::Grain
+    } else {
+        HostKind::Desk
+    }
+}
+
+fn is_method(method: &str) -> bool
+    ensures { result ≡ is_method_of method.now }
+{
+    method == "GET"
+        || method == "HEAD"
+        || method == "POST"
+        || method == "PUT"
+        || method == "PATCH"
+        || method == "DELETE"
+        || method == "OPTIONS"
+}
+
+// Whether any path from the root is asked for by a method that is let through.
+fn is_asked(request: &Request) -> bool
+    ensures { IsTrue result ↔ IsAsked request.now }
+{
+    is_method(request.method.as_str()) && request.target.as_str().as_bytes().starts_with(b"/")
+}
+
+// The handle that a request of a running grain goes through.
+fn used_handle(request: &Request) -> Option<u32>
+    ensures found { IfSome result (λ n. IsUsed request.now n) }
+    ensures whole { (n : ℕ) → IsUsed request.now n → result ≡ Some n }
+{
+    if !is_method(request.method.as_str()) {
+        return None;
+    }
+    match use_parts(request.target.as_str()) {
+        Some((number, _)) => Some(number),
+        None => None,
+    }
+}
+
+fn session_route(request: &Request) -> Option<Route>
+    requires { 3 ≤ length request.now.host }
+    ensures found { IfSome result (λ found. IsRouteAt Session request.now found) }
+    ensures whole { (found : Route) → IsRouteAt Session request.now found → result ≡ Some found }
+{
+    if is_asked(request) {
+        Some(Route::Session(digest_of(session_text(request.host.as_slice()))))
+    } else {
+        None
+    }
+}
+
+fn api_route(request: &Request) -> Option<Route>
+    ensures found { IfSome result (λ found. IsRouteAt Api request.now found) }
+    ensures whole { (found : Route) → IsRouteAt Api request.now found → result ≡ Some found }
+{
+    if is_asked(request) {
+        Some(Route::Api)
+    } else {
+        None
     }
 }
