@@ -1,9 +1,9 @@
 -- Where a target is cut behind its number.
-use Rattle.std.proofs.Common.{◌≡◌, ℕ, zero, suc, ◌+◌, ◌-◌, ◌<◌, ◌≤◌, ◌++◌, ◌==◌, ◌&&◌, not, Bool, true, false, List, [], ◌∷◌, get_or, length, take, drop, codes, refl, sym, ◌∙◌, ap, subst, arith, length-append}
+use Rattle.std.proofs.Common.{◌≡◌, ℕ, suc, ◌+◌, ◌<◌, ◌++◌, ◌==◌, ◌&&◌, Bool, true, false, List, [], ◌∷◌, get_or, length, take, drop, codes, refl, sym, ◌∙◌, ap, arith, length-append}
 use Rattle.std.specs.List.{list_all, position_or_len, before_first, after_first}
 use Rattle.std.specs.Char.{is_ascii_digit}
 use Rattle.std.proofs.lemmas.Bool.Decides.{nat_tests}
-use Rattle.std.proofs.lemmas.List.{append_cancel_left, take-append-le}
+use Rattle.std.proofs.lemmas.List.{append_cancel_left}
 use Rattle.std.proofs.lemmas.List.Sums.{split_at_first}
 use Rattle.host_base.specs.declared.request.Request.{Request}
 use Rattle.front_http.specs.declared.route.Route.{Route}
@@ -58,12 +58,12 @@ at_first : (xs : List ℕ) → position_or_len (λ byte. byte == 47) xs < length
 at_first [] within = absurd (omega arith)
 at_first (x ∷ xs) within = by_test (x == 47) refl within (λ near. at_first xs near)
   where
-  by_test : (t : Bool) → (x == 47) ≡ t → position_or_len (λ byte. byte == 47) (x ∷ xs) < length (x ∷ xs)
-      → (position_or_len (λ byte. byte == 47) xs < length xs → get_or xs (position_or_len (λ byte. byte == 47) xs) 0 ≡ 47) → get_or (x ∷ xs) (position_or_len (λ byte. byte == 47) (x ∷ xs)) 0 ≡ 47
-  by_test true is within rest = rw is (grind (arith, nat_tests, is))
-  by_test false is within rest =
-      let next : position_or_len (λ byte. byte == 47) (x ∷ xs) ≡ suc (position_or_len (λ byte. byte == 47) xs) = rw is (omega arith) in
-      rw next (rest (omega arith))
+    by_test : (t : Bool) → (x == 47) ≡ t → position_or_len (λ byte. byte == 47) (x ∷ xs) < length (x ∷ xs)
+        → (position_or_len (λ byte. byte == 47) xs < length xs → get_or xs (position_or_len (λ byte. byte == 47) xs) 0 ≡ 47) → get_or (x ∷ xs) (position_or_len (λ byte. byte == 47) (x ∷ xs)) 0 ≡ 47
+    by_test true is within rest = rw is (grind (arith, nat_tests, is))
+    by_test false is within rest =
+        let next : position_or_len (λ byte. byte == 47) (x ∷ xs) ≡ suc (position_or_len (λ byte. byte == 47) xs) = rw is (omega arith) in
+        rw next (rest (omega arith))
 
 -- and such a target from the parts of that text
 pub use_found : (n : ℕ) (target text digits more : List ℕ) → target ≡ codes "/use/" ++ text → position_or_len (λ byte. byte == 47) text < length text

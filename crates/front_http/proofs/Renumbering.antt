@@ -1,8 +1,8 @@
 -- Routes and their numbers.
-use Rattle.std.proofs.Common.{◌≡◌, ℕ, ◌+◌, List, [], ◌∷◌, Option, Some, None, IfSome, refl, sym, ap, subst, ◌∙◌}
+use Rattle.std.proofs.Common.{◌≡◌, ℕ, List, Option, Some, None, IfSome, refl, sym, ap, subst, ◌∙◌}
 use Rattle.front_http.specs.declared.route.Route.{Route}
 use Rattle.front_http.specs.declared.route.Route.TheVariants as route
-use Rattle.front_http.specs.Routes.{Form, HasForm, IsNumbered, desk_form, grain_form, number_of}
+use Rattle.front_http.specs.Routes.{Form, HasForm, desk_form, grain_form, number_of}
 use Rattle.front_http.specs.Numbers.{with_number, kept_number}
 
 -- another number changes no form

@@ -1,10 +1,10 @@
 -- The routers find the route of each path of the tables.
-use Rattle.std.proofs.Common.{◌≡◌, ℕ, zero, suc, ◌+◌, ◌-◌, ◌<◌, ◌≤◌, ◌++◌, ◌&&◌, ◌==◌, nat_eq, ltb, Bool, true, false, cond, List, [], ◌∷◌, Option, Some, None, length, drop, codes, refl, sym, ◌∙◌, ap, subst, arith, append_assoc, length-append}
+use Rattle.std.proofs.Common.{◌≡◌, ℕ, zero, suc, ◌+◌, ◌-◌, ◌<◌, ◌≤◌, ◌++◌, ◌&&◌, ◌==◌, ltb, Bool, true, false, cond, List, [], ◌∷◌, Some, None, length, drop, refl, sym, ◌∙◌, ap, subst, arith, length-append}
 use Rattle.std.specs.List.{list_all}
 use Rattle.std.specs.Char.{is_ascii_digit}
 use Rattle.std.proofs.lemmas.Bool.Decides.{nat_tests}
 use Rattle.matchit.specs.Rows.{RowsOf}
-use Rattle.matchit.specs.Seek.{own, step, or_else, seek, first, segment, has_slash, cuts, better, longest_from, longest_suffix, with_suffix, same_text, param_step}
+use Rattle.matchit.specs.Seek.{step, seek, first, segment, has_slash, cuts, longest_from, longest_suffix, with_suffix, param_step}
 use Rattle.front_http.specs.declared.route.Route.{Route}
 
 -- rows of routes

@@ -1,8 +1,7 @@
 -- The tables that the routers hold, and that they find each of their paths.
-use Rattle.std.proofs.Common.{◌≡◌, ℕ, ◌+◌, ◌<◌, ◌≤◌, ◌++◌, Bool, true, false, List, [], ◌∷◌, Option, Some, None, length, codes, option_map, refl, sym, ◌∙◌, ap, subst, arith}
+use Rattle.std.proofs.Common.{◌≡◌, ℕ, ◌<◌, ◌++◌, true, List, [], ◌∷◌, Option, Some, None, length, codes, refl, sym, ◌∙◌, ap, arith}
 use Rattle.matchit.specs.Rows.{RowsOf}
 use Rattle.matchit.specs.Seek.{first, seek, step, param_step}
-use Rattle.matchit.specs.Route.{scan}
 use Rattle.matchit.specs.Router.{RouteOf, rename, map_key}
 use Rattle.matchit.proofs.RenameLemmas.{first-rename}
 use Rattle.matchit.proofs.OnLiterals.{matchit_on_literals}
@@ -16,36 +15,36 @@ use Rattle.front_http.proofs.Seeking.{Paths, steps, are_slashed, are_wild, numbe
 -- the desk's paths, in the order of its router
 unfoldable desk_table : Paths
 desk_table =
-  (codes "/accounts/" ++ (256 ∷ codes "/admin"), route.AccountAdmin 0)
-  ∷ (codes "/accounts/" ++ (256 ∷ codes "/enabled"), route.AccountEnabled 0)
-  ∷ (codes "/accounts", route.Accounts)
-  ∷ (codes "/apps", route.Apps)
-  ∷ (codes "/child", route.Child)
-  ∷ (codes "/grains/" ++ (256 ∷ codes "/choose"), route.GrainChoose 0)
-  ∷ (codes "/grains/" ++ (256 ∷ codes "/link"), route.GrainLink 0)
-  ∷ (codes "/grains/" ++ (256 ∷ codes "/open"), route.GrainOpen 0)
-  ∷ (codes "/grains/" ++ (256 ∷ codes "/query"), route.GrainQuery 0)
-  ∷ (codes "/grains/" ++ (256 ∷ codes "/share"), route.GrainShare 0)
-  ∷ (codes "/grains/" ++ (256 ∷ codes "/stop"), route.GrainStop 0)
-  ∷ (codes "/grains/" ++ (256 ∷ codes "/token"), route.GrainToken 0)
-  ∷ (codes "/grains/" ++ (256 ∷ codes "/trash"), route.GrainTrash 0)
-  ∷ (codes "/grains/" ++ (256 ∷ codes "/untrash"), route.GrainUntrash 0)
-  ∷ (codes "/grains/" ++ (256 ∷ codes "/wake"), route.GrainWake 0)
-  ∷ (codes "/grains", route.Grains)
-  ∷ (codes "/grants/" ++ (256 ∷ codes "/revoke"), route.GrantRevoke 0)
-  ∷ (codes "/open", route.Open)
-  ∷ (codes "/redeem", route.Redeem)
-  ∷ (codes "/sessions/" ++ (256 ∷ codes "/close"), route.SessionClose 0)
-  ∷ (codes "/wake", route.Wake)
-  ∷ []
+    (codes "/accounts/" ++ (256 ∷ codes "/admin"), route.AccountAdmin 0)
+    ∷ (codes "/accounts/" ++ (256 ∷ codes "/enabled"), route.AccountEnabled 0)
+    ∷ (codes "/accounts", route.Accounts)
+    ∷ (codes "/apps", route.Apps)
+    ∷ (codes "/child", route.Child)
+    ∷ (codes "/grains/" ++ (256 ∷ codes "/choose"), route.GrainChoose 0)
+    ∷ (codes "/grains/" ++ (256 ∷ codes "/link"), route.GrainLink 0)
+    ∷ (codes "/grains/" ++ (256 ∷ codes "/open"), route.GrainOpen 0)
+    ∷ (codes "/grains/" ++ (256 ∷ codes "/query"), route.GrainQuery 0)
+    ∷ (codes "/grains/" ++ (256 ∷ codes "/share"), route.GrainShare 0)
+    ∷ (codes "/grains/" ++ (256 ∷ codes "/stop"), route.GrainStop 0)
+    ∷ (codes "/grains/" ++ (256 ∷ codes "/token"), route.GrainToken 0)
+    ∷ (codes "/grains/" ++ (256 ∷ codes "/trash"), route.GrainTrash 0)
+    ∷ (codes "/grains/" ++ (256 ∷ codes "/untrash"), route.GrainUntrash 0)
+    ∷ (codes "/grains/" ++ (256 ∷ codes "/wake"), route.GrainWake 0)
+    ∷ (codes "/grains", route.Grains)
+    ∷ (codes "/grants/" ++ (256 ∷ codes "/revoke"), route.GrantRevoke 0)
+    ∷ (codes "/open", route.Open)
+    ∷ (codes "/redeem", route.Redeem)
+    ∷ (codes "/sessions/" ++ (256 ∷ codes "/close"), route.SessionClose 0)
+    ∷ (codes "/wake", route.Wake)
+    ∷ []
 
 unfoldable grain_table : Paths
 grain_table =
-  (codes "/claim", route.Claim)
-  ∷ (codes "/drop", route.Drop)
-  ∷ (codes "/restore", route.Restore)
-  ∷ (codes "/save", route.Save)
-  ∷ []
+    (codes "/claim", route.Claim)
+    ∷ (codes "/drop", route.Drop)
+    ∷ (codes "/restore", route.Restore)
+    ∷ (codes "/save", route.Save)
+    ∷ []
 
 desk_is : rename (λ (found : RouteOf Route). found.value) desk_rows ≡ desk_table
 unfolding desk_rows desk_table matchit_on_literals

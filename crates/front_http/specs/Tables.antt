@@ -1,5 +1,5 @@
 -- An aid for the contracts of the private functions that build and ask the routers.
-use Rattle.std.specs.Prelude.{◌≡◌, ℕ, List, [], Option, Some, None, Result, Ok, Err, fold, option_map}
+use Rattle.std.specs.Prelude.{ℕ, List, [], Option, Result, Ok, Err, fold, option_map}
 use Rattle.matchit.specs.Rows.{RowsOf}
 use Rattle.matchit.specs.Order.{placed}
 use Rattle.matchit.specs.Route.{Scan, parse_route}

@@ -1,6 +1,6 @@
-use Rattle.std.proofs.Common.{◌≡◌, ◌++◌, List, ℕ, Some, sym, ◌∙◌, subst}
+use Rattle.std.proofs.Common.{◌≡◌, ◌++◌, List, ℕ, sym, ◌∙◌, subst}
 use Rattle.std.proofs.lemmas.List.{append_cancel_left, append_cancel_right}
-use Rattle.front_http.specs.Routes.{IsNumber, IsNumbered}
+use Rattle.front_http.specs.Routes.{IsNumber}
 use Rattle.front_http.proofs.number.number_between.Goals as goal
 
 pub returns-in_err-digits-clause-whole : goal.returns-in_err-digits-clause-whole

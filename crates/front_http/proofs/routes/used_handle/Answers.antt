@@ -1,4 +1,4 @@
-use Rattle.std.proofs.Common.{◌≡◌, List, ℕ, Some, ap, sym, subst}
+use Rattle.std.proofs.Common.{List, ℕ, Some, ap, sym, subst}
 use Rattle.front_http.specs.Routes.{IsUse}
 use Rattle.front_http.proofs.routes.used_handle.Goals as goal
 

@@ -1,6 +1,6 @@
-use Rattle.std.proofs.Common.{◌≡◌, ◌+◌, ◌++◌, ◌==◌, List, ℕ, Some, None, codes, length, sym, ◌∙◌, subst, ap, arith}
-use Rattle.std.specs.List.{position_or_len, before_first, after_first}
-use Rattle.front_http.specs.Routes.{IsNumber, IsUse}
+use Rattle.std.proofs.Common.{◌≡◌, ◌==◌, List, ℕ, length, sym, ◌∙◌, subst, arith}
+use Rattle.std.specs.List.{position_or_len}
+use Rattle.front_http.specs.Routes.{IsNumber}
 use Rattle.front_http.proofs.Cutting.{UseText, use_text, use_found}
 use Rattle.front_http.proofs.target.use_parts.Goals as goal
 

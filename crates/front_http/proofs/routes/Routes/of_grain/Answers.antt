@@ -1,4 +1,4 @@
-use Rattle.std.proofs.Common.{◌≡◌, ℕ, Some, inl, inr}
+use Rattle.std.proofs.Common.{inl, inr}
 use Rattle.front_http.proofs.Cutting.{use_alone}
 use Rattle.front_http.proofs.routes.Routes.of_grain.Goals as goal
 

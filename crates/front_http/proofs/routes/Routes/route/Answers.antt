@@ -1,4 +1,4 @@
-use Rattle.std.proofs.Common.{◌≡◌, List, ℕ, ap, sym, subst, ◌∙◌}
+use Rattle.std.proofs.Common.{◌≡◌, ap, sym, subst, ◌∙◌}
 use Rattle.front_http.specs.Routes.{Host, Grain, IsRouteAt, host_kind}
 use Rattle.front_http.proofs.routes.Routes.route.Goals as goal
 
