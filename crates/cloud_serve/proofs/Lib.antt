@@ -1,9 +1,5 @@
-pub mod Heads
-pub mod Meanings
-pub mod Streams
+pub mod Growth
+pub mod Sites
 pub mod Taking
 pub mod Serving
-mod SmallBookApps
-mod SmallBookShares
-pub mod SmallBook
-pub mod Sites
+pub mod Runs

@@ -1,165 +1,212 @@
-use Rattle.std.proofs.Common.{◌≡◌, ◌≢◌, ℕ, ◌++◌, List, [], ◌∷◌, Some, length, take, refl, sym, ap, ◌∙◌, subst, inl, inr, arith}
+-- What serving one request comes to, over plain values.
+use Rattle.std.proofs.Common.{◌≡◌, ℕ, ◌+◌, ◌<◌, ◌≤◌, ◌++◌, Bool, true, false, List, [], ◌∷◌, Option, Some, None, Result, Ok, Err, length, take, refl, sym, ◌∙◌, ap, subst, arith, append-nil, inl, inr}
 use Rattle.host_base.specs.Outside.{Outlet, Rose}
 use Rattle.host_base.specs.declared.request.Request.{Request}
-use Rattle.cloud_serve.specs.declared.link.Ask.{Ask}
-use Rattle.cloud_serve.specs.declared.serve.ConnEnd.{ConnEnd}
+use Rattle.front_http.specs.declared.fault.FrontFault.{FrontFault}
+use Rattle.front_http.specs.declared.fault.FrontFault.TheVariants as fault
+use Rattle.front_http.specs.declared.refusal.Refusal.{Refusal}
+use Rattle.front_http.specs.declared.refusal.Refusal.TheVariants as refusal
+use Rattle.front_http.specs.Reading.{Reading, IsRemaining, Gave, Ended, Next, over}
+use Rattle.front_http.specs.Stream.{Requests, Ending, Done, Last, Cut, Bad, none_but}
+use Rattle.grain_supervise.specs.Line.{Line}
 use Rattle.cloud_serve.specs.declared.serve.End.{End}
 use Rattle.cloud_serve.specs.declared.serve.End.TheVariants as end
-use Rattle.cloud_serve.specs.Book.{Book, Later}
-use Rattle.cloud_serve.specs.Line.{Line}
-use Rattle.cloud_serve.specs.Stream.{Requests, Done, BadHead, IsHead, IsNoHead, IsStream, request_of}
-use Rattle.cloud_serve.specs.Served.{World, AskedOf, InHand, Nothing, Refusal, Answer, Broken, NoRoom, request_in, asked_in, text_in, IsLawfulIn, HandAt, CauseAt, StreamAt, WrittenAt, Served}
-use Rattle.cloud_serve.specs.Serving.{Refuses, ServesOneBy, ServesOne, IsEnded}
-use Rattle.cloud_serve.specs.Turns.{Turn}
-use Rattle.cloud_serve.proofs.Meanings.{meaning}
-use Rattle.cloud_serve.proofs.Streams.{append-nil}
-use Rattle.cloud_serve.proofs.Taking.{later_refl, asked_none, breaks_first}
+use Rattle.cloud_serve.specs.Book.{Book}
+use Rattle.cloud_serve.specs.Effects.{AskedOf, TakesNone}
+use Rattle.cloud_serve.specs.Texts.{wants_head, refusal_status, refused_text, memory_text}
+use Rattle.cloud_serve.specs.Taking.{Answers, BreaksOff}
+use Rattle.cloud_serve.specs.Served.{World, InHand, Nothing, Refusing, Answering, Broken, NoRoom, request_in, asked_in, text_in, IsLawfulIn, HandAt, CauseAt, IsOver, IsRefusedIn, StreamAt, WrittenAt, CountAt, limit, Splits}
+use Rattle.cloud_serve.specs.Serving.{ClosesWith, RefusesBy, Halts, TookOne, StopsOne, TakesOne, OneMore, Stops, Steps}
+use Rattle.cloud_serve.proofs.Growth.{takes_none_refl, asked_none}
 
--- nothing was answered or asked, and the desk and the link are as before
-bare : (old new : World) (e : End) (hand : InHand) → old.line ≡ new.line → old.book ≡ new.book → (request_in hand ≡ []) × (asked_in hand ≡ []) → IsLawfulIn hand new.book (length old.book.seen)
-    → ((input : List ℕ) → old.inlet.left ≡ Some input → (all : Requests) × IsStream input all × StreamAt e hand all)
-    → ((text : List ℕ) → old.outlet.written ≡ Some text → WrittenAt e text (text_in hand) new.outlet.written) → HandAt e hand → CauseAt e old new
-    → Served old new e (length old.book.seen) [] 0 0
-bare old new e hand line book none lawful stream written hand_at cause = record {
-  turns = [];
-  hand = hand;
-  high = length old.book.seen;
-  later = subst (λ (b : Book). Later old.book b) book (later_refl old.book);
-  from_is = refl;
-  lawful = refl;
-  in_hand = lawful;
-  places_are = refl;
-  served_is = refl;
-  asked_of = rw none.1 (subst (λ (l : Line). AskedOf old.line l []) line (asked_none old.line));
-  forwarded_is = rw none.1 refl;
-  stream = λ input is. let s = stream input is in (s.0, s.0, s.1, record { list = rw none.0 refl; end = refl }, s.2);
-  written = λ text is. rw append-nil (written text is);
-  hand_at = hand_at;
-  cause = cause;
+pub took_one : (low last counted counts : ℕ) (request : Request) (out out' : Outlet) (line line' : Line) (old new : Book) (place : ℕ) (text : List ℕ) → Answers old new line line' counted counts low last request place text
+    → ((before : List ℕ) → out.written ≡ Some before → out'.written ≡ Some (before ++ text)) → TookOne low last counted counts request out out' line line' old new place
+took_one low last counted counts request out out' line line' old new place text a wrote = record {
+  turn = a.turn;
+  request_is = a.request_is;
+  place_is = a.place_is;
+  lawful = a.lawful;
+  none_taken = a.none_taken;
+  asked_of = a.asked_of;
+  counts_is = a.counts_is;
+  written = λ before is. wrote before is ∙ ap (λ (xs : List ℕ). Some (before ++ xs)) (sym a.answer_is);
 }
 
--- the same of what an ended connection answers
-pub ended_served : (old new : World) (e : End) (from : ℕ) (conn : ConnEnd) → IsEnded e from conn → from ≡ length old.book.seen → Served old new e (length old.book.seen) [] 0 0
-    → Served old new conn.end conn.from conn.places conn.served conn.forwarded
-ended_served old new e from conn is from_is served =
-    subst (λ (k : ConnEnd). Served old new k.end k.from k.places k.served k.forwarded) (sym is) (subst (λ (f : ℕ). Served old new e f [] 0 0) (sym from_is) served)
+pub stops_answer : (low last counted counts : ℕ) (request : Request) (out out' : Outlet) (line line' : Line) (old new : Book) (place : ℕ) (text : List ℕ) → Answers old new line line' counted counts low last request place text
+    → ((before : List ℕ) → out.written ≡ Some before → (n : ℕ) × (out'.written ≡ Some (before ++ take n text))) → Rose out.faults out'.faults → StopsOne low last counted counts request out out' line line' old new end.WriteFault
+stops_answer low last counted counts request out out' line line' old new place text a wrote rose = record {
+  hand = Answering a.turn;
+  request_is = ap (λ (r : Request). r ∷ []) a.request_is;
+  lawful = a.lawful;
+  none_taken = a.none_taken;
+  asked_of = a.asked_of;
+  counts_is = a.counts_is;
+  written = λ before is. let part = wrote before is in (part.0, part.1 ∙ ap (λ (xs : List ℕ). Some (before ++ take part.0 xs)) (sym a.answer_is));
+  hand_at = tt;
+  cause = λ inlet inlet'. rose;
+  free = λ more. tt;
+  count = λ served less. less;
+}
 
--- the input was empty
-pub served_done : (old new : World) → old.line ≡ new.line → old.book ≡ new.book → old.outlet ≡ new.outlet → ((input : List ℕ) → old.inlet.left ≡ Some input → input ≡ [])
-    → Served old new end.Done (length old.book.seen) [] 0 0
-served_done old new line book out empty =
-    bare old new end.Done Nothing line book (refl, refl) tt (λ input is. (record { list = []; end = Done }, inl (empty input is, refl), (refl, refl)))
-    (λ text is. ap (λ (o : Outlet). o.written) (sym out) ∙ is ∙ ap Some (sym (append-nil text))) tt tt
+pub stops_broken : (low last counted counts : ℕ) (request : Request) (out out' : Outlet) (line line' : Line) (old new : Book) (result : End) (text : List ℕ) → BreaksOff old new line line' counted counts low request
+    → text ≡ memory_text (wants_head request) → ClosesWith out out' text end.Memory result → StopsOne low last counted counts request out out' line line' old new result
+stops_broken low last counted counts request out out' line line' old new result text b is (inl whole) = subst (λ (e : End). StopsOne low last counted counts request out out' line line' old new e) (sym whole.0) (record {
+  hand = Broken b.turn;
+  request_is = ap (λ (r : Request). r ∷ []) b.request_is;
+  lawful = b.begun;
+  none_taken = b.none_taken;
+  asked_of = b.asked_of;
+  counts_is = b.counts_is;
+  written = λ before told. whole.1 before told ∙ ap (λ (xs : List ℕ). Some (before ++ xs)) (is ∙ ap (λ (r : Request). memory_text (wants_head r)) (sym b.request_is));
+  hand_at = tt;
+  cause = λ inlet inlet'. tt;
+  free = λ more. tt;
+  count = λ served less. less;
+})
+stops_broken low last counted counts request out out' line line' old new result text b is (inr part) = subst (λ (e : End). StopsOne low last counted counts request out out' line line' old new e) (sym part.0) (record {
+  hand = Broken b.turn;
+  request_is = ap (λ (r : Request). r ∷ []) b.request_is;
+  lawful = b.begun;
+  none_taken = b.none_taken;
+  asked_of = b.asked_of;
+  counts_is = b.counts_is;
+  written = λ before told. let w = part.2 before told in (w.0, w.1 ∙ ap (λ (xs : List ℕ). Some (before ++ take w.0 xs)) (is ∙ ap (λ (r : Request). memory_text (wants_head r)) (sym b.request_is)));
+  hand_at = tt;
+  cause = λ inlet inlet'. part.1;
+  free = λ more. tt;
+  count = λ served less. less;
+})
 
--- the input failed, or memory ran out while it was read
-pub served_read_fault : (old new : World) → old.line ≡ new.line → old.book ≡ new.book → old.outlet ≡ new.outlet → Rose old.inlet.faults new.inlet.faults → Served old new end.ReadFault (length old.book.seen) [] 0 0
-served_read_fault old new line book out rose =
-    bare old new end.ReadFault Nothing line book (refl, refl) tt (λ input is. let m = meaning input in (m.0, m.1, tt))
-    (λ text is. ap (λ (o : Outlet). o.written) (sym out) ∙ is ∙ ap Some (sym (append-nil text))) tt rose
+-- a request that was given splits what remained
+gave_splits : (reading reading' : Reading) (left : List ℕ) (request : Request) (told : Option (List ℕ)) → (g : Gave reading left request reading' told) → (all : Requests) → IsRemaining reading left all
+    → (more : Requests) × IsRemaining reading' g.rest more × Splits all (request ∷ []) more
+gave_splits reading reading' left request told g all is =
+    let s = g.splits all is in
+    (s.0, s.1, record { list = ap (λ (r : Requests). r.list) s.2; end = ap (λ (r : Requests). r.end) s.2 })
 
-pub served_memory : (old new : World) → old.line ≡ new.line → old.book ≡ new.book → old.outlet ≡ new.outlet → Served old new end.Memory (length old.book.seen) [] 0 0
-served_memory old new line book out =
-    bare old new end.Memory NoRoom line book (refl, refl) tt (λ input is. let m = meaning input in (m.0, m.1, tt))
-    (λ text is. ap (λ (o : Outlet). o.written) (sym out) ∙ is ∙ ap Some (sym (append-nil text))) tt tt
+splits_by : (all more : Requests) (front back : List Request) → front ≡ back → Splits all front more → Splits all back more
+splits_by all more front back same s = subst (λ (rs : List Request). Splits all rs more) same s
 
--- what is no request was refused
-pub served_refused : (old new : World) (at : ℕ) (e : End) → old.line ≡ new.line → old.book ≡ new.book → Refuses old.outlet new.outlet at e
-    → ((input : List ℕ) → old.inlet.left ≡ Some input → (at ≡ 0) × (input ≢ []) × IsNoHead input) → Served old new e (length old.book.seen) [] 0 0
-served_refused old new at (end.Refused status place) line book refuses bad =
-    bare old new (end.Refused status place) (Refusal at) line book (refl, refl) tt
-    (λ input is. let b = bad input is in (record { list = []; end = BadHead 0 }, inr (inr (b.1, b.2, refl)), (refl, ap BadHead (sym b.0 ∙ sym refuses.1))))
-    refuses.2 (refuses.0, sym refuses.1) tt
-served_refused old new at end.WriteFault line book refuses bad =
-    bare old new end.WriteFault (Refusal at) line book (refl, refl) tt
-    (λ input is. let b = bad input is in (record { list = []; end = BadHead 0 }, inr (inr (b.1, b.2, refl)), (refl, ap BadHead (sym b.0))))
-    refuses.1 tt refuses.0
-served_refused old new at end.Memory line book refuses bad = served_memory old new line book (sym refuses)
-served_refused old new at end.Done line book refuses bad = absurd refuses
-served_refused old new at end.ReadFault line book refuses bad = absurd refuses
+pub steps_one : (low last counted counts : ℕ) (reading reading' : Reading) (old new : World) (request : Request) (result : Result ℕ End)
+    → ((left : List ℕ) → old.inlet.left ≡ Some left → Gave reading left request reading' new.inlet.left)
+    → TakesOne low last counted counts request old.outlet new.outlet old.line new.line old.book new.book result → Steps low last counted counts reading reading' old new result
+steps_one low last counted counts reading reading' old new request (Ok place) gives t = record {
+  turn = t.turn;
+  place_is = t.place_is;
+  lawful = t.lawful;
+  none_taken = t.none_taken;
+  asked_of = t.asked_of;
+  counts_is = t.counts_is;
+  stream = λ left is.
+      let g = gives left is in (
+        g.rest,
+        g.told_is,
+        λ all remains.
+            let s = gave_splits reading reading' left request new.inlet.left g all remains in
+            (s.0, s.1, splits_by all s.0 (request ∷ []) (t.turn.request ∷ []) (ap (λ (r : Request). r ∷ []) (sym t.request_is)) s.2),
+      );
+  written = t.written;
+}
+steps_one low last counted counts reading reading' old new request (Err e) gives t = record {
+  hand = t.hand;
+  lawful = t.lawful;
+  none_taken = t.none_taken;
+  asked_of = t.asked_of;
+  counts_is = t.counts_is;
+  stream = λ left is all remains.
+      let s = gave_splits reading reading' left request new.inlet.left (gives left is) all remains in
+      (s.0, splits_by all s.0 (request ∷ []) (request_in t.hand) (sym t.request_is) s.2, t.free s.0);
+  written = t.written;
+  hand_at = t.hand_at;
+  cause = t.cause old.inlet new.inlet;
+  count = t.count;
+}
 
--- the one request was answered, in whole or in part or not at all
-served_by : (old new : World) (request : Request) (conn : ConnEnd) (e : End) → ServesOneBy e old.outlet new.outlet old.line new.line old.book new.book request conn
-    → ((input : List ℕ) → old.inlet.left ≡ Some input → (target : List ℕ) × (host : List ℕ) × IsHead input target host × (request ≡ request_of target host))
-    → Served old new e (length old.book.seen) conn.places conn.served conn.forwarded
-served_by old new request conn end.Done s one =
-    let a = s.2 in
-    let turn : Turn = a.turn in
-    let asked : (turn.asked ++ []) ++ [] ≡ turn.asked = append-nil (turn.asked ++ []) ∙ append-nil turn.asked in
-    record {
-      turns = turn ∷ [];
-      hand = Nothing;
-      high = turn.reached;
-      later = a.later;
-      from_is = refl;
-      lawful = (a.lawful, refl);
-      in_hand = tt;
-      places_are = s.4 ∙ ap (λ (p : ℕ). p ∷ []) (sym a.place_is);
-      served_is = s.5;
-      asked_of = subst (λ (xs : List Ask). AskedOf old.line new.line xs) (sym asked) a.asked_of;
-      forwarded_is = a.counts_is ∙ omega arith ∙ ap length (sym asked);
-      stream = λ input is.
-          let o = one input is in
-          (record { list = request_of o.0 o.1 ∷ []; end = Done }, record { list = []; end = Done }, inr (inl (o.0, o.1, o.2, refl)), record { list = ap (λ (r : Request). r ∷ []) (sym o.3 ∙ sym a.request_is); end = refl }, (refl, refl));
-      written = λ text is. s.3 text is ∙ ap (λ (xs : List ℕ). Some (text ++ xs)) (sym a.answer_is ∙ sym (append-nil turn.answer)) ∙ ap Some (sym (append-nil (text ++ (turn.answer ++ []))));
-      hand_at = tt;
-      cause = tt;
-    }
-served_by old new request conn end.WriteFault s one =
-    let a = s.2 in
-    let turn : Turn = a.turn in
-    record {
-      turns = [];
-      hand = Answer turn;
-      high = length old.book.seen;
-      later = a.later;
-      from_is = refl;
-      lawful = refl;
-      in_hand = a.lawful;
-      places_are = s.5;
-      served_is = s.6;
-      asked_of = a.asked_of;
-      forwarded_is = a.counts_is ∙ omega arith;
-      stream = λ input is.
-          let o = one input is in
-          (record { list = request_of o.0 o.1 ∷ []; end = Done }, record { list = []; end = Done }, inr (inl (o.0, o.1, o.2, refl)), record { list = ap (λ (r : Request). r ∷ []) (sym o.3 ∙ sym a.request_is); end = refl }, tt);
-      written = λ text is.
-          let part = s.3 text is in
-          (part.0, part.1 ∙ ap (λ (xs : List ℕ). Some (text ++ take part.0 xs)) (sym a.answer_is) ∙ ap (λ (xs : List ℕ). Some (xs ++ take part.0 turn.answer)) (sym (append-nil text)));
-      hand_at = tt;
-      cause = s.4;
-    }
-served_by old new request conn end.Memory s one =
-    let b = s.0 in
-    let turn : Turn = b.turn in
-    record {
-      turns = [];
-      hand = Broken turn;
-      high = length old.book.seen;
-      later = b.later;
-      from_is = refl;
-      lawful = refl;
-      in_hand = b.begun;
-      places_are = s.2;
-      served_is = s.3;
-      asked_of = b.asked_of;
-      forwarded_is = b.counts_is ∙ omega arith;
-      stream = λ input is.
-          let o = one input is in
-          (record { list = request_of o.0 o.1 ∷ []; end = Done }, record { list = []; end = Done }, inr (inl (o.0, o.1, o.2, refl)), record { list = ap (λ (r : Request). r ∷ []) (sym o.3 ∙ sym b.request_is); end = refl }, tt);
-      written = λ text is. ap (λ (o : Outlet). o.written) s.1 ∙ is ∙ ap Some (sym (append-nil text) ∙ sym (append-nil (text ++ [])));
-      hand_at = tt;
-      cause = tt;
-    }
-served_by old new request conn (end.Refused status at) s one = absurd s
-served_by old new request conn end.ReadFault s one = absurd s
+-- no request is in hand, and none was answered
+pub record IsBare (hand : InHand) : Type 0 where
+  pub request : request_in hand ≡ []
+  pub asked : asked_in hand ≡ []
+  pub lawful : (book : Book) (low last : ℕ) → IsLawfulIn hand book low last
 
-pub served_one : (old new : World) (request : Request) (from : ℕ) (conn : ConnEnd) → ServesOne old.outlet new.outlet old.line new.line old.book new.book request from conn → from ≡ length old.book.seen
-    → ((input : List ℕ) → old.inlet.left ≡ Some input → (target : List ℕ) × (host : List ℕ) × IsHead input target host × (request ≡ request_of target host))
-    → Served old new conn.end conn.from conn.places conn.served conn.forwarded
-served_one old new request from conn s from_is one =
-    subst (λ (f : ℕ). Served old new conn.end f conn.places conn.served conn.forwarded) (sym from_is ∙ sym s.0) (served_by old new request conn conn.end s.1 one)
+bare_nothing : IsBare Nothing
+bare_nothing = record { request = refl; asked = refl; lawful = λ book low last. tt }
 
--- a request for which there was no memory
-pub serves_none : (out : Outlet) (line : Line) (book : Book) (request : Request) (from : ℕ) (conn : ConnEnd) → IsEnded end.Memory from conn → ServesOne out out line line book book request from conn
-serves_none out line book request from conn is =
-    subst (λ (k : ConnEnd). ServesOne out out line line book book request from k) (sym is) (refl, (breaks_first book book line 0 request (later_refl book), refl, refl, refl))
+bare_no_room : IsBare NoRoom
+bare_no_room = record { request = refl; asked = refl; lawful = λ book low last. tt }
+
+bare_refusing : (why : Refusal) (at : ℕ) → IsBare (Refusing why at)
+bare_refusing why at = record { request = refl; asked = refl; lawful = λ book low last. tt }
+
+-- the connection ends with no request in hand
+stops_bare : (low last counted : ℕ) (reading : Reading) (old new : World) (e : End) (hand : InHand) → IsBare hand → old.line ≡ new.line → old.book ≡ new.book
+    → ((left : List ℕ) → old.inlet.left ≡ Some left → (all : Requests) → IsRemaining reading left all → StreamAt e hand all)
+    → ((text : List ℕ) → old.outlet.written ≡ Some text → WrittenAt e text (text_in hand) new.outlet.written) → HandAt e hand → CauseAt e old.inlet new.inlet old.outlet new.outlet
+    → ((served : ℕ) → served < limit → CountAt e served) → Stops low last counted counted reading old new e
+stops_bare low last counted reading old new e hand bare line book stream written at cause count = record {
+  hand = hand;
+  lawful = bare.lawful new.book low last;
+  none_taken = subst (λ (b : Book). TakesNone old.book b) book (takes_none_refl old.book);
+  asked_of = rw bare.asked (subst (λ (l : Line). AskedOf old.line l []) line (asked_none old.line));
+  counts_is = rw bare.asked (omega arith);
+  stream = λ left is all remains. (all, rw bare.request (record { list = refl; end = refl }), stream left is all remains);
+  written = written;
+  hand_at = at;
+  cause = cause;
+  count = count;
+}
+
+-- memory ran out with no request in hand
+pub stops_no_room : (low last counted : ℕ) (reading : Reading) (old new : World) (result : End) (text : List ℕ) → old.line ≡ new.line → old.book ≡ new.book → text ≡ memory_text false
+    → ClosesWith old.outlet new.outlet text end.Memory result → Stops low last counted counted reading old new result
+stops_no_room low last counted reading old new result text line book is (inl whole) = subst (λ (e : End). Stops low last counted counted reading old new e) (sym whole.0)
+    (stops_bare low last counted reading old new end.Memory NoRoom bare_no_room line book (λ left told all remains. tt)
+    (λ before told. whole.1 before told ∙ ap (λ (xs : List ℕ). Some (before ++ xs)) is) tt tt (λ served less. less))
+stops_no_room low last counted reading old new result text line book is (inr part) = subst (λ (e : End). Stops low last counted counted reading old new e) (sym part.0)
+    (stops_bare low last counted reading old new end.WriteFault NoRoom bare_no_room line book (λ left told all remains. tt)
+    (λ before told. let w = part.2 before told in (w.0, w.1 ∙ ap (λ (xs : List ℕ). Some (before ++ take w.0 xs)) is)) tt part.1 (λ served less. less))
+
+refused_all : (reading : Reading) (left : List ℕ) (why : Refusal) (at : ℕ) → Ended reading left (Bad why at) → (all : Requests) → IsRemaining reading left all → IsRefusedIn (Refusing why at) all
+refused_all reading left why at ended all remains = let same = ended.only all remains in (ap (λ (r : Requests). r.list) same, ap (λ (r : Requests). r.end) same)
+
+-- what is refused at a place was answered
+stops_refused : (low last counted : ℕ) (reading : Reading) (old new : World) (why : Refusal) (at : ℕ) (result : End) → old.line ≡ new.line → old.book ≡ new.book
+    → ((left : List ℕ) → old.inlet.left ≡ Some left → Ended reading left (Bad why at)) → RefusesBy old.outlet new.outlet why at result → Stops low last counted counted reading old new result
+stops_refused low last counted reading old new why at result line book ended (inl (inl whole)) = subst (λ (e : End). Stops low last counted counted reading old new e) (sym whole.0)
+    (stops_bare low last counted reading old new (end.Refused (refusal_status why) at) (Refusing why at) (bare_refusing why at) line book
+    (λ left told all remains. refused_all reading left why at (ended left told) all remains) whole.1 (refl, refl) tt (λ served less. less))
+stops_refused low last counted reading old new why at result line book ended (inl (inr part)) = subst (λ (e : End). Stops low last counted counted reading old new e) (sym part.0)
+    (stops_bare low last counted reading old new end.WriteFault (Refusing why at) (bare_refusing why at) line book
+    (λ left told all remains. refused_all reading left why at (ended left told) all remains) part.2 tt part.1 (λ served less. less))
+stops_refused low last counted reading old new why at result line book ended (inr memory) = stops_no_room low last counted reading old new result (memory_text false) line book refl memory
+
+-- nothing is in hand and nothing was written
+unwritten : (old new : Outlet) → new ≡ old → (text : List ℕ) → old.written ≡ Some text → new.written ≡ Some (text ++ [])
+unwritten old new same text is = ap (λ (o : Outlet). o.written) same ∙ is ∙ ap Some (sym (append-nil text))
+
+over_is_over : (closed : Bool) (ending : Ending) → ending ≡ over closed → IsOver ending
+over_is_over true ending is = rw is tt
+over_is_over false ending is = rw is tt
+
+-- the stream is over
+pub stops_done : (low last counted : ℕ) (reading : Reading) (old new : World) → old.line ≡ new.line → old.book ≡ new.book → new.outlet ≡ old.outlet
+    → ((left : List ℕ) → old.inlet.left ≡ Some left → Ended reading left (over reading.closed)) → Stops low last counted counted reading old new end.Done
+stops_done low last counted reading old new line book out ended =
+    stops_bare low last counted reading old new end.Done Nothing bare_nothing line book
+    (λ left told all remains. let same = (ended left told).only all remains in (ap (λ (r : Requests). r.list) same, over_is_over reading.closed all.end (ap (λ (r : Requests). r.end) same)))
+    (unwritten old.outlet new.outlet out) tt tt (λ served less. less)
+
+-- the reader answered a fault
+pub stops_halted : (low last counted : ℕ) (reading reading' : Reading) (old new : World) (f : FrontFault) (result : End) → old.line ≡ new.line → old.book ≡ new.book
+    → ((left : List ℕ) → old.inlet.left ≡ Some left → Next reading left (Err f) reading' new.inlet.left) → (f ≡ fault.ReadFault → Rose old.inlet.faults new.inlet.faults)
+    → Halts old.outlet new.outlet f result → Stops low last counted counted reading old new result
+stops_halted low last counted reading reading' old new (fault.BadHead at) result line book next rose h = stops_refused low last counted reading old new refusal.BadHead at result line book next h
+stops_halted low last counted reading reading' old new (fault.LongHead at) result line book next rose h = stops_refused low last counted reading old new refusal.LongHead at result line book next h
+stops_halted low last counted reading reading' old new (fault.NeedLength at) result line book next rose h = stops_refused low last counted reading old new refusal.NeedLength at result line book next h
+stops_halted low last counted reading reading' old new (fault.LongBody at) result line book next rose h = stops_refused low last counted reading old new refusal.LongBody at result line book next h
+stops_halted low last counted reading reading' old new (fault.CutOff n) result line book next rose h = subst (λ (e : End). Stops low last counted counted reading old new e) (sym h.0)
+    (stops_bare low last counted reading old new (end.CutOff n) Nothing bare_nothing line book
+    (λ left told all remains. let same = (next left told).only all remains in (ap (λ (r : Requests). r.list) same, ap (λ (r : Requests). r.end) same))
+    (unwritten old.outlet new.outlet h.1) tt tt (λ served less. less))
+stops_halted low last counted reading reading' old new fault.ReadFault result line book next rose h = subst (λ (e : End). Stops low last counted counted reading old new e) (sym h.0)
+    (stops_bare low last counted reading old new end.ReadFault Nothing bare_nothing line book (λ left told all remains. tt) (unwritten old.outlet new.outlet h.1) tt (rose refl) (λ served less. less))
+stops_halted low last counted reading reading' old new fault.Memory result line book next rose h = stops_no_room low last counted reading old new result (memory_text false) line book refl h

@@ -1,3 +1,4 @@
+-- What a desk tells, and the verdict on a key at one place of its history.
 use Rattle.std.specs.Prelude.{◌≡◌, ℕ, ◌≤◌, ◌++◌, List, length}
 use Rattle.host_base.specs.declared.key.Key.{Key}
 use Rattle.host_base.specs.declared.verdict.Verdict.{Verdict}
@@ -6,10 +7,12 @@ use Rattle.share_graph.specs.declared.event.Event.{Event}
 use Rattle.share_graph.specs.History.{replay}
 use Rattle.session_table.specs.Verdict.{IsVerdict}
 
--- What a desk tells: the state that its history began with, and the accepted commands that it has seen.
+-- What a desk tells: the state that its history began with, the entries of the history that it has seen, and how many commands it
+-- accepted.
 pub record Book : Type 0 where
   pub start : State
   pub seen : List Event
+  pub accepted : ℕ
 
 -- The same history, seen as far as before or further.
 pub record Later (old new : Book) : Type 0 where

@@ -1,12 +1,9 @@
 pub mod Book
 pub mod Digests
-pub mod Heads
-pub mod Line
-pub mod Reading
-pub mod Served
-pub mod Serving
-pub mod SmallBook
-pub mod Stream
-pub mod Taking
+pub mod Routes
 pub mod Texts
 pub mod Turns
+pub mod Effects
+pub mod Taking
+pub mod Served
+pub mod Serving

@@ -1,14 +1,17 @@
-use Rattle.std.specs.Prelude.{◌≡◌, ℕ, ◌+◌, ◌<◌, ◌≤◌, ◌++◌, List, [], ◌∷◌, Option, Some, length, take, map, count_by, is_none}
+-- What serving a connection comes to: its turns, what was in hand at the end, and the table of ends.
+use Rattle.std.specs.Prelude.{◌≡◌, ℕ, ◌<◌, ◌≤◌, ◌++◌, Bool, false, List, [], ◌∷◌, Option, Some, length, take, map}
 use Rattle.std.specs.List.{flat_map}
 use Rattle.host_base.specs.Outside.{Inlet, Outlet, Rose}
 use Rattle.host_base.specs.declared.request.Request.{Request}
-use Rattle.cloud_serve.specs.declared.link.Ask.{Ask}
+use Rattle.front_http.specs.declared.refusal.Refusal.{Refusal}
+use Rattle.front_http.specs.Stream.{Requests, Ending, Done, Last, Cut, Bad, IsStream}
+use Rattle.grain_supervise.specs.declared.ask.Ask.{Ask}
+use Rattle.grain_supervise.specs.Line.{Line}
 use Rattle.cloud_serve.specs.declared.serve.End.{End}
 use Rattle.cloud_serve.specs.declared.serve.End.TheVariants as end
-use Rattle.cloud_serve.specs.Book.{Book, Later}
-use Rattle.cloud_serve.specs.Line.{Line}
-use Rattle.cloud_serve.specs.Stream.{Requests, Ending, Done, BadHead, IsStream, Splits}
-use Rattle.cloud_serve.specs.Texts.{bad_head_text}
+use Rattle.cloud_serve.specs.Book.{Book}
+use Rattle.cloud_serve.specs.Effects.{AskedOf, TakesNone}
+use Rattle.cloud_serve.specs.Texts.{wants_head, refusal_status, refused_text, memory_text}
 use Rattle.cloud_serve.specs.Turns.{Turn, IsLawful, IsBegun, AreLawful}
 
 -- what source, sink, link and desk tell at one moment
@@ -18,87 +21,92 @@ pub record World : Type 0 where
   pub line : Line
   pub book : Book
 
--- the count grew by at least n, unless it stands at its last value
-abbrev pub Grew : ℕ → ℕ → ℕ → Type 0
-Grew before after n = after < 18446744073709551615 → before + n ≤ after
-
--- how many asks failed
-abbrev pub failures : List Ask → ℕ
-failures asked = count_by (λ ask. is_none ask.back) asked
-
--- The link was asked these texts and no others, and each failure was counted.
-pub record AskedOf (before after : Line) (asked : List Ask) : Type 0 where
-  pub told : (list : List Ask) → before.asked ≡ Some list → after.asked ≡ Some (list ++ asked)
-  pub counts : before.faults ≤ after.faults
-  pub counted : Grew before.faults after.faults (failures asked)
-
--- What was in hand when a connection ended: nothing; the answer to what is no request, at this place; a turn whose
--- answer was being written; a turn that memory ran out on; or the want of memory alone.
+-- What was in hand when a connection ended: nothing; the answer to what is refused, and its place; a turn whose answer was being
+-- written; a turn that memory ran out on; or nothing but the want of memory, met while no request was in hand.
 pub data InHand : Type 0 where
   Nothing : InHand
-  Refusal : ℕ → InHand
-  Answer : Turn → InHand
+  Refusing : Refusal → ℕ → InHand
+  Answering : Turn → InHand
   Broken : Turn → InHand
   NoRoom : InHand
 
 abbrev pub request_in : InHand → List Request
-request_in (Answer turn) = turn.request ∷ []
+request_in (Answering turn) = turn.request ∷ []
 request_in (Broken turn) = turn.request ∷ []
 request_in Nothing = []
-request_in (Refusal at) = []
+request_in (Refusing refusal at) = []
 request_in NoRoom = []
 
 abbrev pub asked_in : InHand → List Ask
-asked_in (Answer turn) = turn.asked
+asked_in (Answering turn) = turn.asked
 asked_in (Broken turn) = turn.asked
 asked_in Nothing = []
-asked_in (Refusal at) = []
+asked_in (Refusing refusal at) = []
 asked_in NoRoom = []
 
 -- the text that was being written
 abbrev pub text_in : InHand → List ℕ
-text_in (Answer turn) = turn.answer
-text_in (Refusal at) = bad_head_text at
-text_in (Broken turn) = []
+text_in (Answering turn) = turn.answer
+text_in (Broken turn) = memory_text (wants_head turn.request)
 text_in Nothing = []
-text_in NoRoom = []
+text_in (Refusing refusal at) = refused_text refusal at
+text_in NoRoom = memory_text false
 
-abbrev pub IsLawfulIn : InHand → Book → ℕ → Type 0
-IsLawfulIn (Answer turn) book low = IsLawful book low turn
-IsLawfulIn (Broken turn) book low = IsBegun book low turn
-IsLawfulIn Nothing book low = Unit {0}
-IsLawfulIn (Refusal at) book low = Unit {0}
-IsLawfulIn NoRoom book low = Unit {0}
+abbrev pub IsLawfulIn : InHand → Book → ℕ → ℕ → Type 0
+IsLawfulIn (Answering turn) book low last = IsLawful book low last turn
+IsLawfulIn (Broken turn) book low last = IsBegun book low turn
+IsLawfulIn Nothing book low last = Unit {0}
+IsLawfulIn (Refusing refusal at) book low last = Unit {0}
+IsLawfulIn NoRoom book low last = Unit {0}
 
 -- The table of ends, first part: what may be in hand at each.
 abbrev pub HandAt : End → InHand → Type 0
 HandAt end.Done Nothing = Unit {0}
-HandAt (end.Refused status at) (Refusal place) = (status ≡ 400) × (place ≡ at)
+HandAt (end.CutOff n) Nothing = Unit {0}
+HandAt end.Spent Nothing = Unit {0}
 HandAt end.ReadFault Nothing = Unit {0}
-HandAt end.WriteFault (Refusal place) = Unit {0}
-HandAt end.WriteFault (Answer turn) = Unit {0}
-HandAt end.Memory (Broken turn) = Unit {0}
+HandAt (end.Refused status at) (Refusing refusal place) = (status ≡ refusal_status refusal) × (place ≡ at)
 HandAt end.Memory NoRoom = Unit {0}
+HandAt end.Memory (Broken turn) = Unit {0}
+HandAt end.WriteFault (Refusing refusal place) = Unit {0}
+HandAt end.WriteFault (Answering turn) = Unit {0}
+HandAt end.WriteFault (Broken turn) = Unit {0}
+HandAt end.WriteFault NoRoom = Unit {0}
 HandAt _ _ = ⊥
 
--- Second part: which count must have risen.
-abbrev pub CauseAt : End → World → World → Type 0
-CauseAt end.ReadFault old new = Rose old.inlet.faults new.inlet.faults
-CauseAt end.WriteFault old new = Rose old.outlet.faults new.outlet.faults
-CauseAt end.Done old new = Unit {0}
-CauseAt (end.Refused status at) old new = Unit {0}
-CauseAt end.Memory old new = Unit {0}
+-- Second part: which count must have risen in this call.
+abbrev pub CauseAt : End → Inlet → Inlet → Outlet → Outlet → Type 0
+CauseAt end.ReadFault inlet inlet' outlet outlet' = Rose inlet.faults inlet'.faults
+CauseAt end.WriteFault inlet inlet' outlet outlet' = Rose outlet.faults outlet'.faults
+CauseAt end.Done inlet inlet' outlet outlet' = Unit {0}
+CauseAt (end.CutOff n) inlet inlet' outlet outlet' = Unit {0}
+CauseAt end.Spent inlet inlet' outlet outlet' = Unit {0}
+CauseAt (end.Refused status at) inlet inlet' outlet outlet' = Unit {0}
+CauseAt end.Memory inlet inlet' outlet outlet' = Unit {0}
 
--- Third part: how the rest of the stream stands.
+-- the stream goes on with nothing, or ended with a request that is the last one
+abbrev pub IsOver : Ending → Type 0
+IsOver Done = Unit {0}
+IsOver Last = Unit {0}
+IsOver (Cut n) = ⊥
+IsOver (Bad refusal at) = ⊥
+
+-- what is refused is what the rest of the stream ends with
+abbrev pub IsRefusedIn : InHand → Requests → Type 0
+IsRefusedIn (Refusing refusal at) more = (more.list ≡ []) × (more.end ≡ Bad refusal at)
+IsRefusedIn (Answering turn) more = Unit {0}
+IsRefusedIn (Broken turn) more = Unit {0}
+IsRefusedIn Nothing more = Unit {0}
+IsRefusedIn NoRoom more = Unit {0}
+
+-- Third part: how the rest of the stream stands at each end.
 abbrev pub StreamAt : End → InHand → Requests → Type 0
-StreamAt end.Done hand more = (more.list ≡ []) × (more.end ≡ Done)
-StreamAt (end.Refused status at) hand more = (more.list ≡ []) × (more.end ≡ BadHead at)
-StreamAt end.WriteFault (Refusal at) more = (more.list ≡ []) × (more.end ≡ BadHead at)
-StreamAt end.WriteFault Nothing more = Unit {0}
-StreamAt end.WriteFault (Answer turn) more = Unit {0}
-StreamAt end.WriteFault (Broken turn) more = Unit {0}
-StreamAt end.WriteFault NoRoom more = Unit {0}
+StreamAt end.Done hand more = (more.list ≡ []) × IsOver more.end
+StreamAt (end.CutOff n) hand more = (more.list ≡ []) × (more.end ≡ Cut n)
+StreamAt (end.Refused status at) hand more = IsRefusedIn hand more
+StreamAt end.WriteFault hand more = IsRefusedIn hand more
 StreamAt end.ReadFault hand more = Unit {0}
+StreamAt end.Spent hand more = Unit {0}
 StreamAt end.Memory hand more = Unit {0}
 
 -- Fourth part: the text in hand is written whole, but for a write fault, which leaves a prefix of it.
@@ -106,41 +114,67 @@ abbrev pub WrittenAt : End → List ℕ → List ℕ → Option (List ℕ) → T
 WrittenAt end.WriteFault before text written = (n : ℕ) × (written ≡ Some (before ++ take n text))
 WrittenAt end.Done before text written = written ≡ Some (before ++ text)
 WrittenAt (end.Refused status at) before text written = written ≡ Some (before ++ text)
+WrittenAt (end.CutOff n) before text written = written ≡ Some (before ++ text)
 WrittenAt end.ReadFault before text written = written ≡ Some (before ++ text)
+WrittenAt end.Spent before text written = written ≡ Some (before ++ text)
 WrittenAt end.Memory before text written = written ≡ Some (before ++ text)
+
+-- how many requests one connection may have
+abbrev pub limit : ℕ
+limit = 1000000
+
+-- Fifth part: a connection is spent exactly where so many requests were answered.
+abbrev pub CountAt : End → ℕ → Type 0
+CountAt end.Spent served = served ≡ limit
+CountAt end.Done served = served < limit
+CountAt (end.Refused status at) served = served < limit
+CountAt (end.CutOff n) served = served < limit
+CountAt end.ReadFault served = served < limit
+CountAt end.WriteFault served = served < limit
+CountAt end.Memory served = served < limit
+
+-- the requests of a stream are these, and then more
+pub record Splits (all : Requests) (front : List Request) (more : Requests) : Type 0 where
+  pub list : all.list ≡ front ++ more.list
+  pub end : all.end ≡ more.end
 
 -- THE HEADLINE. There is a list of turns, one for each answered request, and something in hand at the end.
 pub record Served (old new : World) (end : End) (from : ℕ) (places : List ℕ) (served forwarded : ℕ) : Type 0 where
   pub turns : List Turn
   pub hand : InHand
   pub high : ℕ
-  -- The history is the one that the desk had seen, and goes on; places begin at what was seen.
-  pub later : Later old.book new.book
+  pub last : ℕ
+  -- Places begin at what the desk had seen. The history goes on from there, and no command of this connection is in it.
   pub from_is : from ≡ length old.book.seen
+  pub none_taken : TakesNone old.book new.book
   -- Each turn is lawful in that one history, and counts what those before it reached.
-  pub lawful : AreLawful new.book from turns high
-  pub in_hand : IsLawfulIn hand new.book high
+  pub lawful : AreLawful new.book from from turns high last
+  pub in_hand : IsLawfulIn hand new.book high last
   -- Places and number are those of the turns.
   pub places_are : places ≡ map (λ turn. turn.place) turns
   pub served_is : served ≡ length turns
   -- The link was asked the turns' texts and no others; each failure is counted.
   pub asked_of : AskedOf old.line new.line (flat_map (λ turn. turn.asked) turns ++ asked_in hand)
   pub forwarded_is : forwarded ≡ length (flat_map (λ turn. turn.asked) turns ++ asked_in hand)
-  -- Where the source tells what is left: the requests of it are the turns', the one in hand, and more.
-  pub stream : (input : List ℕ) → old.inlet.left ≡ Some input → (all : Requests) × (more : Requests) × IsStream input all
+  -- Where the source tells what is left: the requests of it are the turns', the one in hand, and more. A stream has one meaning: no
+  -- two by `HasOneMeaning`, and not none by `HasMeaning`, which are clauses of the reader of requests.
+  pub stream : (input : List ℕ) → old.inlet.left ≡ Some input → (all : Requests) → IsStream 0 input all → (more : Requests)
       × Splits all (map (λ turn. turn.request) turns ++ request_in hand) more × StreamAt end hand more
   -- Where the sink tells what was written: the turns' answers, and the text in hand.
   pub written : (text : List ℕ) → old.outlet.written ≡ Some text → WrittenAt end (text ++ flat_map (λ turn. turn.answer) turns) (text_in hand) new.outlet.written
-  -- What was in hand, and what caused the end.
+  -- What was in hand, what caused the end, and after how many requests it came.
   pub hand_at : HandAt end hand
-  pub cause : CauseAt end old new
+  pub cause : CauseAt end old.inlet new.inlet old.outlet new.outlet
+  pub count : CountAt end served
 
 -- the end of a connection that the stream's end asks for
 abbrev pub IsEndOf : End → Ending → Type 0
-IsEndOf end.Done ending = ending ≡ Done
-IsEndOf (end.Refused status at) ending = (status ≡ 400) × (ending ≡ BadHead at)
+IsEndOf end.Done ending = IsOver ending
+IsEndOf (end.CutOff n) ending = ending ≡ Cut n
+IsEndOf (end.Refused status at) ending = (refusal : Refusal) × (status ≡ refusal_status refusal) × (ending ≡ Bad refusal at)
 IsEndOf end.ReadFault ending = ⊥
 IsEndOf end.WriteFault ending = ⊥
+IsEndOf end.Spent ending = ⊥
 IsEndOf end.Memory ending = ⊥
 
 -- a count below its last value that stands

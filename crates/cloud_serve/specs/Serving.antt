@@ -1,52 +1,118 @@
-use Rattle.std.specs.Prelude.{◌≡◌, ℕ, ◌++◌, List, [], ◌∷◌, Some, Result, Ok, Err, take}
-use Rattle.host_base.specs.Outside.{Outlet, Rose}
+-- An aid for the contracts of the private functions that serve a connection.
+use Rattle.std.specs.Prelude.{◌≡◌, ℕ, ◌+◌, ◌<◌, ◌≤◌, ◌⊎◌, ◌++◌, false, List, [], ◌∷◌, Some, Result, Ok, Err, length, take, map}
+use Rattle.std.specs.List.{flat_map}
+use Rattle.host_base.specs.Outside.{Inlet, Outlet, Rose}
 use Rattle.host_base.specs.declared.request.Request.{Request}
-use Rattle.cloud_serve.specs.declared.serve.ConnEnd.{ConnEnd}
+use Rattle.front_http.specs.declared.fault.FrontFault.{FrontFault}
+use Rattle.front_http.specs.declared.fault.FrontFault.TheVariants as fault
+use Rattle.front_http.specs.declared.refusal.Refusal.{Refusal}
+use Rattle.front_http.specs.declared.refusal.Refusal.TheVariants as refusal
+use Rattle.front_http.specs.Reading.{Reading, IsRemaining}
+use Rattle.front_http.specs.Stream.{Requests, IsStream}
+use Rattle.grain_supervise.specs.Line.{Line}
 use Rattle.cloud_serve.specs.declared.serve.End.{End}
 use Rattle.cloud_serve.specs.declared.serve.End.TheVariants as end
 use Rattle.cloud_serve.specs.Book.{Book}
-use Rattle.cloud_serve.specs.Line.{Line}
-use Rattle.cloud_serve.specs.Taking.{Answers, BreaksOff}
-use Rattle.cloud_serve.specs.Texts.{bad_head_text}
+use Rattle.cloud_serve.specs.Effects.{AskedOf, TakesNone}
+use Rattle.cloud_serve.specs.Texts.{refusal_status, refused_text, memory_text}
+use Rattle.cloud_serve.specs.Turns.{Turn, IsLawful, AreLawful}
+use Rattle.cloud_serve.specs.Served.{World, InHand, request_in, asked_in, text_in, IsLawfulIn, HandAt, CauseAt, StreamAt, WrittenAt, CountAt, limit, Splits}
 
--- the text was written whole, or a prefix of it
-abbrev pub WritesWhole : Outlet → Outlet → List ℕ → Type 0
-WritesWhole old new text = (before : List ℕ) → old.written ≡ Some before → new.written ≡ Some (before ++ text)
+-- a text was closed with: the end that was meant, or a write fault and a prefix of it
+abbrev pub ClosesWith : Outlet → Outlet → List ℕ → End → End → Type 0
+ClosesWith old new text meant result =
+    ((result ≡ meant) × ((before : List ℕ) → old.written ≡ Some before → new.written ≡ Some (before ++ text)))
+    ⊎ ((result ≡ end.WriteFault) × Rose old.faults new.faults × ((before : List ℕ) → old.written ≡ Some before → (n : ℕ) × (new.written ≡ Some (before ++ take n text))))
 
-abbrev pub WritesPart : Outlet → Outlet → List ℕ → Type 0
-WritesPart old new text = (before : List ℕ) → old.written ≡ Some before → (n : ℕ) × (new.written ≡ Some (before ++ take n text))
+-- what is refused at a place was answered, or memory ran out
+abbrev pub RefusesBy : Outlet → Outlet → Refusal → ℕ → End → Type 0
+RefusesBy old new why at result =
+    ClosesWith old new (refused_text why at) (end.Refused (refusal_status why) at) result
+    ⊎ ClosesWith old new (memory_text false) end.Memory result
 
--- what refusing what is no request comes to
-abbrev pub Refuses : Outlet → Outlet → ℕ → End → Type 0
-Refuses old new at (end.Refused status place) = (status ≡ 400) × (place ≡ at) × WritesWhole old new (bad_head_text at)
-Refuses old new at end.WriteFault = Rose old.faults new.faults × WritesPart old new (bad_head_text at)
-Refuses old new at end.Memory = new ≡ old
-Refuses old new at end.Done = ⊥
-Refuses old new at end.ReadFault = ⊥
+-- the connection ended with a fault of the reader
+abbrev pub Halts : Outlet → Outlet → FrontFault → End → Type 0
+Halts old new (fault.BadHead at) result = RefusesBy old new refusal.BadHead at result
+Halts old new (fault.LongHead at) result = RefusesBy old new refusal.LongHead at result
+Halts old new (fault.NeedLength at) result = RefusesBy old new refusal.NeedLength at result
+Halts old new (fault.LongBody at) result = RefusesBy old new refusal.LongBody at result
+Halts old new (fault.CutOff n) result = (result ≡ end.CutOff n) × (new ≡ old)
+Halts old new fault.ReadFault result = (result ≡ end.ReadFault) × (new ≡ old)
+Halts old new fault.Memory result = ClosesWith old new (memory_text false) end.Memory result
 
--- what taking a turn and writing its answer comes to
-abbrev pub TakesOne : Outlet → Outlet → Line → Line → Book → Book → ℕ → ℕ → Request → Result ℕ End → Type 0
-TakesOne out out' line line' old new counted counts request (Ok place) = (text : List ℕ) × Answers old new line line' counted counts request place text × WritesWhole out out' text
-TakesOne out out' line line' old new counted counts request (Err end.WriteFault) =
-    (text : List ℕ) × (place : ℕ) × Answers old new line line' counted counts request place text × WritesPart out out' text × Rose out.faults out'.faults
-TakesOne out out' line line' old new counted counts request (Err end.Memory) = BreaksOff old new line line' counted counts request × (out' ≡ out)
-TakesOne out out' line line' old new counted counts request (Err end.Done) = ⊥
-TakesOne out out' line line' old new counted counts request (Err (end.Refused status at)) = ⊥
-TakesOne out out' line line' old new counted counts request (Err end.ReadFault) = ⊥
+-- a turn was taken and its answer written
+pub record TookOne (low last counted counts : ℕ) (request : Request) (out out' : Outlet) (line line' : Line) (old new : Book) (place : ℕ) : Type 0 where
+  pub turn : Turn
+  pub request_is : turn.request ≡ request
+  pub place_is : turn.place ≡ place
+  pub lawful : IsLawful new low last turn
+  pub none_taken : TakesNone old new
+  pub asked_of : AskedOf line line' turn.asked
+  pub counts_is : counts ≡ counted + length turn.asked
+  pub written : (text : List ℕ) → out.written ≡ Some text → out'.written ≡ Some (text ++ turn.answer)
 
--- a connection that ended with no request answered
-abbrev pub IsEnded : End → ℕ → ConnEnd → Type 0
-IsEnded end from conn = conn ≡ record { end = end; from = from; places = []; served = 0; forwarded = 0 }
+-- or the connection ends with it in hand
+pub record StopsOne (low last counted counts : ℕ) (request : Request) (out out' : Outlet) (line line' : Line) (old new : Book) (end : End) : Type 0 where
+  pub hand : InHand
+  pub request_is : request_in hand ≡ request ∷ []
+  pub lawful : IsLawfulIn hand new low last
+  pub none_taken : TakesNone old new
+  pub asked_of : AskedOf line line' (asked_in hand)
+  pub counts_is : counts ≡ counted + length (asked_in hand)
+  pub written : (text : List ℕ) → out.written ≡ Some text → WrittenAt end text (text_in hand) out'.written
+  pub hand_at : HandAt end hand
+  pub cause : (inlet inlet' : Inlet) → CauseAt end inlet inlet' out out'
+  pub free : (more : Requests) → StreamAt end hand more
+  pub count : (served : ℕ) → served < limit → CountAt end served
 
--- Serving one request: it was answered whole, in part or not at all.
-abbrev pub ServesOneBy : End → Outlet → Outlet → Line → Line → Book → Book → Request → ConnEnd → Type 0
-ServesOneBy end.Done out out' line line' old new request conn =
-    (text : List ℕ) × (place : ℕ) × Answers old new line line' 0 conn.forwarded request place text × WritesWhole out out' text × (conn.places ≡ place ∷ []) × (conn.served ≡ 1)
-ServesOneBy end.WriteFault out out' line line' old new request conn =
-    (text : List ℕ) × (place : ℕ) × Answers old new line line' 0 conn.forwarded request place text × WritesPart out out' text × Rose out.faults out'.faults × (conn.places ≡ []) × (conn.served ≡ 0)
-ServesOneBy end.Memory out out' line line' old new request conn = BreaksOff old new line line' 0 conn.forwarded request × (out' ≡ out) × (conn.places ≡ []) × (conn.served ≡ 0)
-ServesOneBy (end.Refused status at) out out' line line' old new request conn = ⊥
-ServesOneBy end.ReadFault out out' line line' old new request conn = ⊥
+abbrev pub TakesOne : ℕ → ℕ → ℕ → ℕ → Request → Outlet → Outlet → Line → Line → Book → Book → Result ℕ End → Type 0
+TakesOne low last counted counts request out out' line line' old new (Ok place) = TookOne low last counted counts request out out' line line' old new place
+TakesOne low last counted counts request out out' line line' old new (Err end) = StopsOne low last counted counts request out out' line line' old new end
 
-abbrev pub ServesOne : Outlet → Outlet → Line → Line → Book → Book → Request → ℕ → ConnEnd → Type 0
-ServesOne out out' line line' old new request from conn = (conn.from ≡ from) × ServesOneBy conn.end out out' line line' old new request conn
+-- one request was read and answered
+pub record OneMore (low last counted counts : ℕ) (reading reading' : Reading) (old new : World) (place : ℕ) : Type 0 where
+  pub turn : Turn
+  pub place_is : turn.place ≡ place
+  pub lawful : IsLawful new.book low last turn
+  pub none_taken : TakesNone old.book new.book
+  pub asked_of : AskedOf old.line new.line turn.asked
+  pub counts_is : counts ≡ counted + length turn.asked
+  pub stream : (left : List ℕ) → old.inlet.left ≡ Some left → (rest : List ℕ) × (new.inlet.left ≡ Some rest)
+      × ((all : Requests) → IsRemaining reading left all → (more : Requests) × IsRemaining reading' rest more × Splits all (turn.request ∷ []) more)
+  pub written : (text : List ℕ) → old.outlet.written ≡ Some text → new.outlet.written ≡ Some (text ++ turn.answer)
+
+-- the connection ends
+pub record Stops (low last counted counts : ℕ) (reading : Reading) (old new : World) (end : End) : Type 0 where
+  pub hand : InHand
+  pub lawful : IsLawfulIn hand new.book low last
+  pub none_taken : TakesNone old.book new.book
+  pub asked_of : AskedOf old.line new.line (asked_in hand)
+  pub counts_is : counts ≡ counted + length (asked_in hand)
+  pub stream : (left : List ℕ) → old.inlet.left ≡ Some left → (all : Requests) → IsRemaining reading left all → (more : Requests) × Splits all (request_in hand) more × StreamAt end hand more
+  pub written : (text : List ℕ) → old.outlet.written ≡ Some text → WrittenAt end text (text_in hand) new.outlet.written
+  pub hand_at : HandAt end hand
+  pub cause : CauseAt end old.inlet new.inlet old.outlet new.outlet
+  pub count : (served : ℕ) → served < limit → CountAt end served
+
+-- what serving one request comes to
+abbrev pub Steps : ℕ → ℕ → ℕ → ℕ → Reading → Reading → World → World → Result ℕ End → Type 0
+Steps low last counted counts reading reading' old new (Ok place) = OneMore low last counted counts reading reading' old new place
+Steps low last counted counts reading reading' old new (Err end) = Stops low last counted counts reading old new end
+
+-- what stands while a connection is served
+pub record SoFar (old now : World) (reading : Reading) (from last : ℕ) (places : List ℕ) (served forwarded : ℕ) : Type 0 where
+  pub turns : List Turn
+  pub high : ℕ
+  pub high_within : high ≤ length now.book.seen
+  pub lawful : AreLawful now.book from from turns high last
+  pub none_taken : TakesNone old.book now.book
+  pub places_are : places ≡ map (λ turn. turn.place) turns
+  pub served_is : served ≡ length turns
+  pub asked_of : AskedOf old.line now.line (flat_map (λ turn. turn.asked) turns)
+  pub forwarded_is : forwarded ≡ length (flat_map (λ turn. turn.asked) turns)
+  pub stream : (input : List ℕ) → old.inlet.left ≡ Some input → (rest : List ℕ) × (now.inlet.left ≡ Some rest)
+      × ((all : Requests) → IsStream 0 input all → (more : Requests) × IsRemaining reading rest more × Splits all (map (λ turn. turn.request) turns) more)
+  pub written : (text : List ℕ) → old.outlet.written ≡ Some text → now.outlet.written ≡ Some (text ++ flat_map (λ turn. turn.answer) turns)
+  pub reads : old.inlet.faults ≤ now.inlet.faults
+  pub writes : old.outlet.faults ≤ now.outlet.faults
+  pub whole : now.inlet.whole ≡ old.inlet.whole

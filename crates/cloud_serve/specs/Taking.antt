@@ -1,31 +1,34 @@
-use Rattle.std.specs.Prelude.{◌≡◌, ℕ, ◌+◌, ◌⊎◌, List, [], ◌∷◌, Option, Result, Ok, Err, length}
+-- An aid for the contracts of the private functions that take a turn.
+use Rattle.std.specs.Prelude.{◌≡◌, ℕ, ◌+◌, ◌⊎◌, Bool, List, [], ◌∷◌, Option, Result, Ok, Err, length}
 use Rattle.host_base.specs.declared.bytes.Memory.{Memory}
 use Rattle.host_base.specs.declared.ids.GrainId.{GrainId}
 use Rattle.host_base.specs.declared.ids.RunId.{RunId}
 use Rattle.host_base.specs.declared.permit.Permit.{Permit}
 use Rattle.host_base.specs.declared.request.Request.{Request}
-use Rattle.cloud_serve.specs.declared.link.Ask.{Ask}
+use Rattle.grain_supervise.specs.declared.ask.Ask.{Ask}
+use Rattle.grain_supervise.specs.Line.{Line}
 use Rattle.cloud_serve.specs.declared.turn.Answered.{Answered}
-use Rattle.cloud_serve.specs.Book.{Book, Later}
-use Rattle.cloud_serve.specs.Line.{Line}
-use Rattle.cloud_serve.specs.Served.{AskedOf}
-use Rattle.cloud_serve.specs.Texts.{relay_text}
-use Rattle.cloud_serve.specs.Turns.{Turn, IsLawful, IsBegun, ask_of}
+use Rattle.cloud_serve.specs.Book.{Book}
+use Rattle.cloud_serve.specs.Effects.{AskedOf, TakesNone}
+use Rattle.cloud_serve.specs.Texts.{wants_head}
+use Rattle.cloud_serve.specs.Turns.{Turn, IsLawful, IsBegun, AnswersBack, ask_of}
 
 -- what asking this once came to: the answer to what came back, or want of memory before or behind it
-abbrev pub RelayBy : RunId → GrainId → List ℕ → Result (List ℕ) Memory → List Ask → Type 0
-RelayBy run grain text (Ok answer) asked = (back : Option (List ℕ)) × (asked ≡ record { run = run; grain = grain; text = text; back = back } ∷ []) × (answer ≡ relay_text back)
-RelayBy run grain text (Err m) asked = (asked ≡ []) ⊎ ((back : Option (List ℕ)) × (asked ≡ record { run = run; grain = grain; text = text; back = back } ∷ []))
+abbrev pub AsksBy : RunId → GrainId → List ℕ → Bool → Result (List ℕ) Memory → List Ask → Type 0
+AsksBy run grain text head_only (Ok answer) asked =
+    (back : Option (List ℕ)) × (asked ≡ record { run = run; grain = grain; text = text; back = back } ∷ []) × AnswersBack head_only back answer
+AsksBy run grain text head_only (Err m) asked =
+    (asked ≡ []) ⊎ ((back : Option (List ℕ)) × (asked ≡ record { run = run; grain = grain; text = text; back = back } ∷ []))
 
-pub record Relays (before after : Line) (counted counts : ℕ) (run : RunId) (grain : GrainId) (text : List ℕ) (answer : Result (List ℕ) Memory) : Type 0 where
+pub record Asks (before after : Line) (counted counts : ℕ) (run : RunId) (grain : GrainId) (text : List ℕ) (head_only : Bool) (answer : Result (List ℕ) Memory) : Type 0 where
   pub asked : List Ask
   pub asked_of : AskedOf before after asked
   pub counts_is : counts ≡ counted + length asked
-  pub relayed : RelayBy run grain text answer asked
+  pub answered : AsksBy run grain text head_only answer asked
 
 -- the same for the grain's text of a request
 abbrev pub ForwardBy : Permit → Request → Result (List ℕ) Memory → List Ask → Type 0
-ForwardBy permit request (Ok answer) asked = (back : Option (List ℕ)) × (asked ≡ ask_of permit request back ∷ []) × (answer ≡ relay_text back)
+ForwardBy permit request (Ok answer) asked = (back : Option (List ℕ)) × (asked ≡ ask_of permit request back ∷ []) × AnswersBack (wants_head request) back answer
 ForwardBy permit request (Err m) asked = (asked ≡ []) ⊎ ((back : Option (List ℕ)) × (asked ≡ ask_of permit request back ∷ []))
 
 pub record Forwards (before after : Line) (counted counts : ℕ) (permit : Permit) (request : Request) (answer : Result (List ℕ) Memory) : Type 0 where
@@ -35,26 +38,26 @@ pub record Forwards (before after : Line) (counted counts : ℕ) (permit : Permi
   pub forwarded : ForwardBy permit request answer asked
 
 -- a turn on this request was taken, with this place and this answer
-pub record Answers (old new : Book) (before after : Line) (counted counts : ℕ) (request : Request) (place : ℕ) (text : List ℕ) : Type 0 where
+pub record Answers (old new : Book) (before after : Line) (counted counts low last : ℕ) (request : Request) (place : ℕ) (text : List ℕ) : Type 0 where
   pub turn : Turn
   pub request_is : turn.request ≡ request
   pub place_is : turn.place ≡ place
   pub answer_is : turn.answer ≡ text
-  pub later : Later old new
-  pub lawful : IsLawful new (length old.seen) turn
+  pub lawful : IsLawful new low last turn
   pub asked_of : AskedOf before after turn.asked
   pub counts_is : counts ≡ counted + length turn.asked
+  pub none_taken : TakesNone old new
 
 -- memory ran out on a turn on this request
-pub record BreaksOff (old new : Book) (before after : Line) (counted counts : ℕ) (request : Request) : Type 0 where
+pub record BreaksOff (old new : Book) (before after : Line) (counted counts low : ℕ) (request : Request) : Type 0 where
   pub turn : Turn
   pub request_is : turn.request ≡ request
-  pub later : Later old new
-  pub begun : IsBegun new (length old.seen) turn
+  pub begun : IsBegun new low turn
   pub asked_of : AskedOf before after turn.asked
   pub counts_is : counts ≡ counted + length turn.asked
+  pub none_taken : TakesNone old new
 
 -- what taking a turn came to
-abbrev pub Takes : Book → Book → Line → Line → ℕ → ℕ → Request → Result Answered Memory → Type 0
-Takes old new before after counted counts request (Ok answered) = Answers old new before after counted counts request answered.place answered.text
-Takes old new before after counted counts request (Err m) = BreaksOff old new before after counted counts request
+abbrev pub Takes : Book → Book → Line → Line → ℕ → ℕ → ℕ → ℕ → Request → Result Answered Memory → Type 0
+Takes old new before after counted counts low last request (Ok answered) = Answers old new before after counted counts low last request answered.place answered.text
+Takes old new before after counted counts low last request (Err m) = BreaksOff old new before after counted counts low request

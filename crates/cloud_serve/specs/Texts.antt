@@ -1,18 +1,19 @@
-use Rattle.std.specs.Prelude.{ℕ, ◌++◌, List, [], ◌∷◌, Option, Some, None, length, map, codes, decimal, unwrap_or}
-use Rattle.std.specs.List.{join_with_byte}
-use Rattle.http.specs.StatusCode.{reason_phrase}
+-- The answers of the server's own.
+use Rattle.std.specs.Prelude.{ℕ, Bool, false, List, [], ◌∷◌, codes, bytes_eq}
+use Rattle.host_base.specs.declared.request.Request.{Request}
 use Rattle.host_base.specs.declared.verdict.Denial.{Denial}
 use Rattle.host_base.specs.declared.verdict.Denial.TheVariants as denial
+use Rattle.front_http.specs.declared.refusal.Refusal.{Refusal}
+use Rattle.front_http.specs.declared.refusal.Refusal.TheVariants as refusal
+use Rattle.front_http.specs.Texts.{reply_text, refusal_body}
 
--- an answer of the server's own: its status and its JSON body
-unfoldable pub reply_text : ℕ → List ℕ → List ℕ
-reply_text status body =
-    codes "HTTP/1.1 " ++ decimal status ++ codes " " ++ unwrap_or (reason_phrase status) [] ++ codes "\r\nContent-Length: " ++ decimal (length body)
-    ++ codes "\r\nContent-Type: application/json\r\n\r\n" ++ body
+-- whether a request asks for the head of an answer alone
+abbrev pub wants_head : Request → Bool
+wants_head request = bytes_eq request.method (codes "HEAD")
 
--- the body of a refusal: its name and its numbers
-unfoldable pub refusal_body : List ℕ → List ℕ → List ℕ
-refusal_body name numbers = codes "{\"error\":\"" ++ name ++ codes "\",\"of\":[" ++ join_with_byte 44 (map decimal numbers) ++ codes "]}"
+-- an answer of the server's own: a status, a name, and numbers; and whether its head alone is sent
+abbrev pub own_text : ℕ → List ℕ → List ℕ → Bool → List ℕ
+own_text status name numbers head_only = reply_text status false (refusal_body name numbers) head_only
 
 -- what each denial is called, its numbers, and the status that it is answered with
 abbrev pub denial_name : Denial → List ℕ
@@ -49,22 +50,26 @@ denial_status (denial.GrainStopped n) = 409
 denial_status _ = 403
 
 -- the answer to a denial
-abbrev pub denial_text : Denial → List ℕ
-denial_text denial = reply_text (denial_status denial) (refusal_body (denial_name denial) (denial_numbers denial))
+abbrev pub denial_text : Denial → Bool → List ℕ
+denial_text reason head_only = own_text (denial_status reason) (denial_name reason) (denial_numbers reason) head_only
 
--- the answer to what is no request
-abbrev pub bad_head_text : ℕ → List ℕ
-bad_head_text at = reply_text 400 (refusal_body (codes "BadHead") (at ∷ []))
+-- what each framing refusal is called, and the status that it is answered with
+abbrev pub refusal_name : Refusal → List ℕ
+refusal_name refusal.BadHead = codes "BadHead"
+refusal_name refusal.LongHead = codes "LongHead"
+refusal_name refusal.NeedLength = codes "NeedLength"
+refusal_name refusal.LongBody = codes "LongBody"
 
--- the answer where the link to a grain failed
-abbrev pub link_failed_text : List ℕ
-link_failed_text = reply_text 502 (refusal_body (codes "LinkFailed") [])
+abbrev pub refusal_status : Refusal → ℕ
+refusal_status refusal.BadHead = 400
+refusal_status refusal.LongHead = 413
+refusal_status refusal.NeedLength = 411
+refusal_status refusal.LongBody = 413
 
--- the answer with what a grain gave
-unfoldable pub given_text : List ℕ → List ℕ
-given_text body = codes "HTTP/1.1 200 OK\r\nContent-Length: " ++ decimal (length body) ++ codes "\r\ncontent-type: text/plain\r\n\r\n" ++ body
+-- the answer to what is refused at a place of the stream
+abbrev pub refused_text : Refusal → ℕ → List ℕ
+refused_text why at = own_text (refusal_status why) (refusal_name why) (at ∷ []) false
 
--- the answer with what came back from a grain, or with the failure
-abbrev pub relay_text : Option (List ℕ) → List ℕ
-relay_text None = link_failed_text
-relay_text (Some body) = given_text body
+-- the answer where memory ran out
+abbrev pub memory_text : Bool → List ℕ
+memory_text head_only = own_text 500 (codes "Memory") [] head_only

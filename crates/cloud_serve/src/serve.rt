@@ -1,24 +1,26 @@
-ghost use Rattle.std.specs.Prelude.{◌≡◌, ℕ, ◌⊎◌, ◌<◌, ◌≤◌, List, [], Some, length};
+//! One connection: its requests, one after another, and how it ends.
+ghost use Rattle.std.specs.Prelude.{◌≡◌, ℕ, ◌⊎◌, ◌+◌, ◌<◌, ◌≤◌, List, None, Some, length, OnOk, vec_len, vec_capacity};
 ghost use Rattle.host_base.specs.Outside.{Inlet, Outlet};
-ghost use Rattle.cloud_serve.specs.Line.{Line};
+ghost use Rattle.front_http.specs.Stream.{Requests, IsStream};
+ghost use Rattle.grain_supervise.specs.Line.{Line};
 ghost use Rattle.cloud_serve.specs.Book.{Book};
-ghost use Rattle.cloud_serve.specs.Stream.{Requests, IsStream};
-ghost use Rattle.cloud_serve.specs.Served.{World, Served, Stands, Complete};
-ghost use Rattle.cloud_serve.specs.Serving.{Refuses, TakesOne, IsEnded, ServesOne};
+ghost use Rattle.cloud_serve.specs.Served.{World, Served, Stands, Complete, limit};
+ghost use Rattle.cloud_serve.specs.Serving.{TakesOne, Steps};
 
 use crate::desk::Desk;
-use crate::link::Link;
-use crate::reader::{FrontFault, read_request};
-use crate::texts::refusal_text;
+use crate::ending::{close_with, halt};
+use crate::texts::wants_head;
 use crate::turn::take_turn;
+use front_http::{RequestReader, memory_reply};
+use grain_supervise::Link;
 use host_base::{Memory, Request, Sink, Source, WriteFailed};
+use plain_data::List as Row;
 use std::alloc::Global;
-use std::marker::Model;
 
 /// How a connection ended.
 #[derive(Clone, Copy, Debug, PartialEq, Eq)]
 pub enum End {
-    /// Every request was answered, and the input ended.
+    /// Every request was answered, and the input ended or the last one was.
     Done,
     /// Every request was answered, and what is no request was refused: the status, and its place in the stream.
     Refused(u16, u64),
@@ -26,39 +28,16 @@ pub enum End {
     ReadFault,
     /// The output failed, with a prefix of the next answer written.
     WriteFault,
-    /// Memory ran out.
+    /// Every request was answered, and the input ended within one: how many bytes it had.
+    CutOff(u64),
+    /// As many requests were answered as one connection may have.
+    Spent,
+    /// Memory ran out, and that was answered.
     Memory,
 }
 
 /// The place in the history of each answered request.
-#[derive(Debug, Drop)]
-pub struct Places {
-    list: Vec<u64>,
-}
-
-impl Model for Places {
-    ghost use Rattle.std.specs.Prelude.{List, ℕ};
-
-    ghost Value = { List ℕ };
-
-    ghost view = { λ places. places.list.items };
-}
-
-impl Places {
-    /// The places of a `Vec`.
-    pub fn new(list: Vec<u64>) -> Self
-        ensures { result ≡ list.items }
-    {
-        Places { list }
-    }
-
-    /// The places as a slice.
-    pub fn as_slice(&self) -> &[u64]
-        ensures { result.now ≡ self.now }
-    {
-        self.list.as_slice()
-    }
-}
+pub type Places = Row<u64>;
 
 /// How a connection ended: how much of the history was seen at its start, the place of each answer, how many requests
 /// were answered, and how many texts were asked of the link.
@@ -71,90 +50,72 @@ pub struct ConnEnd {
     pub forwarded: u64,
 }
 
-// Answers what is no request.
-fn refuse<O: Sink>(alloc: Global, at: u64, out: &mut O) -> End
-    ensures writes { (O.outlet out.old).faults ≤ (O.outlet out.new).faults }
-    ensures refuses { Refuses (O.outlet out.old) (O.outlet out.new) at result }
-{
-    match refusal_text(alloc, 400, "BadHead", &[at]) {
-        Err(Memory) => End::Memory,
-        Ok(text) => match out.put(text.as_slice()) {
-            Ok(()) => End::Refused(400, at),
-            Err(WriteFailed) => End::WriteFault,
-        },
-    }
-}
+/// How many requests one connection may have.
+pub const REQUEST_LIMIT: u64 = 1_000_000;
 
 // Takes a turn, and writes its answer.
-fn answer<O: Sink, D: Desk, L: Link>(
+fn answer_one<O: Sink, D: Desk, L: Link>(
     alloc: Global,
     request: &Request,
+    last: u64,
     out: &mut O,
     desk: &mut D,
     link: &mut L,
     forwarded: &mut u64,
 ) -> Result<u64, End>
     requires { forwarded.old < 18446744073709551615 }
+    ensures few { forwarded.new ≤ forwarded.old + 1 }
     ensures writes { (O.outlet out.old).faults ≤ (O.outlet out.new).faults }
-    ensures takes { TakesOne (O.outlet out.old) (O.outlet out.new) (L.line link.old) (L.line link.new) (D.book desk.old) (D.book desk.new)
-        forwarded.old forwarded.new request.now result }
+    ensures takes { (low : ℕ) → low ≤ length (D.book desk.old).seen → TakesOne low last forwarded.old forwarded.new request.now
+        (O.outlet out.old) (O.outlet out.new) (L.line link.old) (L.line link.new) (D.book desk.old) (D.book desk.new) result }
 {
-    match take_turn(alloc, request, desk, link, forwarded) {
-        Err(Memory) => Err(End::Memory),
+    match take_turn(alloc, request, last, desk, link, forwarded) {
         Ok(answered) => match out.put(answered.text.as_slice()) {
             Ok(()) => Ok(answered.place),
             Err(WriteFailed) => Err(End::WriteFault),
         },
+        Err(Memory) => Err(close_with(out, memory_reply(wants_head(request)), End::Memory)),
     }
 }
 
-// A connection that ended with no request answered.
-fn ended(alloc: Global, end: End, from: u64) -> ConnEnd
-    ensures { IsEnded end from result }
-{
-    ConnEnd {
-        end,
-        from,
-        places: Places::new(Vec::new(alloc)),
-        served: 0,
-        forwarded: 0,
-    }
-}
-
-// Answers a request, which is the only one.
-fn serve_one<O: Sink, D: Desk, L: Link>(
+// Reads a request and answers it, or ends the connection.
+fn serve_one<I: Source, O: Sink, D: Desk, L: Link>(
     alloc: Global,
-    request: &Request,
-    from: u64,
+    reader: &mut RequestReader,
+    places: &mut Vec<u64>,
+    last: u64,
+    input: &mut I,
     out: &mut O,
     desk: &mut D,
     link: &mut L,
-) -> ConnEnd
+    forwarded: &mut u64,
+) -> Result<u64, End>
+    requires running { reader.old.stopped ≡ None }
+    requires room { forwarded.old < 18446744073709551615 }
+    ensures places { places.new.items ≡ places.old.items }
+    ensures room { OnOk result (vec_len places.new < vec_capacity places.new) }
+    ensures running { OnOk result (reader.new.stopped ≡ None) }
+    ensures few { forwarded.new ≤ forwarded.old + 1 }
+    ensures reads { (I.inlet input.old).faults ≤ (I.inlet input.new).faults }
+    ensures whole { (I.inlet input.new).whole ≡ (I.inlet input.old).whole }
     ensures writes { (O.outlet out.old).faults ≤ (O.outlet out.new).faults }
-    ensures serves { ServesOne (O.outlet out.old) (O.outlet out.new) (L.line link.old) (L.line link.new) (D.book desk.old) (D.book desk.new)
-        request.now from result }
+    ensures steps { (low : ℕ) → low ≤ length (D.book desk.old).seen → Steps low last forwarded.old forwarded.new reader.old reader.new
+        (record { inlet = I.inlet input.old; outlet = O.outlet out.old; line = L.line link.old; book = D.book desk.old })
+        (record { inlet = I.inlet input.new; outlet = O.outlet out.new; line = L.line link.new; book = D.book desk.new }) result }
 {
-    let Ok(mut places) = Vec::with_capacity(alloc, 1) else {
-        return ended(alloc, End::Memory, from);
-    };
-    let mut forwarded = 0;
-    let (end, served) = match answer(alloc, request, out, desk, link, &mut forwarded) {
-        Err(end) => (end, 0),
-        Ok(place) => {
-            places.push(place).unwrap();
-            (End::Done, 1)
-        }
-    };
-    ConnEnd {
-        end,
-        from,
-        places: Places::new(places),
-        served,
-        forwarded,
+    if places.reserve(1).is_err() {
+        return Err(close_with(out, memory_reply(false), End::Memory));
+    }
+    match reader.next(alloc, input) {
+        Ok(next) => match next {
+            Some(request) => answer_one(alloc, &request, last, out, desk, link, forwarded),
+            None => Err(End::Done),
+        },
+        Err(fault) => Err(halt(alloc, fault, out)),
     }
 }
 
-/// Serves one connection: reads its request, answers it, and writes the answer whole.
+/// Serves one connection: reads a request, answers it, writes the answer whole, and goes on. Want of memory is answered too.
 pub fn serve_conn<I: Source, O: Sink, D: Desk, L: Link>(
     alloc: Global,
     input: &mut I,
@@ -169,23 +130,50 @@ pub fn serve_conn<I: Source, O: Sink, D: Desk, L: Link>(
         (record { inlet = I.inlet input.old; outlet = O.outlet out.old; line = L.line link.old; book = D.book desk.old })
         (record { inlet = I.inlet input.new; outlet = O.outlet out.new; line = L.line link.new; book = D.book desk.new })
         result.end result.from result.places result.served result.forwarded }
-    ensures complete { (bytes : List ℕ) (requests : Requests) → (I.inlet input.old).left ≡ Some bytes → IsStream bytes requests →
+
+    // Where neither the source's count rises nor the sink's, every request of a stream below the limit is answered, and the connection
+    // ends as the stream does, or for want of memory.
+    ensures complete { (bytes : List ℕ) (requests : Requests) → (I.inlet input.old).left ≡ Some bytes → IsStream 0 bytes requests → length requests.list < limit →
         Stands (I.inlet input.old).faults (I.inlet input.new).faults → Stands (O.outlet out.old).faults (O.outlet out.new).faults →
         (result.end ≡ End.Memory) ⊎ Complete requests result.end result.served }
 {
     let from = desk.place();
-    match read_request(alloc, input) {
-        Ok(read) => match read {
-            None => ended(alloc, End::Done, from),
-            Some(request) => serve_one(alloc, &request, from, out, desk, link),
-        },
-        Err(fault) => match fault {
-            FrontFault::BadHead(at) => {
-                let end = refuse(alloc, at, out);
-                ended(alloc, end, from)
+    let mut reader = RequestReader::new(alloc);
+    let mut places = Vec::new(alloc);
+    let mut last = from;
+    let mut forwarded = 0;
+    'requests: for served in 0..REQUEST_LIMIT {
+        match serve_one(
+            alloc,
+            &mut reader,
+            &mut places,
+            last,
+            input,
+            out,
+            desk,
+            link,
+            &mut forwarded,
+        ) {
+            Ok(place) => {
+                places.push(place).unwrap();
+                last = place;
             }
-            FrontFault::ReadFault => ended(alloc, End::ReadFault, from),
-            FrontFault::Memory => ended(alloc, End::Memory, from),
-        },
+            Err(end) => {
+                return ConnEnd {
+                    end,
+                    from,
+                    places: Places::new(places),
+                    served,
+                    forwarded,
+                };
+            }
+        }
+    }
+    ConnEnd {
+        end: End::Spent,
+        from,
+        places: Places::new(places),
+        served: REQUEST_LIMIT,
+        forwarded,
     }
 }

@@ -1,83 +1,34 @@
-ghost use Rattle.std.specs.Prelude.{◌≡◌, ℕ, ◌++◌, List, [], map, option_map, codes, decimal, length, OnOk, IfOk, unwrap_or};
-ghost use Rattle.std.specs.List.{join_with_byte};
-ghost use Rattle.http.specs.StatusCode.{reason_phrase, IsStatusCode};
-ghost use Rattle.cloud_serve.specs.Texts as text;
-ghost use Rattle.cloud_serve.specs.Texts.{denial_name, denial_numbers, denial_status};
+//! The answers of the server's own.
+ghost use Rattle.std.specs.Prelude.{◌≡◌, [], IfOk};
+ghost use Rattle.http.specs.StatusCode.{IsStatusCode};
+ghost use Rattle.cloud_serve.specs.Texts as texts;
+ghost use Rattle.cloud_serve.specs.Texts.{denial_name, denial_numbers, denial_status, refusal_name, refusal_status};
 
-use host_base::{Bytes, Denial, Memory};
-use http::StatusCode;
-use itoa::Buffer;
+use front_http::{Refusal, refusal_body, reply_text};
+use host_base::{Bytes, Denial, Memory, Request};
 use std::alloc::Global;
 
-fn put_number(text: &mut Bytes, number: u64) -> Result<(), Memory>
-    ensures { OnOk result (text.new ≡ text.old ++ decimal number) }
+/// Whether a request asks for the head of an answer alone.
+pub fn wants_head(request: &Request) -> bool
+    ensures { result ≡ texts.wants_head request.now }
 {
-    let mut buffer = Buffer::new();
-    text.put(buffer.format(number).as_bytes())
+    request.method.as_str() == "HEAD"
 }
 
-// The phrase of a status, or nothing.
-fn phrase(status: u16) -> &'static str
-    requires { IsStatusCode status }
-    ensures { result.now ≡ unwrap_or (reason_phrase status) [] }
-{
-    match StatusCode::from_u16(status) {
-        Ok(code) => code.canonical_reason().unwrap_or(""),
-        Err(_) => "",
-    }
-}
-
-/// An answer of the server's own.
-#[tactic(auto, unfolding(crate::specs::Texts::reply_text))]
-pub fn reply_text(alloc: Global, status: u16, body: &[u8]) -> Result<Bytes, Memory>
-    requires { IsStatusCode status }
-    ensures { IfOk result (λ reply. reply ≡ text.reply_text status body.now) }
-{
-    let mut text = Bytes::empty(alloc);
-    text.put(b"HTTP/1.1 ")?;
-    put_number(&mut text, u64::from(status))?;
-    text.put(b" ")?;
-    text.put(phrase(status).as_bytes())?;
-    text.put(b"\r\nContent-Length: ")?;
-    put_number(&mut text, body.len() as u64)?;
-    text.put(b"\r\nContent-Type: application/json\r\n\r\n")?;
-    text.put(body)?;
-    Ok(text)
-}
-
-// The numbers in decimal, joined by commas.
-fn put_numbers(text: &mut Bytes, numbers: &[u64]) -> Result<(), Memory>
-    ensures { OnOk result (text.new ≡ text.old ++ join_with_byte 44 (map decimal numbers.now)) }
-{
-    match numbers {
-        [] => Ok(()),
-        [only] => put_number(text, *only),
-        [first, rest @ ..] => {
-            put_number(text, *first)?;
-            text.put(b",")?;
-            put_numbers(text, rest)
-        }
-    }
-}
-
-/// The answer of a refusal: its status, its name and its numbers.
-#[tactic(auto, unfolding(crate::specs::Texts::refusal_body))]
-pub fn refusal_text(
+/// An answer of the server's own: a status, a name and numbers.
+pub fn own_reply(
     alloc: Global,
     status: u16,
     name: &str,
     numbers: &[u64],
+    head_only: bool,
 ) -> Result<Bytes, Memory>
     requires { IsStatusCode status }
-    ensures { IfOk result (λ reply. reply ≡ text.reply_text status (text.refusal_body name.now numbers.now)) }
+    ensures { IfOk result (λ reply. reply ≡ texts.own_text status name.now numbers.now head_only) }
 {
-    let mut body = Bytes::empty(alloc);
-    body.put(b"{\"error\":\"")?;
-    body.put(name.as_bytes())?;
-    body.put(b"\",\"of\":[")?;
-    put_numbers(&mut body, numbers)?;
-    body.put(b"]}")?;
-    reply_text(alloc, status, body.as_slice())
+    let body = refusal_body(alloc, name, numbers)?;
+    let reply = reply_text(alloc, status, false, body.as_slice(), head_only)?;
+    Ok(Bytes::new(reply))
 }
 
 fn name_of(denial: &Denial) -> &'static str
@@ -110,46 +61,84 @@ fn status_of(denial: &Denial) -> u16
     }
 }
 
-fn with_numbers(alloc: Global, denial: &Denial, numbers: &[u64]) -> Result<Bytes, Memory>
+fn with_numbers(
+    alloc: Global,
+    denial: &Denial,
+    numbers: &[u64],
+    head_only: bool,
+) -> Result<Bytes, Memory>
     requires { numbers.now ≡ denial_numbers denial.now }
-    ensures { IfOk result (λ reply. reply ≡ text.denial_text denial.now) }
+    ensures { IfOk result (λ reply. reply ≡ texts.denial_text denial.now head_only) }
 {
-    refusal_text(alloc, status_of(denial), name_of(denial), numbers)
+    own_reply(
+        alloc,
+        status_of(denial),
+        name_of(denial),
+        numbers,
+        head_only,
+    )
 }
 
 /// The answer to a denial.
-pub fn denial_text(alloc: Global, denial: &Denial) -> Result<Bytes, Memory>
-    ensures { IfOk result (λ reply. reply ≡ text.denial_text denial.now) }
+pub fn denial_reply(alloc: Global, denial: &Denial, head_only: bool) -> Result<Bytes, Memory>
+    ensures { IfOk result (λ reply. reply ≡ texts.denial_text denial.now head_only) }
 {
     match denial {
-        Denial::UnknownKey => with_numbers(alloc, denial, &[]),
-        Denial::SessionClosed(num) => with_numbers(alloc, denial, &[u64::from(num.0)]),
-        Denial::NotHolder(num) => with_numbers(alloc, denial, &[u64::from(num.0)]),
-        Denial::Dropped(num) => with_numbers(alloc, denial, &[u64::from(num.0)]),
-        Denial::GrainTrashed(num) => with_numbers(alloc, denial, &[u64::from(num.0)]),
-        Denial::AccountDisabled(num) => with_numbers(alloc, denial, &[u64::from(num.0)]),
-        Denial::Revoked(num) => with_numbers(alloc, denial, &[u64::from(num.0)]),
+        Denial::UnknownKey => with_numbers(alloc, denial, &[], head_only),
+        Denial::SessionClosed(num) => {
+            with_numbers(alloc, denial, &[u64::from(num.0)], head_only)
+        }
+        Denial::NotHolder(num) => with_numbers(alloc, denial, &[u64::from(num.0)], head_only),
+        Denial::Dropped(num) => with_numbers(alloc, denial, &[u64::from(num.0)], head_only),
+        Denial::GrainTrashed(num) => with_numbers(alloc, denial, &[u64::from(num.0)], head_only),
+        Denial::AccountDisabled(num) => {
+            with_numbers(alloc, denial, &[u64::from(num.0)], head_only)
+        }
+        Denial::Revoked(num) => with_numbers(alloc, denial, &[u64::from(num.0)], head_only),
         Denial::Unmet(num, index) => {
-            with_numbers(alloc, denial, &[u64::from(num.0), u64::from(*index)])
+            let numbers = [u64::from(num.0), u64::from(*index)];
+            with_numbers(alloc, denial, &numbers, head_only)
         }
-        Denial::SourceLost(num) => with_numbers(alloc, denial, &[u64::from(num.0)]),
+        Denial::SourceLost(num) => with_numbers(alloc, denial, &[u64::from(num.0)], head_only),
         Denial::NoShare(grain, account) => {
-            with_numbers(alloc, denial, &[u64::from(grain.0), u64::from(account.0)])
+            let numbers = [u64::from(grain.0), u64::from(account.0)];
+            with_numbers(alloc, denial, &numbers, head_only)
         }
-        Denial::GrainStopped(num) => with_numbers(alloc, denial, &[u64::from(num.0)]),
-        Denial::Expired(num, moment) => with_numbers(alloc, denial, &[u64::from(num.0), *moment]),
+        Denial::GrainStopped(num) => with_numbers(alloc, denial, &[u64::from(num.0)], head_only),
+        Denial::Expired(num, moment) => {
+            with_numbers(alloc, denial, &[u64::from(num.0), *moment], head_only)
+        }
     }
 }
 
-/// The answer with what a grain gave.
-#[tactic(auto, unfolding(crate::specs::Texts::given_text))]
-pub fn given_text(alloc: Global, body: &[u8]) -> Result<Bytes, Memory>
-    ensures { IfOk result (λ reply. reply ≡ text.given_text body.now) }
+fn name_of_refusal(refusal: Refusal) -> &'static str
+    ensures { result.now ≡ refusal_name refusal }
 {
-    let mut text = Bytes::empty(alloc);
-    text.put(b"HTTP/1.1 200 OK\r\nContent-Length: ")?;
-    put_number(&mut text, body.len() as u64)?;
-    text.put(b"\r\ncontent-type: text/plain\r\n\r\n")?;
-    text.put(body)?;
-    Ok(text)
+    match refusal {
+        Refusal::BadHead => "BadHead",
+        Refusal::LongHead => "LongHead",
+        Refusal::NeedLength => "NeedLength",
+        Refusal::LongBody => "LongBody",
+    }
+}
+
+/// The status that a framing refusal is answered with.
+pub fn status_of_refusal(refusal: Refusal) -> u16
+    ensures value { result ≡ refusal_status refusal }
+    ensures valid { IsStatusCode result }
+{
+    match refusal {
+        Refusal::BadHead => 400,
+        Refusal::LongHead => 413,
+        Refusal::NeedLength => 411,
+        Refusal::LongBody => 413,
+    }
+}
+
+/// The answer to what is refused at a place of the stream.
+pub fn refused_reply(alloc: Global, refusal: Refusal, at: u64) -> Result<Bytes, Memory>
+    ensures { IfOk result (λ reply. reply ≡ texts.refused_text refusal at) }
+{
+    let status = status_of_refusal(refusal);
+    own_reply(alloc, status, name_of_refusal(refusal), &[at], false)
 }

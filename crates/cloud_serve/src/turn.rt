@@ -1,16 +1,19 @@
-ghost use Rattle.std.specs.Prelude.{◌≡◌, ℕ, ◌<◌, ◌≤◌, length, position};
-ghost use Rattle.std.specs.List.{before_first};
+//! One turn: what a request comes to.
+ghost use Rattle.std.specs.Prelude.{◌≡◌, ℕ, ◌+◌, ◌<◌, ◌≤◌, Some, length, IfOk};
 ghost use Rattle.cloud_serve.specs.Book.{Book};
-ghost use Rattle.cloud_serve.specs.Stream.{key_of, session_text, is_key_end};
-ghost use Rattle.cloud_serve.specs.Texts.{relay_text};
-ghost use Rattle.cloud_serve.specs.Taking.{Relays, Forwards, Takes};
+ghost use Rattle.cloud_serve.specs.Routes.{route_of};
+ghost use Rattle.cloud_serve.specs.Taking.{Asks, Forwards, Takes};
+ghost use Rattle.cloud_serve.specs.Turns.{AnswersBack};
+ghost use Rattle.cloud_serve.specs.declared.route.Route.TheVariants as routes;
 
 use crate::desk::Desk;
-use crate::digest::digest_of;
-use crate::link::{AskFault, Link};
-use crate::texts::{denial_text, given_text, refusal_text};
-use bridge_headers::grain_text;
-use host_base::{Bytes, GrainId, Key, Memory, Permit, Request, RunId, Verdict};
+use crate::route::{Route, find_route};
+use crate::texts::{denial_reply, own_reply, wants_head};
+use bridge_headers::{RelayFault, answer_text, grain_text};
+use grain_supervise::{AskFault, Link, LongAnswer, whole_answer};
+use host_base::{
+    ANSWER_READ, Answer, Bytes, Denial, GrainId, Key, Memory, Permit, Request, RunId, Verdict,
+};
 use std::alloc::Global;
 
 /// The place and the text of an answer.
@@ -20,64 +23,45 @@ pub struct Answered {
     pub text: Bytes,
 }
 
-fn is_end(byte: u8) -> bool
-    ensures { result ≡ is_key_end byte }
+// The answer to what came back from a grain.
+fn relay(alloc: Global, back: &Answer, head_only: bool) -> Result<Bytes, Memory>
+    ensures { IfOk result (λ text. AnswersBack head_only (Some back.now) text) }
 {
-    byte == b'.' || byte == b':'
-}
-
-fn key_end(text: &[u8]) -> Option<usize>
-    ensures { result ≡ position is_key_end text.now }
-{
-    text.iter().position(|byte| is_end(*byte))
-}
-
-fn up_to_end(text: &[u8]) -> &[u8]
-    ensures { result.now ≡ before_first is_key_end text.now }
-{
-    match key_end(text) {
-        Some(end) => &text[..end],
-        None => text,
+    match whole_answer(back) {
+        Err(LongAnswer) => own_reply(alloc, 502, "LongAnswer", &[ANSWER_READ as u64], head_only),
+        Ok(()) => match answer_text(alloc, back, head_only) {
+            Ok(text) => Ok(Bytes::new(text)),
+            Err(fault) => match fault {
+                RelayFault::BadAnswer(at) => own_reply(alloc, 502, "BadAnswer", &[at], head_only),
+                RelayFault::NoLength => own_reply(alloc, 502, "NoLength", &[], head_only),
+                RelayFault::Memory => Err(Memory),
+            },
+        },
     }
-}
-
-// The text of a session's key.
-fn session_part(host: &[u8]) -> &[u8]
-    ensures { result.now ≡ session_text host.now }
-{
-    match host {
-        [_, _, _, text @ ..] => up_to_end(text),
-        _ => &[],
-    }
-}
-
-// The key that a request shows.
-fn find_key(request: &Request) -> Key
-    ensures { result ≡ key_of request.now }
-{
-    Key::Session(digest_of(session_part(request.host.as_slice())))
 }
 
 // Asks the link, counts that, and makes an answer of what came back.
-fn relay<L: Link>(
+fn ask<L: Link>(
     alloc: Global,
     run: RunId,
     grain: GrainId,
     text: &[u8],
+    head_only: bool,
     link: &mut L,
     forwarded: &mut u64,
 ) -> Result<Bytes, Memory>
     requires { forwarded.old < 18446744073709551615 }
-    ensures { Relays (L.line link.old) (L.line link.new) forwarded.old forwarded.new run grain text.now result }
+    ensures few { forwarded.new ≤ forwarded.old + 1 }
+    ensures asks { Asks (L.line link.old) (L.line link.new) forwarded.old forwarded.new run grain text.now head_only result }
 {
     match link.ask(alloc, run, grain, text) {
         Ok(back) => {
             *forwarded += 1;
-            given_text(alloc, back.as_slice())
+            relay(alloc, &back, head_only)
         }
         Err(AskFault::LinkFailed) => {
             *forwarded += 1;
-            refusal_text(alloc, 502, "LinkFailed", &[])
+            own_reply(alloc, 502, "LinkFailed", &[], head_only)
         }
         Err(AskFault::Memory) => Err(Memory),
     }
@@ -92,36 +76,42 @@ fn forward<L: Link>(
     forwarded: &mut u64,
 ) -> Result<Bytes, Memory>
     requires { forwarded.old < 18446744073709551615 }
-    ensures { Forwards (L.line link.old) (L.line link.new) forwarded.old forwarded.new permit.now request.now result }
+    ensures few { forwarded.new ≤ forwarded.old + 1 }
+    ensures forwards { Forwards (L.line link.old) (L.line link.new) forwarded.old forwarded.new permit.now request.now result }
 {
     match grain_text(alloc, permit, request) {
         Err(Memory) => Err(Memory),
-        Ok(text) => relay(
+        Ok(text) => ask(
             alloc,
             permit.run,
             permit.grain,
             text.as_slice(),
+            wants_head(request),
             link,
             forwarded,
         ),
     }
 }
 
-/// Takes one turn: judges the request's key, asks the link where the request goes through, and makes its answer.
-pub fn take_turn<D: Desk, L: Link>(
+// A turn on a request that shows a key.
+fn keyed<D: Desk, L: Link>(
     alloc: Global,
     request: &Request,
+    key: &Key,
     desk: &mut D,
     link: &mut L,
     forwarded: &mut u64,
 ) -> Result<Answered, Memory>
-    requires { forwarded.old < 18446744073709551615 }
-    ensures { Takes (D.book desk.old) (D.book desk.new) (L.line link.old) (L.line link.new) forwarded.old forwarded.new request.now result }
+    requires shown { route_of request.now ≡ routes.Keyed key.now }
+    requires room { forwarded.old < 18446744073709551615 }
+    ensures few { forwarded.new ≤ forwarded.old + 1 }
+    ensures takes { (low last : ℕ) → low ≤ length (D.book desk.old).seen →
+        Takes (D.book desk.old) (D.book desk.new) (L.line link.old) (L.line link.new) forwarded.old forwarded.new low last request.now result }
 {
-    match desk.verdict(alloc, &find_key(request)) {
+    match desk.verdict(alloc, key) {
         Err(Memory) => Err(Memory),
         Ok((place, verdict)) => match verdict {
-            Verdict::Deny(reason) => match denial_text(alloc, &reason) {
+            Verdict::Deny(reason) => match denial_reply(alloc, &reason, wants_head(request)) {
                 Ok(text) => Ok(Answered { place, text }),
                 Err(Memory) => Err(Memory),
             },
@@ -131,5 +121,35 @@ pub fn take_turn<D: Desk, L: Link>(
                 Err(Memory) => Err(Memory),
             },
         },
+    }
+}
+
+/// Takes one turn: finds what a request shows, judges its key, asks the link where the request goes through, and makes its answer.
+/// `last` is the place before it.
+pub fn take_turn<D: Desk, L: Link>(
+    alloc: Global,
+    request: &Request,
+    last: u64,
+    desk: &mut D,
+    link: &mut L,
+    forwarded: &mut u64,
+) -> Result<Answered, Memory>
+    requires { forwarded.old < 18446744073709551615 }
+    ensures few { forwarded.new ≤ forwarded.old + 1 }
+    ensures takes { (low : ℕ) → low ≤ length (D.book desk.old).seen →
+        Takes (D.book desk.old) (D.book desk.new) (L.line link.old) (L.line link.new) forwarded.old forwarded.new low last request.now result }
+{
+    match find_route(request) {
+        Route::NoRoute => match own_reply(alloc, 404, "NoRoute", &[], wants_head(request)) {
+            Ok(text) => Ok(Answered { place: last, text }),
+            Err(Memory) => Err(Memory),
+        },
+        Route::NoCredential => {
+            match denial_reply(alloc, &Denial::UnknownKey, wants_head(request)) {
+                Ok(text) => Ok(Answered { place: last, text }),
+                Err(Memory) => Err(Memory),
+            }
+        }
+        Route::Keyed(key) => keyed(alloc, request, &key, desk, link, forwarded),
     }
 }

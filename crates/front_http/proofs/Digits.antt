@@ -1,11 +1,10 @@
 -- The number that decimal digits give.
-use Rattle.std.proofs.Common.{◌≡◌, ℕ, zero, suc, ◌+◌, ◌-◌, ◌*◌, ◌<◌, ◌≤◌, ◌&&◌, Bool, true, false, List, [], ◌∷◌, None, Some, get_or, length, drop, nat_lt, sym, subst, refl, arith, rules, tests}
+use Rattle.std.proofs.Common.{◌≡◌, ℕ, zero, suc, ◌+◌, ◌-◌, ◌*◌, ◌<◌, ◌≤◌, ◌&&◌, Bool, true, false, List, [], ◌∷◌, None, get_or, length, drop, nat_lt, subst, refl, arith, rules, tests}
 use Rattle.std.specs.List.{list_all}
 use Rattle.std.specs.Char.{is_ascii_digit, digit_value}
 use Rattle.std.specs.Str.Parse.{digits_value, digits_value_after}
 use Rattle.std.proofs.lemmas.Str.{digit_value_digit}
-use Rattle.std.proofs.lemmas.Bool.Decides.{nat_tests}
-use Rattle.front_http.specs.Fields.{length_within}
+use Rattle.front_http.specs.Numbers.{within}
 
 -- no digit makes a number smaller
 value_grows : (n : ℕ) (digits : List ℕ) → n ≤ digits_value_after 10 n digits
@@ -20,16 +19,16 @@ both false q e = cc
 digit_is : (c : ℕ) → is_ascii_digit c ≡ true → digit_value c + 48 ≡ c
 digit_is c is = digit_value_digit c (search (rules, tests))
 
-too_large : (digits : List ℕ) (n i : ℕ) → list_all is_ascii_digit digits ≡ true → i < length digits → 1048576 < n * 10 + (get_or digits i 0 - 48) → 1048576 < digits_value_after 10 n (drop i digits)
-too_large [] n i are within large = absurd (omega arith)
-too_large (c ∷ cs) n zero are within large =
+too_large : (most : ℕ) (digits : List ℕ) (n i : ℕ) → list_all is_ascii_digit digits ≡ true → i < length digits → most < n * 10 + (get_or digits i 0 - 48) → most < digits_value_after 10 n (drop i digits)
+too_large most [] n i are here large = absurd (omega arith)
+too_large most (c ∷ cs) n zero are here large =
     omega (arith, value_grows (n * 10 + digit_value c) cs, digit_is c (both (is_ascii_digit c) (list_all is_ascii_digit cs) are).0)
-too_large (c ∷ cs) n (suc i) are within large = too_large cs n i (both (is_ascii_digit c) (list_all is_ascii_digit cs) are).1 (omega arith) large
+too_large most (c ∷ cs) n (suc i) are here large = too_large most cs n i (both (is_ascii_digit c) (list_all is_ascii_digit cs) are).1 (omega arith) large
 
--- once the number of the first digits is too large for a length, that of all is
-pub too_long : (digits : List ℕ) (n i : ℕ) → list_all is_ascii_digit digits ≡ true → i < length digits → 1048576 < n * 10 + (get_or digits i 0 - 48)
-    → digits_value_after 10 n (drop i digits) ≡ digits_value 10 digits → None ≡ length_within digits
-too_long digits n i are within large rest =
-    let far : 1048576 < digits_value 10 digits = subst (λ m. 1048576 < m) rest (too_large digits n i are within large) in
-    let over : nat_lt 1048576 (digits_value 10 digits) ≡ true = search (rules, tests) in
+-- once the number of the first digits is too large, that of all is
+pub too_long : (most : ℕ) (digits : List ℕ) (n i : ℕ) → list_all is_ascii_digit digits ≡ true → i < length digits → most < n * 10 + (get_or digits i 0 - 48)
+    → digits_value_after 10 n (drop i digits) ≡ digits_value 10 digits → None ≡ within most digits
+too_long most digits n i are here large rest =
+    let far : most < digits_value 10 digits = subst (λ m. most < m) rest (too_large most digits n i are here large) in
+    let over : nat_lt most (digits_value 10 digits) ≡ true = search (rules, tests) in
     rw over refl

@@ -1,12 +1,12 @@
 -- What a stream begins with, when more bytes follow.
-use Rattle.std.proofs.Common.{◌≡◌, ℕ, zero, suc, ◌+◌, ◌<◌, ◌≤◌, ◌++◌, Bool, true, false, nat_le, List, [], ◌∷◌, Option, Some, None, Result, Ok, Err, length, take, drop, if◌then◌else◌, refl, sym, ◌∙◌, ap, subst, arith, append_assoc, length-append}
-use Rattle.std.proofs.lemmas.List.{take-append-le, drop-append-le, take-append-drop, length-take, length-drop}
+use Rattle.std.proofs.Common.{◌≡◌, ℕ, zero, suc, ◌+◌, ◌<◌, ◌≤◌, ◌++◌, Bool, true, false, nat_le, List, [], ◌∷◌, Option, Some, None, Result, Ok, Err, length, take, drop, if◌then◌else◌, refl, sym, ◌∙◌, ap, subst, arith, length-append}
+use Rattle.std.proofs.lemmas.List.{take-append-le, drop-append-le, length-take, length-drop}
 use Rattle.std.proofs.lemmas.Bool.Decides.{nat_tests}
 use Rattle.httparse.specs.Grammar.{RequestHead}
 use Rattle.httparse.proofs.GrammarLemmas.{request_unique}
 use Rattle.host_base.specs.declared.request.Request.{Request}
 use Rattle.front_http.specs.declared.refusal.Refusal.{Refusal}
-use Rattle.front_http.specs.declared.refusal.Refusal.TheVariants.{BadHead, LongHead}
+use Rattle.front_http.specs.declared.refusal.Refusal.TheVariants.{LongHead}
 use Rattle.front_http.specs.Heads.{body_length, fields_of, request_of}
 use Rattle.front_http.specs.Stream.{head_length, Front, Nothing, Part, Refused, Whole, headless, bodied, headed, IsHead, IsFrontBy, IsFront}
 use Rattle.front_http.proofs.HeadEnds.{EndsAt, ends_at}
@@ -52,23 +52,23 @@ headless-append : (held left : List ℕ) → IsSettled (headless held) → (head
 headless-append [] left settled = absurd settled
 headless-append (b ∷ bs) left settled = by_test (nat_le (length (b ∷ bs)) 16384) refl settled
   where
-  by_test : (t : Bool) → nat_le (length (b ∷ bs)) 16384 ≡ t → IsSettled (if t then Part else Refused LongHead) → (headless (b ∷ (bs ++ left)) ≡ headless (b ∷ bs)) × (16384 < length (b ∷ bs))
-  by_test true is settled = absurd settled
-  by_test false is settled =
-      let long : 16384 < length (b ∷ bs) = grind (arith, nat_tests, is) in
-      let longer : nat_le (length (b ∷ (bs ++ left))) 16384 ≡ false = grind (arith, nat_tests, length-append bs left) in
-      (rw (is, longer) refl, long)
+    by_test : (t : Bool) → nat_le (length (b ∷ bs)) 16384 ≡ t → IsSettled (if t then Part else Refused LongHead) → (headless (b ∷ (bs ++ left)) ≡ headless (b ∷ bs)) × (16384 < length (b ∷ bs))
+    by_test true is settled = absurd settled
+    by_test false is settled =
+        let long : 16384 < length (b ∷ bs) = grind (arith, nat_tests, is) in
+        let longer : nat_le (length (b ∷ (bs ++ left))) 16384 ≡ false = grind (arith, nat_tests, length-append bs left) in
+        (rw (is, longer) refl, long)
 
 bodied-append : (head : RequestHead) (n : ℕ) (rest left : List ℕ) (r : Result ℕ Refusal) → IsSettled (bodied head n rest r) → bodied head n (rest ++ left) r ≡ bodied head n rest r
 bodied-append head n rest left (Err refusal) settled = refl
 bodied-append head n rest left (Ok m) settled = by_test (nat_le m (length rest)) refl settled
   where
-  by_test : (t : Bool) → nat_le m (length rest) ≡ t → IsSettled (if t then Whole (request_of head (take m rest)) (n + m) else Part) → bodied head n (rest ++ left) (Ok m) ≡ bodied head n rest (Ok m)
-  by_test false is settled = absurd settled
-  by_test true is settled =
-      let fits : m ≤ length rest = grind (arith, nat_tests, is) in
-      let longer : nat_le m (length (rest ++ left)) ≡ true = grind (arith, nat_tests, length-append rest left) in
-      rw (is, longer, take-append-le m rest left fits) refl
+    by_test : (t : Bool) → nat_le m (length rest) ≡ t → IsSettled (if t then Whole (request_of head (take m rest)) (n + m) else Part) → bodied head n (rest ++ left) (Ok m) ≡ bodied head n rest (Ok m)
+    by_test false is settled = absurd settled
+    by_test true is settled =
+        let fits : m ≤ length rest = grind (arith, nat_tests, is) in
+        let longer : nat_le m (length (rest ++ left)) ≡ true = grind (arith, nat_tests, length-append rest left) in
+        rw (is, longer, take-append-le m rest left fits) refl
 
 headed-append : (head : Option RequestHead) (n : ℕ) (rest left : List ℕ) → IsSettled (headed head n rest) → headed head n (rest ++ left) ≡ headed head n rest
 headed-append None n rest left settled = refl
@@ -119,11 +119,11 @@ bodied_within : (head : RequestHead) (n : ℕ) (bytes : List ℕ) (r : Result �
 bodied_within head n bytes (Err refusal) some fits = tt
 bodied_within head n bytes (Ok m) some fits = by_test (nat_le m (length (drop n bytes))) refl
   where
-  by_test : (t : Bool) → nat_le m (length (drop n bytes)) ≡ t → IsWithin (if t then Whole (request_of head (take m (drop n bytes))) (n + m) else Part) bytes
-  by_test false is = tt
-  by_test true is =
-      let room : m ≤ length (drop n bytes) = grind (arith, nat_tests, is) in
-      (omega arith, omega (arith, length-drop n bytes))
+    by_test : (t : Bool) → nat_le m (length (drop n bytes)) ≡ t → IsWithin (if t then Whole (request_of head (take m (drop n bytes))) (n + m) else Part) bytes
+    by_test false is = tt
+    by_test true is =
+        let room : m ≤ length (drop n bytes) = grind (arith, nat_tests, is) in
+        (omega arith, omega (arith, length-drop n bytes))
 
 headed_within : (head : Option RequestHead) (n : ℕ) (bytes : List ℕ) → 0 < n → n ≤ length bytes → IsWithin (headed head n (drop n bytes)) bytes
 headed_within None n bytes some fits = tt
@@ -133,9 +133,9 @@ headless_within : (bytes : List ℕ) → IsWithin (headless bytes) bytes
 headless_within [] = tt
 headless_within (b ∷ bs) = by_test (nat_le (length (b ∷ bs)) 16384)
   where
-  by_test : (t : Bool) → IsWithin (if t then Part else Refused LongHead) (b ∷ bs)
-  by_test true = tt
-  by_test false = tt
+    by_test : (t : Bool) → IsWithin (if t then Part else Refused LongHead) (b ∷ bs)
+    by_test true = tt
+    by_test false = tt
 
 front_by_within : (o : Option ℕ) (bytes : List ℕ) (front : Front) → head_length (take 16384 bytes) ≡ o → IsFrontBy o bytes front → IsWithin front bytes
 front_by_within None bytes front is by = subst (λ f. IsWithin f bytes) (sym by) (headless_within bytes)

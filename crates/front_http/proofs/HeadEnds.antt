@@ -1,8 +1,8 @@
 -- Where the head of a request ends.
-use Rattle.std.proofs.Common.{◌≡◌, ◌≢◌, ℕ, zero, suc, ◌+◌, ◌-◌, ◌<◌, ◌≤◌, ◌++◌, ◌⊎◌, inl, inr, Bool, true, false, nat_eq, List, [], ◌∷◌, Option, Some, None, option_map, length, take, drop, min, if◌then◌else◌, refl, sym, ◌∙◌, ap, subst, arith, append_assoc, length-append}
+use Rattle.std.proofs.Common.{◌≡◌, ℕ, zero, suc, ◌+◌, ◌<◌, ◌≤◌, ◌++◌, ◌⊎◌, inl, inr, Bool, true, false, nat_eq, List, [], ◌∷◌, Option, Some, None, option_map, length, take, drop, if◌then◌else◌, refl, sym, ap, arith}
 use Rattle.std.specs.List.{starts_with}
 use Rattle.std.specs.Cmp.Lexicographic.{pointwise}
-use Rattle.std.proofs.lemmas.List.{take-append-le, drop-append-le, take-append-drop, length-take}
+use Rattle.std.proofs.lemmas.List.{take-append-le, length-take}
 use Rattle.std.proofs.lemmas.Bool.{false_from_ne_true}
 use Rattle.std.proofs.lemmas.Slice.Eq.{bytes_eq-Decides}
 use Rattle.front_http.specs.Stream.{head_end, head_length}
@@ -36,12 +36,12 @@ unfolding head_length
 ends_at [] ys n e = cc
 ends_at (b ∷ bs) ys n e = elim (found_by (starts_with nat_eq (b ∷ bs) head_end) (head_length bs) n e) [
   | inl h ↦
-    let long : 4 ≤ length (b ∷ bs) = starts_bound (b ∷ bs) head_end h.0 in
-    record { four = omega arith; within = omega arith; stays = rw (starts_append (b ∷ bs) ys head_end long, h.0) (ap Some (sym h.1)) }
+      let long : 4 ≤ length (b ∷ bs) = starts_bound (b ∷ bs) head_end h.0 in
+      record { four = omega arith; within = omega arith; stays = rw (starts_append (b ∷ bs) ys head_end long, h.0) (ap Some (sym h.1)) }
   | inr h ↦
-    let rest : EndsAt bs ys h.1.0 = ends_at bs ys h.1.0 h.1.1 in
-    let long : 4 ≤ length (b ∷ bs) = omega arith in
-    record { four = omega arith; within = omega arith; stays = rw (starts_append (b ∷ bs) ys head_end long, h.0, rest.stays) (ap Some (sym h.1.2)) }
+      let rest : EndsAt bs ys h.1.0 = ends_at bs ys h.1.0 h.1.1 in
+      let long : 4 ≤ length (b ∷ bs) = omega arith in
+      record { four = omega arith; within = omega arith; stays = rw (starts_append (b ∷ bs) ys head_end long, h.0, rest.stays) (ap Some (sym h.1.2)) }
 ]
 
 -- a head ends four bytes behind the first place at which CR LF CR LF stands
@@ -63,5 +63,5 @@ found_nowhere (b ∷ bs) none =
     let here : starts_with nat_eq (b ∷ bs) head_end ≡ false = false_from_ne_true _ (λ holds. let long : 4 ≤ length (b ∷ bs) = starts_bound (b ∷ bs) head_end holds in absurd_from (none 0 (omega arith)) holds) in
     rw (here, rest) refl
   where
-  absurd_from : {t : Bool} → t ≡ false → t ≡ true → ⊥
-  absurd_from fails holds = cc
+    absurd_from : {t : Bool} → t ≡ false → t ≡ true → ⊥
+    absurd_from fails holds = cc

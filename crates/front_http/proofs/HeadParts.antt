@@ -1,15 +1,14 @@
 -- A head and its header lines from where their parts stand.
-use Rattle.std.proofs.Common.{◌≡◌, ℕ, List, [], ◌∷◌, Option, Some, None, Result, Ok, Err, length, take, map, sym, ap, refl, ◌∙◌}
+use Rattle.std.proofs.Common.{◌≡◌, ℕ, List, [], ◌∷◌, Some, Ok, Err, length, take, map, sym, ap, refl, ◌∙◌}
 use Rattle.httparse.specs.declared.spans.HeaderSpan.{HeaderSpan}
 use Rattle.httparse.specs.declared.spans.RequestSpans.{RequestSpans}
-use Rattle.httparse.specs.Grammar.{RequestHead}
 use Rattle.httparse.specs.Grammar.{Field as HeadField}
-use Rattle.httparse.specs.Spans.{header_bytes, name_and_value, IsRequestAt}
+use Rattle.httparse.specs.Spans.{header_bytes, name_and_value}
 use Rattle.host_base.specs.declared.request.Field.{Field}
 use Rattle.host_base.specs.declared.request.Request.{Request}
 use Rattle.front_http.specs.declared.refusal.Refusal.{Refusal}
-use Rattle.front_http.specs.Heads.{body_length, field_of, fields_of, request_of}
-use Rattle.front_http.specs.Stream.{Refused, headed, bodied}
+use Rattle.front_http.specs.Heads.{body_length, field_of, fields_of}
+use Rattle.front_http.specs.Stream.{bodied}
 use Rattle.front_http.specs.Spans.{field_at, request_at, IsHeadAt, IsHeadOf, RefusesHead}
 
 of_pair : List ℕ × List ℕ → Field

@@ -1,5 +1,5 @@
 -- How many header lines a head has room for, and that a head that is there is found.
-use Rattle.std.proofs.Common.{◌≡◌, ◌≢◌, ℕ, ◌+◌, ◌*◌, ◌/◌, ◌≤◌, ◌++◌, List, [], ◌∷◌, Result, Ok, Err, length, map, All, sym, ap, subst, refl, ◌∙◌, arith, length-append}
+use Rattle.std.proofs.Common.{◌≡◌, ◌≢◌, ℕ, ◌+◌, ◌*◌, ◌/◌, ◌≤◌, List, [], ◌∷◌, Result, Ok, Err, length, All, ap, ◌∙◌, arith, length-append}
 use Rattle.std.specs.List.{flat_map}
 use Rattle.std.proofs.lemmas.List.Elements.{All-head, All-tail}
 use Rattle.httparse.specs.declared.Error.{Error}
@@ -7,7 +7,7 @@ use Rattle.httparse.specs.declared.Status.{Status}
 use Rattle.httparse.specs.declared.Status.TheVariants.{Complete, Partial}
 use Rattle.httparse.specs.declared.spans.HeaderSpan.{HeaderSpan}
 use Rattle.httparse.specs.declared.spans.RequestSpans.{RequestSpans}
-use Rattle.httparse.specs.Grammar.{LineEnd, crlf, lf, print_end, Field, IsField, print_field, print_section, RequestHead, IsRequestHead, print_request, ReadsRequest}
+use Rattle.httparse.specs.Grammar.{LineEnd, crlf, lf, print_end, Field, IsField, print_field, RequestHead, IsRequestHead, print_request}
 use Rattle.httparse.specs.Outcome.{IfComplete, IsCompleteAnd}
 use Rattle.httparse.specs.Spans.{FindsRequest, IsRequestAt}
 use Rattle.front_http.specs.Spans.{HasNoHead}
@@ -37,7 +37,7 @@ no_head bytes room headers found finds fits other head reads =
     let few : length head.fields ≤ room = omega (arith, head_long head reads.0) in
     by_answer found (finds head [] reads few) other
   where
-  by_answer : (found : Result (Status RequestSpans) Error) → IsCompleteAnd found (λ line. IsRequestAt bytes headers line head) → IfComplete found (λ line. line.len ≢ length bytes) → ⊥
-  by_answer (Ok (Complete line)) is other = other (is.len ∙ omega (arith, ap length reads.1, length-append (print_request head) []))
-  by_answer (Ok Partial) is other = is
-  by_answer (Err error) is other = is
+    by_answer : (found : Result (Status RequestSpans) Error) → IsCompleteAnd found (λ line. IsRequestAt bytes headers line head) → IfComplete found (λ line. line.len ≢ length bytes) → ⊥
+    by_answer (Ok (Complete line)) is other = other (is.len ∙ omega (arith, ap length reads.1, length-append (print_request head) []))
+    by_answer (Ok Partial) is other = is
+    by_answer (Err error) is other = is

@@ -8,3 +8,7 @@ pub mod Looking
 pub mod Pieces
 pub mod Remaining
 pub mod MemoryText
+pub mod Seeking
+pub mod Tables
+pub mod Renumbering
+pub mod Cutting

@@ -1,8 +1,8 @@
 -- What is known of a request that isn't whole yet, and what it says of the front of the bytes.
-use Rattle.std.proofs.Common.{◌≡◌, ℕ, zero, suc, ◌+◌, ◌-◌, ◌<◌, ◌≤◌, ◌++◌, ◌⊎◌, inl, inr, ◌&&◌, ◌==◌, not, option_map, Bool, true, false, nat_le, nat_lt, nat_eq, List, [], ◌∷◌, Option, Some, None, Result, Ok, Err, length, take, drop, min, if◌then◌else◌, codes, refl, sym, ◌∙◌, ap, subst, arith, append_assoc, length-append}
+use Rattle.std.proofs.Common.{◌≡◌, ℕ, zero, suc, ◌+◌, ◌-◌, ◌<◌, ◌≤◌, ◌++◌, ◌&&◌, ◌==◌, not, option_map, Bool, true, false, nat_le, nat_lt, nat_eq, List, [], ◌∷◌, Option, Some, None, Ok, Err, length, take, drop, if◌then◌else◌, codes, refl, sym, ◌∙◌, ap, subst, arith}
 use Rattle.std.specs.List.{starts_with}
 use Rattle.std.specs.Cmp.Lexicographic.{pointwise}
-use Rattle.std.proofs.lemmas.List.{take-append-le, drop-append-le, take-append-drop, length-take, length-take-le, length-drop, take_all, drop_all}
+use Rattle.std.proofs.lemmas.List.{drop-append-le, take-append-drop, length-take-le, length-drop, take_all, drop_all}
 use Rattle.std.proofs.lemmas.Bool.{false_from_ne_true}
 use Rattle.std.proofs.lemmas.Bool.Decides.{nat_tests}
 use Rattle.httparse.specs.Grammar.{RequestHead}
@@ -12,11 +12,11 @@ use Rattle.front_http.specs.declared.refusal.Refusal.{Refusal}
 use Rattle.front_http.specs.declared.refusal.Refusal.TheVariants.{BadHead, LongHead, NeedLength, LongBody}
 use Rattle.front_http.specs.declared.head.Head.{Head}
 use Rattle.front_http.specs.declared.look.Pending.TheVariants.{Search, Known}
-use Rattle.front_http.specs.Heads.{values_of, are_lengths, announced, framing, body_length, fields_of, request_of}
-use Rattle.front_http.specs.Stream.{head_end, head_length, Front, Nothing, Part, Refused, Whole, headless, bodied, headed, IsHead, IsFrontBy, IsFront}
+use Rattle.front_http.specs.Heads.{values_of, are_lengths, announced, body_length, fields_of, request_of}
+use Rattle.front_http.specs.Stream.{head_end, head_length, Front, Part, Refused, Whole, headless, bodied, IsFront}
 use Rattle.front_http.specs.Spans.{IsHeadOf, RefusesHead}
-use Rattle.front_http.specs.Pending.{HasNoEndBefore, IsSearched, IsKnown, IsPending, partial, IsPart}
-use Rattle.front_http.proofs.HeadEnds.{starts_bound, starts_append, starts_short}
+use Rattle.front_http.specs.Pending.{HasNoEndBefore, IsSearched, IsKnown, partial, IsPart}
+use Rattle.front_http.proofs.HeadEnds.{starts_bound, starts_append}
 use Rattle.front_http.proofs.Fronts.{HeadStays, head_stays}
 
 by_tests : (fits : Bool) (coded long : Bool) (m n : ℕ) → (if not fits then Err BadHead else (if coded then Err NeedLength else (if long then Err LongBody else Ok m))) ≡ Ok n → (long ≡ false) × (m ≡ n)
@@ -111,21 +111,21 @@ part_head bytes ends short =
 front_starts : (xs ys : List ℕ) → starts_with nat_eq (xs ++ ys) head_end ≡ false → starts_with nat_eq xs head_end ≡ false
 front_starts xs ys isnt = false_from_ne_true _ (λ is. let long : 4 ≤ length xs = starts_bound xs head_end is in contradiction (sym (starts_append xs ys head_end long) ∙ isnt) is)
   where
-  contradiction : {t : Bool} → t ≡ false → t ≡ true → ⊥
-  contradiction isnt is = cc
+    contradiction : {t : Bool} → t ≡ false → t ≡ true → ⊥
+    contradiction isnt is = cc
 
 taken_searched : (n from : ℕ) (bytes : List ℕ) → IsSearched from bytes → HasNoEndBefore from (take n bytes)
 taken_searched n from bytes searched place near = by_place (nat_le place (length (take n bytes))) refl
   where
-  by_place : (t : Bool) → nat_le place (length (take n bytes)) ≡ t → starts_with nat_eq (drop place (take n bytes)) head_end ≡ false
-  by_place false is =
-      let past : length (take n bytes) ≤ place = grind (arith, nat_tests, is) in
-      ap (λ (xs : List ℕ). pointwise nat_eq head_end (take 4 xs)) (drop_all place (take n bytes) past)
-  by_place true is =
-      let within : place ≤ length (take n bytes) = grind (arith, nat_tests, is) in
-      let split : drop place bytes ≡ drop place (take n bytes) ++ drop n bytes =
-      ap (drop place) (sym (take-append-drop n bytes)) ∙ drop-append-le place (take n bytes) (drop n bytes) within in
-      front_starts (drop place (take n bytes)) (drop n bytes) (ap (λ (xs : List ℕ). pointwise nat_eq head_end (take 4 xs)) (sym split) ∙ searched.none place near)
+    by_place : (t : Bool) → nat_le place (length (take n bytes)) ≡ t → starts_with nat_eq (drop place (take n bytes)) head_end ≡ false
+    by_place false is =
+        let past : length (take n bytes) ≤ place = grind (arith, nat_tests, is) in
+        ap (λ (xs : List ℕ). pointwise nat_eq head_end (take 4 xs)) (drop_all place (take n bytes) past)
+    by_place true is =
+        let within : place ≤ length (take n bytes) = grind (arith, nat_tests, is) in
+        let split : drop place bytes ≡ drop place (take n bytes) ++ drop n bytes =
+        ap (drop place) (sym (take-append-drop n bytes)) ∙ drop-append-le place (take n bytes) (drop n bytes) within in
+        front_starts (drop place (take n bytes)) (drop n bytes) (ap (λ (xs : List ℕ). pointwise nat_eq head_end (take 4 xs)) (sym split) ∙ searched.none place near)
 
 -- what was searched of all bytes was searched of the first of them
 pub run_searched : (from : ℕ) (bytes : List ℕ) → IsSearched from bytes → HasNoEndBefore from (take 16384 bytes)

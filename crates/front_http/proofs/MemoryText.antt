@@ -1,5 +1,5 @@
 -- The bytes of the answer where memory ran out.
-use Rattle.std.proofs.Common.{◌≡◌, ◌<◌, List, ℕ, [], true, false, codes, refl, ◌∙◌, arith}
+use Rattle.std.proofs.Common.{◌≡◌, [], true, false, codes, refl, ◌∙◌, arith}
 use Rattle.std.specs.Fmt.{decimal}
 use Rattle.std.proofs.lemmas.Fmt.{decimal-digits_of}
 use Rattle.front_http.specs.Texts.{status_line, media_type, length_line, type_line, reply_text, refusal_body}

@@ -1,6 +1,5 @@
 -- What a further piece adds to what is held.
-use Rattle.std.proofs.Common.{◌≡◌, ℕ, ◌+◌, ◌<◌, ◌≤◌, ◌++◌, Bool, true, false, nat_lt, nat_eq, List, [], ◌∷◌, Option, Some, length, take, drop, refl, sym, ◌∙◌, ap, subst, arith, append_assoc, length-append}
-use Rattle.std.specs.List.{starts_with}
+use Rattle.std.proofs.Common.{◌≡◌, ℕ, ◌+◌, ◌≤◌, ◌++◌, nat_lt, nat_eq, List, [], ◌∷◌, length, take, drop, refl, sym, ◌∙◌, ap, subst, arith, append_assoc, length-append}
 use Rattle.std.specs.Cmp.Lexicographic.{pointwise}
 use Rattle.std.proofs.lemmas.List.{drop-append-le, take-append-drop, length-drop}
 use Rattle.std.proofs.lemmas.Bool.Decides.{nat_tests}
@@ -9,7 +8,7 @@ use Rattle.front_http.specs.declared.look.Pending.{Pending}
 use Rattle.front_http.specs.declared.look.Pending.TheVariants.{Search, Known}
 use Rattle.front_http.specs.Stream.{head_end}
 use Rattle.front_http.specs.Spans.{IsHeadOf}
-use Rattle.front_http.specs.Pending.{IsSearched, IsPending, GivesMore}
+use Rattle.front_http.specs.Pending.{IsPending, GivesMore}
 use Rattle.front_http.proofs.HeadEnds.{starts_append}
 use Rattle.front_http.proofs.Fronts.{HeadStays, head_stays}
 
@@ -21,9 +20,9 @@ append-nil (x ∷ xs) = ap (λ (ys : List ℕ). x ∷ ys) (append-nil xs)
 pub pending_more : (held more : List ℕ) (pending : Pending) → IsPending held pending → IsPending (held ++ more) pending
 pending_more held more (Search from) is = record {
   none = λ place near.
-    let far : place + 4 ≤ length held = is.far place near in
-    let long : 4 ≤ length (drop place held) = omega (arith, length-drop place held) in
-    ap (λ (xs : List ℕ). pointwise nat_eq head_end (take 4 xs)) (drop-append-le place held more (omega arith)) ∙ starts_append (drop place held) more head_end long ∙ is.none place near;
+      let far : place + 4 ≤ length held = is.far place near in
+      let long : 4 ≤ length (drop place held) = omega (arith, length-drop place held) in
+      ap (λ (xs : List ℕ). pointwise nat_eq head_end (take 4 xs)) (drop-append-le place held more (omega arith)) ∙ starts_append (drop place held) more head_end long ∙ is.none place near;
   far = λ place near. omega (arith, is.far place near, length-append held more);
 }
 pending_more held more (Known head) is =

@@ -1,14 +1,14 @@
 -- What remains to a reader, by what the bytes that it holds begin with.
-use Rattle.std.proofs.Common.{◌≡◌, ◌≢◌, ℕ, ◌+◌, ◌<◌, ◌≤◌, ◌++◌, Bool, true, false, List, [], ◌∷◌, Option, Some, None, Result, Ok, Err, length, take, drop, refl, sym, ◌∙◌, ap, subst, arith}
+use Rattle.std.proofs.Common.{◌≡◌, ◌≢◌, ℕ, ◌+◌, ◌++◌, Bool, true, false, List, [], ◌∷◌, Option, Some, None, Result, Ok, Err, length, drop, refl, sym, ◌∙◌, ap, subst}
 use Rattle.std.proofs.lemmas.List.{drop-append-le}
 use Rattle.host_base.specs.declared.request.Request.{Request}
 use Rattle.front_http.specs.declared.refusal.Refusal.{Refusal}
 use Rattle.front_http.specs.declared.refusal.Refusal.TheVariants.{BadHead, LongHead, NeedLength, LongBody}
 use Rattle.front_http.specs.declared.fault.FrontFault.{FrontFault}
 use Rattle.front_http.specs.declared.fault.FrontFault.TheVariants as fault
-use Rattle.front_http.specs.Stream.{Front, Nothing, Part, Refused, Whole, IsFront, Ending, Done, Last, Cut, Bad, Requests, none_but, first_of, IsStream, IsRest}
+use Rattle.front_http.specs.Stream.{Front, Nothing, Part, Refused, Whole, IsFront, Ending, Done, Last, Cut, Bad, Requests, none_but, first_of, IsRest}
 use Rattle.front_http.specs.Reading.{Reading, IsRemaining, Ended, Gave, over, Next, fault_at}
-use Rattle.front_http.specs.Pending.{partial, EndsAt, GivesMore}
+use Rattle.front_http.specs.Pending.{partial, EndsAt}
 use Rattle.front_http.proofs.Fronts.{front-append, whole_within}
 use Rattle.front_http.proofs.Streams.{IsStreamBy, stream_by, stream_of}
 
@@ -56,11 +56,11 @@ whole_next old left now rest request n new told goes is new_is told_is =
       rest = rest;
       told_is = told_is;
       joins = λ more stream.
-        subst (λ t. IsRest t old.at bytes (first_of request more)) (sym goes.unclosed)
-        (stream_of (Whole request n) old.at bytes (first_of request more) front (more, rest_same more new.closed request.last new.at (old.at + n) (new.held ++ rest) (drop n bytes) closed_is at_is held_is stream, refl));
+          subst (λ t. IsRest t old.at bytes (first_of request more)) (sym goes.unclosed)
+          (stream_of (Whole request n) old.at bytes (first_of request more) front (more, rest_same more new.closed request.last new.at (old.at + n) (new.held ++ rest) (drop n bytes) closed_is at_is held_is stream, refl));
       splits = λ all stream.
-        let by : IsStreamBy (Whole request n) old.at bytes all = stream_by (Whole request n) old.at bytes all front (subst (λ t. IsRest t old.at bytes all) goes.unclosed stream) in
-        (by.0, rest_same by.0 request.last new.closed (old.at + n) new.at (drop n bytes) (new.held ++ rest) (sym closed_is) (sym at_is) (sym held_is) by.1, by.2);
+          let by : IsStreamBy (Whole request n) old.at bytes all = stream_by (Whole request n) old.at bytes all front (subst (λ t. IsRest t old.at bytes all) goes.unclosed stream) in
+          (by.0, rest_same by.0 request.last new.closed (old.at + n) new.at (drop n bytes) (new.held ++ rest) (sym closed_is) (sym at_is) (sym held_is) by.1, by.2);
     }
 
 partial_none : (bytes : List ℕ) → bytes ≡ [] → partial bytes ≡ Nothing

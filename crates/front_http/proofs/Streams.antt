@@ -1,9 +1,8 @@
 -- The laws of the meaning of a stream.
-use Rattle.std.proofs.Common.{◌≡◌, ℕ, zero, suc, ◌+◌, ◌<◌, ◌≤◌, ◌++◌, Bool, true, false, List, [], ◌∷◌, Option, Some, None, Result, Ok, Err, length, take, drop, refl, sym, ◌∙◌, ap, subst, arith, append_assoc}
-use Rattle.std.proofs.lemmas.List.{drop-append-le, length-drop}
+use Rattle.std.proofs.Common.{◌≡◌, ℕ, zero, suc, ◌+◌, ◌<◌, Bool, true, false, List, Option, Some, None, length, take, drop, refl, sym, ◌∙◌, ap, subst, arith}
+use Rattle.std.proofs.lemmas.List.{length-drop}
 use Rattle.host_base.specs.declared.request.Request.{Request}
-use Rattle.front_http.specs.declared.refusal.Refusal.{Refusal}
-use Rattle.front_http.specs.Stream.{head_length, Front, Nothing, Part, Refused, Whole, headless, headed, IsHead, IsFrontBy, IsFront, Ending, Done, Last, Cut, Bad, Requests, none_but, first_of, IsStream, done, cut, bad, last, more, IsRest, HasOneMeaning, HasMeaning}
+use Rattle.front_http.specs.Stream.{head_length, Front, Nothing, Part, Refused, Whole, headless, headed, IsFrontBy, IsFront, Done, Last, Cut, Bad, Requests, none_but, first_of, IsStream, done, cut, bad, last, more, IsRest, HasOneMeaning, HasMeaning}
 use Rattle.front_http.proofs.Fronts.{front_one, whole_within}
 
 -- what a stream is, by what it begins with
@@ -60,9 +59,9 @@ by_front at bytes Part is none rest = none (none_but (Cut (at + length bytes))) 
 by_front at bytes (Refused refusal) is none rest = none (none_but (Bad refusal at)) (bad at bytes refusal is)
 by_front at bytes (Whole request n) is none rest = by_last request.last refl
   where
-  by_last : (closing : Bool) → request.last ≡ closing → ⊥
-  by_last true closes = none (first_of request (none_but Last)) (last at bytes request n is closes)
-  by_last false closes = rest request n refl (λ others stream. none (first_of request others) (more at bytes request n others is closes stream))
+    by_last : (closing : Bool) → request.last ≡ closing → ⊥
+    by_last true closes = none (first_of request (none_but Last)) (last at bytes request n is closes)
+    by_last false closes = rest request n refl (λ others stream. none (first_of request others) (more at bytes request n others is closes stream))
 
 meaning_by : (fuel at : ℕ) (bytes : List ℕ) → length bytes < fuel → ((all : Requests) → IsStream at bytes all → ⊥) → ⊥
 meaning_by zero at bytes short none = absurd (omega arith)

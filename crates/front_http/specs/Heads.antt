@@ -1,10 +1,10 @@
 -- What a request head says: its header lines, how long a body follows it, and the request that it makes with a body.
-use Rattle.std.specs.Prelude.{◌≡◌, ℕ, ◌+◌, ◌==◌, ◌&&◌, ◌||◌, not, Bool, true, false, List, [], ◌∷◌, Option, Some, None, Result, Ok, Err, length, take, drop, map, filter, nat_lt, codes, bytes_eq, unwrap_or, option_and_then, option_map, if◌then◌else◌}
+use Rattle.std.specs.Prelude.{ℕ, ◌==◌, ◌&&◌, ◌||◌, not, Bool, true, false, List, [], ◌∷◌, Option, Some, None, Result, Ok, Err, length, take, drop, map, filter, nat_lt, codes, bytes_eq, unwrap_or, option_and_then, option_map, if◌then◌else◌}
 use Rattle.std.specs.List.{list_all, list_any}
 use Rattle.std.specs.Char.{to_ascii_lowercase, is_ascii_digit}
 use Rattle.std.specs.Str.Parse.{digits_value}
 use Rattle.sha2.specs.Sha256.{sha256}
-use Rattle.httparse.specs.Grammar.{RequestHead, field_value} 
+use Rattle.httparse.specs.Grammar.{RequestHead, field_value}
 use Rattle.httparse.specs.Grammar.{Field as HeadField}
 use Rattle.host_base.specs.declared.digest.Digest.{Digest}
 use Rattle.host_base.specs.declared.request.Field.{Field}

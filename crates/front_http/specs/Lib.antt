@@ -5,3 +5,6 @@ pub mod Fields
 pub mod Spans
 pub mod Pending
 pub mod Texts
+pub mod Routes
+pub mod Numbers
+pub mod Tables

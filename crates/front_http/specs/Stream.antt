@@ -1,5 +1,5 @@
 -- The meaning of a stream of requests: front by front, over the whole list of its bytes.
-use Rattle.std.specs.Prelude.{◌≡◌, ℕ, suc, ◌+◌, ◌++◌, Bool, true, false, List, [], ◌∷◌, Option, Some, None, Result, Ok, Err, length, take, drop, nat_le, nat_eq, codes, option_map, if◌then◌else◌}
+use Rattle.std.specs.Prelude.{◌≡◌, ℕ, suc, ◌+◌, Bool, true, false, List, [], ◌∷◌, Option, Some, None, Result, Ok, Err, length, take, drop, nat_le, nat_eq, codes, option_map, if◌then◌else◌}
 use Rattle.std.specs.List.{starts_with}
 use Rattle.httparse.specs.Grammar.{RequestHead, ReadsRequest}
 use Rattle.host_base.specs.declared.request.Request.{Request}
@@ -80,9 +80,9 @@ pub data IsStream : ℕ → List ℕ → Requests → Type 0 where
   cut : (at : ℕ) (bytes : List ℕ) → IsFront bytes Part → IsStream at bytes (none_but (Cut (at + length bytes)))
   bad : (at : ℕ) (bytes : List ℕ) (refusal : Refusal) → IsFront bytes (Refused refusal) → IsStream at bytes (none_but (Bad refusal at))
   last : (at : ℕ) (bytes : List ℕ) (request : Request) (n : ℕ) → IsFront bytes (Whole request n) → request.last ≡ true
-    → IsStream at bytes (first_of request (none_but Last))
+      → IsStream at bytes (first_of request (none_but Last))
   more : (at : ℕ) (bytes : List ℕ) (request : Request) (n : ℕ) (others : Requests) → IsFront bytes (Whole request n) → request.last ≡ false
-    → IsStream (at + n) (drop n bytes) others → IsStream at bytes (first_of request others)
+      → IsStream (at + n) (drop n bytes) others → IsStream at bytes (first_of request others)
 
 -- what follows a request that is the last one or isn't, where the next byte stands at this place
 abbrev pub IsRest : Bool → ℕ → List ℕ → Requests → Type 0

@@ -1,8 +1,8 @@
-use crate::refusal::Refusal;
-use thiserror::Error;
-
 ghost use Rattle.std.specs.Prelude.{◌≡◌};
 ghost use Rattle.front_http.specs.Reading.{fault_at as fault_of};
+
+use crate::refusal::Refusal;
+use thiserror::Error;
 
 /// Why there is no next request. A place is that of the request's first byte in the stream.
 #[derive(Clone, Copy, Debug, PartialEq, Eq, Error)]

@@ -1,11 +1,10 @@
 //! What the header lines of a request head say.
-ghost use Rattle.std.specs.Prelude.{◌≡◌, length, option_map, true, IfOk};
-ghost use Rattle.std.specs.List.{list_all};
-ghost use Rattle.std.specs.Char.{is_ascii_digit};
+ghost use Rattle.std.specs.Prelude.{◌≡◌, length, option_map, IfOk};
 ghost use Rattle.front_http.specs.Heads.{is_same, values_of, lower, only, closes as closes_by, bearer_of, body_length as length_of, host_of, bearer_text};
-ghost use Rattle.front_http.specs.Fields.{first_of, length_within};
+ghost use Rattle.front_http.specs.Fields.{first_of};
 ghost use Rattle.sha2.specs.Sha256.{sha256};
 
+use crate::number::{is_digits, number_within};
 use crate::refusal::Refusal;
 use host_base::{Bytes, Digest, Field, Memory};
 use sha2::{Digest as Sha, Sha256};
@@ -57,27 +56,6 @@ pub fn only_value<'a>(fields: &'a [Field], name: &[u8]) -> Option<&'a [u8]>
     }
 }
 
-fn is_digits(text: &[u8]) -> bool
-    ensures { result ≡ list_all is_ascii_digit text.now }
-{
-    text.iter().all(|byte| byte.is_ascii_digit())
-}
-
-// The number of some decimal digits, if it is the length of a body.
-fn length_of_digits(digits: &[u8]) -> Option<usize>
-    requires { list_all is_ascii_digit digits.now ≡ true }
-    ensures { result ≡ length_within digits.now }
-{
-    let mut length: usize = 0;
-    for digit in digits {
-        length = length * 10 + (*digit - b'0') as usize;
-        if length > BODY_LIMIT {
-            return None;
-        }
-    }
-    Some(length)
-}
-
 /// The length of the body behind a head with these header lines, or why the head is refused.
 #[tactic(auto, unfolding(crate::specs::Heads::body_length))]
 pub fn body_length(fields: &[Field]) -> Result<usize, Refusal>
@@ -92,7 +70,7 @@ pub fn body_length(fields: &[Field]) -> Result<usize, Refusal>
             if digits.is_empty() || !is_digits(digits) {
                 return Err(Refusal::BadHead);
             }
-            length_of_digits(digits)
+            number_within(digits, BODY_LIMIT)
         }
     };
     if count_of(fields, b"Transfer-Encoding") > 0 {
@@ -112,7 +90,8 @@ fn credential(value: &[u8]) -> Option<&[u8]>
     }
 }
 
-fn digest_of(text: &[u8]) -> Digest
+/// The digest of a text.
+pub fn digest_of(text: &[u8]) -> Digest
     ensures { result ≡ record { 0 = sha256 text.now } }
 {
     Digest(Sha256::digest(text))

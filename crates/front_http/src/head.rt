@@ -107,7 +107,12 @@ fn copy_target(alloc: Global, bytes: &[u8], span: Span) -> Result<Text, Memory>
     }
 }
 
-fn make_request(alloc: Global, bytes: &[u8], line: &RequestSpans, fields: Fields) -> Result<Request, Memory>
+fn make_request(
+    alloc: Global,
+    bytes: &[u8],
+    line: &RequestSpans,
+    fields: Fields,
+) -> Result<Request, Memory>
     requires method { IsWithin (length bytes.now) line.now.method }
     requires target { IsWithin (length bytes.now) line.now.path }
     requires utf8 { IsUtf8 (span_bytes bytes.now line.now.path) }

@@ -7,11 +7,18 @@ mod find;
 mod head;
 mod held;
 mod look;
+mod number;
 mod reader;
 mod refusal;
+mod route;
+mod routes;
+mod target;
 mod texts;
 
 pub use fault::FrontFault;
 pub use reader::RequestReader;
 pub use refusal::Refusal;
+pub use route::Route;
+pub use routes::Routes;
+pub use target::use_target;
 pub use texts::{memory_reply, refusal_body, reply_text};

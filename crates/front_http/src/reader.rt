@@ -123,7 +123,11 @@ impl RequestReader {
     }
 
     // The next request of a reader that hasn't stopped or handed out a last request.
-    fn read<I: Source>(&mut self, alloc: Global, input: &mut I) -> Result<Option<Request>, FrontFault>
+    fn read<I: Source>(
+        &mut self,
+        alloc: Global,
+        input: &mut I,
+    ) -> Result<Option<Request>, FrontFault>
         requires { self.old.closed ≡ false }
         ensures counts { (I.inlet input.old).faults ≤ (I.inlet input.new).faults }
         ensures cause { result ≡ Err FrontFault.ReadFault → Rose (I.inlet input.old).faults (I.inlet input.new).faults }
@@ -169,7 +173,11 @@ impl RequestReader {
 
     /// The next request of the input, however it is cut; none at its end, and after a request that is the last one. After a fault each
     /// further call answers it again.
-    pub fn next<I: Source>(&mut self, alloc: Global, input: &mut I) -> Result<Option<Request>, FrontFault>
+    pub fn next<I: Source>(
+        &mut self,
+        alloc: Global,
+        input: &mut I,
+    ) -> Result<Option<Request>, FrontFault>
         ensures counts { (I.inlet input.old).faults ≤ (I.inlet input.new).faults }
         ensures cause { result ≡ Err FrontFault.ReadFault → self.old.stopped ≡ None → Rose (I.inlet input.old).faults (I.inlet input.new).faults }
         ensures whole { (I.inlet input.new).whole ≡ (I.inlet input.old).whole }

@@ -97,8 +97,11 @@ pub fn reply_text(
     Ok(text.into_vec())
 }
 
-const MEMORY_HEAD: &str = "HTTP/1.1 500 Internal Server Error\r\nContent-Length: 26\r\nContent-Type: application/json\r\n\r\n";
-const MEMORY_REPLY: &str = "HTTP/1.1 500 Internal Server Error\r\nContent-Length: 26\r\nContent-Type: application/json\r\n\r\n{\"error\":\"Memory\",\"of\":[]}";
+const MEMORY_HEAD: &str =
+    "HTTP/1.1 500 Internal Server Error\r\nContent-Length: 26\r\nContent-Type: application/json\r\n\r\n";
+
+const MEMORY_REPLY: &str =
+    "HTTP/1.1 500 Internal Server Error\r\nContent-Length: 26\r\nContent-Type: application/json\r\n\r\n{\"error\":\"Memory\",\"of\":[]}";
 
 /// The answer where memory ran out, which takes none.
 pub fn memory_reply(head_only: bool) -> &'static [u8]

@@ -1,5 +1,27 @@
-use Rattle.cloud_serve.proofs.Serving.{serves_none}
+use Rattle.std.proofs.Common.{Option, Some, Result, Ok, Err, refl, ◌∙◌, ap, subst}
+use Rattle.host_base.specs.declared.request.Request.{Request}
+use Rattle.front_http.specs.declared.fault.FrontFault.{FrontFault}
+use Rattle.front_http.specs.Reading.{Next}
+use Rattle.cloud_serve.proofs.Serving.{steps_one, stops_done, stops_halted, stops_no_room}
 use Rattle.cloud_serve.proofs.serve.serve_one.Goals as goal
 
-pub returns-in_default-clause-serves : goal.returns-in_default-clause-serves
-returns-in_default-clause-serves g c = serves_none _ _ _ _ c.args.from c.ended.result c.ended.ensures
+pub returns-then-is_err-clause-steps : goal.returns-then-is_err-clause-steps
+returns-then-is_err-clause-steps g c low less =
+    stops_no_room low c.args.last _ c.args.reader.now _ _ c.close_with.result c.memory_reply.result.now refl refl c.memory_reply.ensures c.close_with.ensures.closes
+
+pub returns-in-Some-clause-steps : goal.returns-in-Some-clause-steps
+returns-in-Some-clause-steps g c low less =
+    steps_one low c.args.last _ _ c.args.reader.now c.next.new.self _ _ c.in-Some.request c.answer_one.result
+    (λ left is. subst (λ (r : Result (Option Request) FrontFault). Next c.args.reader.now left r c.next.new.self (g.I.Source.inlet c.next.new.input).left) (c.in-Ok.is ∙ ap Ok c.in-Some.is) (c.next.ensures.given left is c.requires.running))
+    (c.answer_one.ensures.takes low less)
+
+pub returns-in-None-clause-steps : goal.returns-in-None-clause-steps
+returns-in-None-clause-steps g c low less =
+    stops_done low c.args.last _ c.args.reader.now _ _ refl refl refl
+    (λ left is. subst (λ (r : Result (Option Request) FrontFault). Next c.args.reader.now left r c.next.new.self (g.I.Source.inlet c.next.new.input).left) (c.in-Ok.is ∙ ap Ok c.in-None.is) (c.next.ensures.given left is c.requires.running))
+
+pub returns-in-Err-clause-steps : goal.returns-in-Err-clause-steps
+returns-in-Err-clause-steps g c low less =
+    stops_halted low c.args.last _ c.args.reader.now c.next.new.self _ _ c.in-Err.fault c.halt.result refl refl
+    (λ left is. subst (λ (r : Result (Option Request) FrontFault). Next c.args.reader.now left r c.next.new.self (g.I.Source.inlet c.next.new.input).left) c.in-Err.is (c.next.ensures.given left is c.requires.running))
+    (λ read. c.next.ensures.cause (c.in-Err.is ∙ ap Err read) c.requires.running) c.halt.ensures.halts

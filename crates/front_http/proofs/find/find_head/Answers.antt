@@ -1,4 +1,4 @@
-use Rattle.std.proofs.Common.{◌≡◌, List, ℕ, ◌<◌, ◌≤◌, nat_eq, length, drop, true, arith, ap, sym, ◌∙◌}
+use Rattle.std.proofs.Common.{◌≡◌, nat_eq, drop, true, arith, sym}
 use Rattle.std.specs.List.{starts_with}
 use Rattle.front_http.specs.Stream.{head_end}
 use Rattle.front_http.proofs.HeadEnds.{found_at, found_nowhere}

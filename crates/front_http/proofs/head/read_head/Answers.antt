@@ -1,5 +1,4 @@
-use Rattle.std.proofs.Common.{◌≡◌, List, Ok, Err, ap, sym, ◌∙◌, map, take}
-use Rattle.host_base.specs.declared.request.Field.{Field}
+use Rattle.std.proofs.Common.{◌≡◌, List, Ok, Err, ap, ◌∙◌, map, take}
 use Rattle.httparse.specs.declared.spans.HeaderSpan.{HeaderSpan}
 use Rattle.front_http.specs.Heads.{body_length}
 use Rattle.front_http.specs.Spans.{field_at, request_at}

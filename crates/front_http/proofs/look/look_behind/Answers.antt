@@ -1,4 +1,4 @@
-use Rattle.std.proofs.Common.{◌≡◌, List, ℕ, ◌<◌, ◌≤◌, length, take, ap, subst, ◌∙◌}
+use Rattle.std.proofs.Common.{List, ℕ, ◌<◌, ◌≤◌, length, take, ap, subst, ◌∙◌}
 use Rattle.front_http.proofs.Looking.{known_part, known_whole}
 use Rattle.front_http.proofs.look.look_behind.Goals as goal
 

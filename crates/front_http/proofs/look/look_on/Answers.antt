@@ -1,9 +1,9 @@
-use Rattle.std.proofs.Common.{◌≡◌, List, [], ℕ, ◌<◌, ◌≤◌, Option, Some, None, nat_eq, length, drop, take, true, arith, ap, sym, ◌∙◌, subst}
+use Rattle.std.proofs.Common.{◌≡◌, [], Some, None, take, ap, sym, ◌∙◌, subst}
 use Rattle.std.proofs.lemmas.List.{length-take-le}
 use Rattle.front_http.specs.Stream.{head_length}
 use Rattle.front_http.specs.Pending.{HasNoEndBefore}
 use Rattle.front_http.proofs.Fronts.{HeadStays, head_stays}
-use Rattle.front_http.proofs.Looking.{run_searched, known_head, refused_head, long_head, part_head}
+use Rattle.front_http.proofs.Looking.{run_searched, known_head, part_head}
 use Rattle.front_http.proofs.look.look_on.Goals as goal
 
 pub find_head-requires : goal.find_head-requires

@@ -1,5 +1,4 @@
-use Rattle.std.proofs.Common.{◌≡◌, ◌++◌, List, ℕ, codes, rules, arith, append_assoc, ap, ◌∙◌, sym, Result, Ok, Err, OnOk}
-use Rattle.std.proofs.lemmas.Grind.{common_steps}
+use Rattle.std.proofs.Common.{◌≡◌, ◌++◌, List, ℕ, codes, append_assoc, ap, ◌∙◌, Result, Ok, Err, OnOk}
 use Rattle.front_http.specs.Texts.{media_type, type_line}
 use Rattle.front_http.proofs.texts.put_type.Goals as goal
 

@@ -1,9 +1,9 @@
-use Rattle.std.proofs.Common.{◌≡◌, ◌++◌, ◌≤◌, ℕ, List, [], Option, Some, Result, Ok, Err, false, true, length, ap, sym, subst, ◌∙◌, rules, arith}
+use Rattle.std.proofs.Common.{◌≡◌, ◌++◌, ℕ, List, Err, ap, sym, subst, ◌∙◌, rules}
 use Rattle.host_base.specs.declared.request.Request.{Request}
 use Rattle.front_http.specs.declared.fault.FrontFault.{FrontFault}
 use Rattle.front_http.specs.Reading.{Reading, Next, Gave, fault_at}
 use Rattle.front_http.specs.Stream.{IsFront, Refused, Whole}
-use Rattle.front_http.specs.Pending.{GivesMore, partial}
+use Rattle.front_http.specs.Pending.{partial}
 use Rattle.front_http.proofs.Pieces.{append-nil}
 use Rattle.front_http.proofs.Fronts.{whole_within}
 use Rattle.front_http.proofs.Remaining.{Goes, refused_next, whole_next, end_next}
@@ -52,10 +52,10 @@ pieces-preserved g c = record {
   closed = search rules;
   stopped = search rules;
   same = λ left told.
-    let inv = c.pieces.invariant.same left told in
-    let more = c.in-Ok-true.ensures.given inv.0 inv.1 in
-    let held_is : c.see.new.self.held ++ inv.0 ≡ c.pieces.self.held ++ inv.0 = ap (λ (r : Reading). r.held ++ inv.0) c.see.ensures.same in
-    (more.rest, more.told_is, more.same ∙ held_is ∙ inv.2);
+      let inv = c.pieces.invariant.same left told in
+      let more = c.in-Ok-true.ensures.given inv.0 inv.1 in
+      let held_is : c.see.new.self.held ++ inv.0 ≡ c.pieces.self.held ++ inv.0 = ap (λ (r : Reading). r.held ++ inv.0) c.see.ensures.same in
+      (more.rest, more.told_is, more.same ∙ held_is ∙ inv.2);
 }
 
 pub returns-in-Ok-false-clause-given : goal.returns-in-Ok-false-clause-given

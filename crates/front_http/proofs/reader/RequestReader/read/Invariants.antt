@@ -9,7 +9,7 @@ invariant-pieces g l = record {
   closed : l.self.closed ≡ false;
   stopped : l.self.stopped ≡ l.fn.self.stopped;
   same : (left : List ℕ) → (g.I.Source.inlet l.fn.input).left ≡ Some left →
-    (rest : List ℕ) × ((g.I.Source.inlet l.input).left ≡ Some rest) × (l.self.held ++ rest ≡ l.fn.self.held ++ left);
+      (rest : List ℕ) × ((g.I.Source.inlet l.input).left ≡ Some rest) × (l.self.held ++ rest ≡ l.fn.self.held ++ left);
 }
 
 abbrev pub decreases-pieces : goal.decreases-pieces

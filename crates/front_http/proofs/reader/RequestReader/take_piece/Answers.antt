@@ -1,4 +1,4 @@
-use Rattle.std.proofs.Common.{◌≡◌, List, ℕ, Some, ◌++◌, take, nat_lt, subst, sym, ap, ◌∙◌}
+use Rattle.std.proofs.Common.{◌≡◌, List, ℕ, nat_lt, subst, sym, ap}
 use Rattle.front_http.specs.Reading.{Reading}
 use Rattle.front_http.specs.Pending.{IsPending, GivesMore}
 use Rattle.front_http.proofs.Pieces.{pending_more, gives_more}
@@ -17,9 +17,9 @@ invariant_of-self g c =
 pub returns-after-put-clause-given : goal.returns-after-put-clause-given
 returns-after-put-clause-given g c = λ left told. elim c.match-put.branch [
   | in-Ok-put w ↦
-    let held_is : c.self.inside.held ≡ c.args.self.now.held = ap (λ (r : Reading). r.held) c.self.view_is in
-    let more : GivesMore c.self.inside.held left (nat_lt 0 c.in-Ok.count) c.put.new.self (g.I.Source.inlet c.take.new.self).left =
-    gives_more c.self.inside.held left c.take.new.buf c.put.new.self c.in-Ok.count (g.I.Source.inlet c.take.new.self) (c.in-Ok.ensures.given left told) w.in-Ok-put.ensures.ok in
-    rw (w.result-is, ← held_is) more
+      let held_is : c.self.inside.held ≡ c.args.self.now.held = ap (λ (r : Reading). r.held) c.self.view_is in
+      let more : GivesMore c.self.inside.held left (nat_lt 0 c.in-Ok.count) c.put.new.self (g.I.Source.inlet c.take.new.self).left =
+      gives_more c.self.inside.held left c.take.new.buf c.put.new.self c.in-Ok.count (g.I.Source.inlet c.take.new.self) (c.in-Ok.ensures.given left told) w.in-Ok-put.ensures.ok in
+      rw (w.result-is, ← held_is) more
   | in-Err-put w ↦ rw w.result-is tt
 ]

@@ -1,0 +1,224 @@
+-- What stands while a connection is served, and what serving it comes to.
+use Rattle.std.proofs.Common.{◌≡◌, ℕ, ◌+◌, ◌<◌, ◌≤◌, ◌⊎◌, ◌++◌, List, [], ◌∷◌, false, Some, length, map, refl, sym, ◌∙◌, ap, subst, arith, inl, inr, append_assoc, append-nil, length-append}
+use Rattle.std.proofs.lemmas.List.{map-append}
+use Rattle.std.proofs.lemmas.List.{length-map}
+use Rattle.std.proofs.lemmas.Bool.{cases_lt}
+use Rattle.std.specs.List.{flat_map}
+use Rattle.std.proofs.lemmas.Grind.{flat_map-append}
+use Rattle.host_base.specs.Outside.{Inlet, Outlet, Rose}
+use Rattle.host_base.specs.declared.request.Request.{Request}
+use Rattle.front_http.specs.Reading.{Reading, unread, IsRemaining}
+use Rattle.front_http.specs.Stream.{Requests, Bad, IsStream}
+use Rattle.grain_supervise.specs.declared.ask.Ask.{Ask}
+use Rattle.cloud_serve.specs.declared.route.Route.{Route}
+use Rattle.cloud_serve.specs.declared.route.Route.TheVariants as route
+use Rattle.cloud_serve.specs.declared.serve.End.{End}
+use Rattle.cloud_serve.specs.declared.serve.End.TheVariants as end
+use Rattle.cloud_serve.specs.Book.{Book, Later}
+use Rattle.cloud_serve.specs.Effects.{AskedOf, TakesNone}
+use Rattle.cloud_serve.specs.Routes.{route_of}
+use Rattle.cloud_serve.specs.Turns.{Turn, IsLawfulBy, IsLawful, AreLawful}
+use Rattle.cloud_serve.specs.Served.{World, InHand, Nothing, Refusing, Answering, Broken, NoRoom, request_in, asked_in, HandAt, CauseAt, IsOver, IsEndOf, StreamAt, Stands, Complete, limit, Splits, Served}
+use Rattle.cloud_serve.specs.Serving.{OneMore, Stops, SoFar}
+use Rattle.cloud_serve.proofs.Growth.{later_refl, later_longer, takes_none_refl, takes_none_trans, asked_none, asked_trans, judged_later, judged_within}
+
+-- what was lawful stays so when more is seen
+lawful_later : (r : Route) (old new : Book) → Later old new → (low last : ℕ) (turn : Turn) → IsLawfulBy r old low last turn → IsLawfulBy r new low last turn
+lawful_later route.NoRoute old new later low last turn is = is
+lawful_later route.NoCredential old new later low last turn is = is
+lawful_later (route.Keyed key) old new later low last turn is =
+    record { verdict = is.verdict; judged = judged_later old new low low key turn.place is.verdict later (omega arith) is.judged; reached_is = is.reached_is; follows = is.follows }
+
+reached_within : (r : Route) (book : Book) (low last : ℕ) (turn : Turn) → low ≤ length book.seen → IsLawfulBy r book low last turn → turn.reached ≤ length book.seen
+reached_within route.NoRoute book low last turn less is = omega (arith, is.reached_is)
+reached_within route.NoCredential book low last turn less is = omega (arith, is.reached_is)
+reached_within (route.Keyed key) book low last turn less is = omega (arith, is.reached_is, judged_within book low key turn.place is.verdict is.judged)
+
+turns_later : (old new : Book) → Later old new → (low last : ℕ) (turns : List Turn) (high place : ℕ) → AreLawful old low last turns high place → AreLawful new low last turns high place
+turns_later old new later low last [] high place are = are
+turns_later old new later low last (turn ∷ turns) high place are = (lawful_later (route_of turn.request) old new later low last turn are.0, turns_later old new later turn.reached turn.place turns high place are.1)
+
+turns-append : (book : Book) (low last : ℕ) (turns : List Turn) (high place : ℕ) (turn : Turn) → AreLawful book low last turns high place → IsLawful book high place turn → AreLawful book low last (turns ++ turn ∷ []) turn.reached turn.place
+turns-append book low last [] high place turn are is =
+    let first : IsLawful book low last turn = subst (λ (n : ℕ). IsLawful book n last turn) are.0 (subst (λ (n : ℕ). IsLawful book high n turn) are.1 is) in
+    (first, (refl, refl))
+turns-append book low last (t ∷ ts) high place turn are is = (are.0, turns-append book t.reached t.place ts high place turn are.1 is)
+
+splits_trans : (all mid more : Requests) (front back : List Request) → Splits all front mid → Splits mid back more → Splits all (front ++ back) more
+splits_trans all mid more front back a b = record {
+  list = a.list ∙ ap (λ (rs : List Request). front ++ rs) b.list ∙ sym (append_assoc front back more.list);
+  end = a.end ∙ b.end;
+}
+
+-- one more piece of each turn
+more_pieces : {A : Type 0} (f : Turn → List A) (turns : List Turn) (turn : Turn) → flat_map f turns ++ f turn ≡ flat_map f (turns ++ turn ∷ [])
+more_pieces f turns turn = sym (flat_map-append f turns (turn ∷ []) ∙ ap (λ xs. flat_map f turns ++ xs) (append-nil (f turn)))
+
+pub so_far_none : (world : World) (from : ℕ) → from ≡ length world.book.seen → SoFar world world unread from from [] 0 0
+so_far_none world from is = record {
+  turns = [];
+  high = from;
+  high_within = omega arith;
+  lawful = (refl, refl);
+  none_taken = takes_none_refl world.book;
+  places_are = refl;
+  served_is = refl;
+  asked_of = asked_none world.line;
+  forwarded_is = refl;
+  stream = λ input told. (input, told, λ all means. (all, means, record { list = refl; end = refl }));
+  written = λ text told. told ∙ ap Some (sym (append-nil text));
+  reads = omega arith;
+  writes = omega arith;
+  whole = refl;
+}
+
+pub so_far_more : (old now new : World) (reading reading' : Reading) (from last : ℕ) (places : List ℕ) (served forwarded forwarded' place : ℕ) → (s : SoFar old now reading from last places served forwarded)
+    → OneMore s.high last forwarded forwarded' reading reading' now new place
+    → now.inlet.faults ≤ new.inlet.faults → now.outlet.faults ≤ new.outlet.faults → new.inlet.whole ≡ now.inlet.whole → SoFar old new reading' from place (places ++ place ∷ []) (served + 1) forwarded'
+so_far_more old now new reading reading' from last places served forwarded forwarded' place s o reads writes whole = record {
+  turns = s.turns ++ o.turn ∷ [];
+  high = o.turn.reached;
+  high_within = reached_within (route_of o.turn.request) new.book s.high last o.turn (omega (arith, s.high_within, later_longer now.book new.book o.none_taken.later)) o.lawful;
+  lawful = subst (λ (n : ℕ). AreLawful new.book from from (s.turns ++ o.turn ∷ []) o.turn.reached n) o.place_is (turns-append new.book from from s.turns s.high last o.turn (turns_later now.book new.book o.none_taken.later from from s.turns s.high last s.lawful) o.lawful);
+  none_taken = takes_none_trans old.book now.book new.book s.none_taken o.none_taken;
+  places_are = ap (λ (ps : List ℕ). ps ++ place ∷ []) s.places_are ∙ ap (λ (p : ℕ). map (λ (t : Turn). t.place) s.turns ++ p ∷ []) (sym o.place_is) ∙ sym (map-append (λ (t : Turn). t.place) s.turns (o.turn ∷ []));
+  served_is = omega (arith, s.served_is, length-append s.turns (o.turn ∷ []));
+  asked_of = subst (λ (xs : List Ask). AskedOf old.line new.line xs) (more_pieces (λ (t : Turn). t.asked) s.turns o.turn) (asked_trans old.line now.line new.line (flat_map (λ (t : Turn). t.asked) s.turns) o.turn.asked s.asked_of o.asked_of);
+  forwarded_is = o.counts_is ∙ ap (λ (n : ℕ). n + length o.turn.asked) s.forwarded_is ∙ sym (length-append (flat_map (λ (t : Turn). t.asked) s.turns) o.turn.asked) ∙ ap length (more_pieces (λ (t : Turn). t.asked) s.turns o.turn);
+  stream = λ input told.
+      let before = s.stream input told in
+      let after = o.stream before.0 before.1 in (
+        after.0,
+        after.1,
+        λ all means.
+            let first = before.2 all means in
+            let next = after.2 first.0 first.1 in
+            (next.0, next.1, subst (λ (rs : List Request). Splits all rs next.0) (sym (map-append (λ (t : Turn). t.request) s.turns (o.turn ∷ []))) (splits_trans all first.0 next.0 (map (λ (t : Turn). t.request) s.turns) (o.turn.request ∷ []) first.2 next.2)),
+      );
+  written = λ text told. o.written (text ++ flat_map (λ (t : Turn). t.answer) s.turns) (s.written text told)
+      ∙ ap Some (append_assoc text (flat_map (λ (t : Turn). t.answer) s.turns) o.turn.answer ∙ ap (λ (xs : List ℕ). text ++ xs) (more_pieces (λ (t : Turn). t.answer) s.turns o.turn));
+  reads = omega (arith, s.reads, reads);
+  writes = omega (arith, s.writes, writes);
+  whole = whole ∙ s.whole;
+}
+
+rose_from : (a b c : ℕ) → a ≤ b → b ≤ c → Rose b c → Rose a c
+rose_from a b c le less rose = λ small. elim (cases_lt b 18446744073709551615) [ inl under ↦ (let r : b < c = rose under in omega arith) | inr big ↦ omega arith ]
+
+-- a count that rose since a later moment rose since an earlier one
+cause_from : (e : End) (i i1 i2 : Inlet) (o o1 o2 : Outlet) → i.faults ≤ i1.faults → i1.faults ≤ i2.faults → o.faults ≤ o1.faults → o1.faults ≤ o2.faults → CauseAt e i1 i2 o1 o2 → CauseAt e i i2 o o2
+cause_from end.ReadFault i i1 i2 o o1 o2 ri ri2 ro ro2 l = rose_from i.faults i1.faults i2.faults ri ri2 l
+cause_from end.WriteFault i i1 i2 o o1 o2 ri ri2 ro ro2 l = rose_from o.faults o1.faults o2.faults ro ro2 l
+cause_from end.Done i i1 i2 o o1 o2 ri ri2 ro ro2 l = tt
+cause_from (end.Refused status at) i i1 i2 o o1 o2 ri ri2 ro ro2 l = tt
+cause_from (end.CutOff n) i i1 i2 o o1 o2 ri ri2 ro ro2 l = tt
+cause_from end.Spent i i1 i2 o o1 o2 ri ri2 ro ro2 l = tt
+cause_from end.Memory i i1 i2 o o1 o2 ri ri2 ro ro2 l = tt
+
+pub served_when : (old now new : World) (reading : Reading) (from last : ℕ) (places : List ℕ) (served forwarded forwarded' : ℕ) (e : End) → from ≡ length old.book.seen → (s : SoFar old now reading from last places served forwarded)
+    → (o : Stops s.high last forwarded forwarded' reading now new e) → served < limit → now.inlet.faults ≤ new.inlet.faults → now.outlet.faults ≤ new.outlet.faults → Served old new e from places served forwarded'
+served_when old now new reading from last places served forwarded forwarded' e is s o less reads writes = record {
+  turns = s.turns;
+  hand = o.hand;
+  high = s.high;
+  last = last;
+  from_is = is;
+  none_taken = takes_none_trans old.book now.book new.book s.none_taken o.none_taken;
+  lawful = turns_later now.book new.book o.none_taken.later from from s.turns s.high last s.lawful;
+  in_hand = o.lawful;
+  places_are = s.places_are;
+  served_is = s.served_is;
+  asked_of = asked_trans old.line now.line new.line (flat_map (λ (t : Turn). t.asked) s.turns) (asked_in o.hand) s.asked_of o.asked_of;
+  forwarded_is = o.counts_is ∙ ap (λ (n : ℕ). n + length (asked_in o.hand)) s.forwarded_is ∙ sym (length-append (flat_map (λ (t : Turn). t.asked) s.turns) (asked_in o.hand));
+  stream = λ input told all means.
+      let before = s.stream input told in
+      let first = before.2 all means in
+      let after = o.stream before.0 before.1 first.0 first.1 in
+      (after.0, splits_trans all first.0 after.0 (map (λ (t : Turn). t.request) s.turns) (request_in o.hand) first.2 after.1, after.2);
+  written = λ text told. o.written (text ++ flat_map (λ (t : Turn). t.answer) s.turns) (s.written text told);
+  hand_at = o.hand_at;
+  cause = cause_from e old.inlet now.inlet new.inlet old.outlet now.outlet new.outlet s.reads reads s.writes writes o.cause;
+  count = o.count served less;
+}
+
+pub served_spent : (old now : World) (reading : Reading) (from last : ℕ) (places : List ℕ) (forwarded : ℕ) → from ≡ length old.book.seen → SoFar old now reading from last places limit forwarded
+    → Served old now end.Spent from places limit forwarded
+served_spent old now reading from last places forwarded is s = record {
+  turns = s.turns;
+  hand = Nothing;
+  high = s.high;
+  last = last;
+  from_is = is;
+  none_taken = s.none_taken;
+  lawful = s.lawful;
+  in_hand = tt;
+  places_are = s.places_are;
+  served_is = s.served_is;
+  asked_of = subst (λ (xs : List Ask). AskedOf old.line now.line xs) (sym (append-nil (flat_map (λ (t : Turn). t.asked) s.turns))) s.asked_of;
+  forwarded_is = s.forwarded_is ∙ ap length (sym (append-nil (flat_map (λ (t : Turn). t.asked) s.turns)));
+  stream = λ input told all means.
+      let first = (s.stream input told).2 all means in
+      (first.0, subst (λ (rs : List Request). Splits all rs first.0) (sym (append-nil (map (λ (t : Turn). t.request) s.turns))) first.2, tt);
+  written = λ text told. s.written text told ∙ ap Some (sym (append-nil (text ++ flat_map (λ (t : Turn). t.answer) s.turns)));
+  hand_at = tt;
+  cause = tt;
+  count = refl;
+}
+
+-- with nothing in hand and nothing more, the front is all
+front_all : (all : Requests) (front back : List Request) (more : Requests) → Splits all (front ++ back) more → back ≡ [] → more.list ≡ [] → length front ≡ length all.list
+front_all all front back more split none over = omega (arith, ap length split.list, length-append (front ++ back) more.list, length-append front back, ap length none, ap length over)
+
+front_le : (all : Requests) (front back : List Request) (more : Requests) → Splits all (front ++ back) more → length front ≤ length all.list
+front_le all front back more split = omega (arith, ap length split.list, length-append (front ++ back) more.list, length-append front back)
+
+bare_done : (hand : InHand) → HandAt end.Done hand → request_in hand ≡ []
+bare_done Nothing h = refl
+bare_done (Refusing why at) h = refl
+bare_done (Answering turn) h = absurd h
+bare_done (Broken turn) h = absurd h
+bare_done NoRoom h = refl
+
+bare_cut : (n : ℕ) (hand : InHand) → HandAt (end.CutOff n) hand → request_in hand ≡ []
+bare_cut n Nothing h = refl
+bare_cut n (Refusing why at) h = refl
+bare_cut n (Answering turn) h = absurd h
+bare_cut n (Broken turn) h = absurd h
+bare_cut n NoRoom h = refl
+
+-- Where no count rises, every request is answered and the end is the stream's, or memory ran out.
+complete_refused : (status at : ℕ) (hand : InHand) → HandAt (end.Refused status at) hand → (turns : List Turn) (served : ℕ) → served ≡ length turns → (all more : Requests)
+    → Splits all (map (λ (t : Turn). t.request) turns ++ request_in hand) more → StreamAt (end.Refused status at) hand more → Complete all (end.Refused status at) served
+complete_refused status at (Refusing why place) h turns served is all more split ends =
+    let long = front_all all (map (λ (t : Turn). t.request) turns) [] more split refl ends.0 in
+    record { all = is ∙ sym (length-map turns (λ (t : Turn). t.request)) ∙ long; ends = (why, h.0, split.end ∙ ends.1 ∙ ap (Bad why) h.1) }
+complete_refused status at Nothing h turns served is all more split ends = absurd h
+complete_refused status at (Answering turn) h turns served is all more split ends = absurd h
+complete_refused status at (Broken turn) h turns served is all more split ends = absurd h
+complete_refused status at NoRoom h turns served is all more split ends = absurd h
+
+pub complete_when : (old new : World) (e : End) (from : ℕ) (places : List ℕ) (served forwarded : ℕ) → Served old new e from places served forwarded → (input : List ℕ) (all : Requests) → old.inlet.left ≡ Some input → IsStream 0 input all
+    → length all.list < limit → Stands old.inlet.faults new.inlet.faults → Stands old.outlet.faults new.outlet.faults → (e ≡ end.Memory) ⊎ Complete all e served
+complete_when old new end.Done from places served forwarded s input all told means few reads writes =
+    let st = s.stream input told all means in
+    let long = front_all all (map (λ (t : Turn). t.request) s.turns) (request_in s.hand) st.0 st.1 (bare_done s.hand s.hand_at) st.2.0 in
+    inr (record { all = s.served_is ∙ sym (length-map s.turns (λ (t : Turn). t.request)) ∙ long; ends = subst IsOver (sym st.1.end) st.2.1 })
+complete_when old new (end.CutOff n) from places served forwarded s input all told means few reads writes =
+    let st = s.stream input told all means in
+    let long = front_all all (map (λ (t : Turn). t.request) s.turns) (request_in s.hand) st.0 st.1 (bare_cut n s.hand s.hand_at) st.2.0 in
+    inr (record { all = s.served_is ∙ sym (length-map s.turns (λ (t : Turn). t.request)) ∙ long; ends = st.1.end ∙ st.2.1 })
+complete_when old new (end.Refused status at) from places served forwarded s input all told means few reads writes =
+    let st = s.stream input told all means in
+    inr (complete_refused status at s.hand s.hand_at s.turns served s.served_is all st.0 st.1 st.2)
+complete_when old new end.Memory from places served forwarded s input all told means few reads writes = inl refl
+complete_when old new end.ReadFault from places served forwarded s input all told means few reads writes =
+    let rose : old.inlet.faults < new.inlet.faults = s.cause reads.small in absurd (omega (arith, reads.same))
+complete_when old new end.WriteFault from places served forwarded s input all told means few reads writes =
+    let rose : old.outlet.faults < new.outlet.faults = s.cause writes.small in absurd (omega (arith, writes.same))
+complete_when old new end.Spent from places served forwarded s input all told means few reads writes =
+    let st = s.stream input told all means in
+    let requests : List Request = map (λ (t : Turn). t.request) s.turns in
+    let mapped : length requests ≡ length s.turns = length-map s.turns (λ (t : Turn). t.request) in
+    let le : length requests ≤ length all.list = front_le all requests (request_in s.hand) st.0 st.1 in
+    let spent : served ≡ 1000000 = s.count in
+    absurd (omega (arith, few, s.served_is))

@@ -1,5 +1,0 @@
-use Rattle.std.proofs.Common.{length}
-use Rattle.cloud_serve.proofs.texts.+put_numbers.Given as goal
-
-abbrev pub decreases-put_numbers : goal.decreases-put_numbers
-decreases-put_numbers l = length l.numbers.now
