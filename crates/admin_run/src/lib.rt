@@ -1,7 +1,7 @@
 //! What the program does with its words, its input and its output.
 #![tactic(auto)]
 
-mod run;
+mod program;
 mod words;
 
-pub use run::{Ran, USAGE, World, run};
+pub use program::{Ran, USAGE, World, run};

@@ -9,7 +9,7 @@ use std::alloc::{AllocError, Global};
 use thiserror::Error;
 
 /// What went otherwise.
-#[derive(Debug, Error)]
+#[derive(Debug, Drop, Error)]
 pub enum Difference {
     #[error("the answer is equal up to byte {equal}, of {wanted}; {came} came")]
     Answered {
@@ -85,7 +85,7 @@ fn compared(
 fn source(alloc: Global, conversation: &Conversation) -> Result<MemSource, AllocError> {
     let bytes = conversation.sent.clone()?;
     match conversation.gives {
-        Some(most) => Ok(MemSource::stingy(alloc, bytes, most)),
+        Some(most) => Ok(MemSource::stingy(alloc, bytes, most.max(1))),
         None => {
             let fails = List::new(conversation.source_fails.clone()?);
             Ok(MemSource::new(bytes, fails))
@@ -103,7 +103,7 @@ fn grain_answers(alloc: Global, conversation: &Conversation) -> Result<List<Answ
 }
 
 // Plays a conversation with a link: what was written, the link, and the status.
-fn played<L: Link>(
+fn played<L: Link + Drop>(
     alloc: Global,
     conversation: &Conversation,
     link: L,

@@ -46,8 +46,8 @@ fn read_setting(
             Err(_) => return Ok(false),
         },
         "gives" => match value.parse::<usize>() {
-            Ok(most) => conversation.gives = Some(most),
-            Err(_) => return Ok(false),
+            Ok(most) if most > 0 => conversation.gives = Some(most),
+            _ => return Ok(false),
         },
         _ => {
             let Some(calls) = numbers(alloc, value)? else {
