@@ -1,5 +1,7 @@
-//! Tests of what passes between a client and a grain, against worked rows.
+//! Tests of what passes between a client and a grain, and of the links in memory, against worked rows.
 #![tactic(auto)]
 
 #[cfg(test)]
 mod answers;
+#[cfg(test)]
+mod links;
