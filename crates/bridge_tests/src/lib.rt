@@ -5,3 +5,5 @@
 mod answers;
 #[cfg(test)]
 mod links;
+#[cfg(test)]
+mod texts;
