@@ -32,9 +32,10 @@ one_found bytes None (Some b) has_a has_b = absurd (has_a b has_b)
 one_found bytes (Some a) None has_a has_b = absurd (has_b a has_a)
 one_found bytes (Some a) (Some b) has_a has_b = ap (λ (h : Head). Some h) (one_head bytes a b has_a has_b)
 
-pub one_outcome : (bytes : List ℕ) (head_only : Bool) (a b : Result (List ℕ) RelayFault) → Relays bytes head_only a → Relays bytes head_only b → a ≡ b
-one_outcome bytes head_only a b is_a is_b =
-    sym is_a.is ∙ ap (λ (found : Option Head). relay found bytes head_only) (one_found bytes is_a.found is_b.found is_a.has is_b.has) ∙ is_b.is
+relays_found : (answer bytes : List ℕ) (found : Option Head) (head_only : Bool) (outcome : Result (List ℕ) RelayFault) → bytes ≡ answer → HasHead bytes found → relay found bytes head_only ≡ outcome
+    → Relays answer head_only outcome
+relays_found answer bytes found head_only outcome same has is =
+    subst (λ (xs : List ℕ). Relays xs head_only outcome) same (record { found = found; has = has; only = λ other has_other. one_found bytes other found has_other has; is = is })
 
 -- an answer that ends where it has to
 pub relayed_to : (head : Head) (bytes body text : List ℕ) (head_only : Bool) (end : ℕ) (r : Result ℕ RelayFault) → r ≡ end_of head → r ≡ Ok end → length bytes ≡ end → body ≡ drop head.size bytes
@@ -60,7 +61,7 @@ has_head bytes size spans within run are =
 pub relays_some : (answer bytes : List ℕ) (size : ℕ) (spans : HeadSpans) (head_only : Bool) (outcome : Result (List ℕ) RelayFault) → bytes ≡ answer → size ≤ length bytes → run_length bytes ≡ Some size
     → AreSpansOf (take size bytes) spans → relay (Some (head_of (take size bytes) spans)) bytes head_only ≡ outcome → Relays answer head_only outcome
 relays_some answer bytes size spans head_only outcome same within run are is =
-    subst (λ (xs : List ℕ). Relays xs head_only outcome) same (record { found = Some (head_of (take size bytes) spans); has = has_head bytes size spans within run are; is = is })
+    relays_found answer bytes (Some (head_of (take size bytes) spans)) head_only outcome same (has_head bytes size spans within run are) is
 
 pub if_ok_weaker : {T E : Type 0} {P Q : T → Type 0} (r : Result T E) → ((x : T) → P x → Q x) → IfOk r P → IfOk r Q
 if_ok_weaker (Ok x) step h = step x h

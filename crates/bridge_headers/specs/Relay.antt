@@ -107,8 +107,10 @@ abbrev pub relay : Option Head → List ℕ → Bool → Result (List ℕ) Relay
 relay None bytes head_only = Err (BadAnswer 0)
 relay (Some head) bytes head_only = relay_to head (end_of head) bytes head_only
 
--- What is relayed of an answer, or why nothing is. There is one such outcome, since an answer has one head or none.
+-- What is relayed of an answer, or why nothing is: by its head, or none, which is the only one that it has. So there is one
+-- such outcome.
 pub record Relays (bytes : List ℕ) (head_only : Bool) (outcome : Result (List ℕ) RelayFault) : Type 0 where
   pub found : Option Head
   pub has : HasHead bytes found
+  pub only : (other : Option Head) → HasHead bytes other → other ≡ found
   pub is : relay found bytes head_only ≡ outcome

@@ -139,9 +139,6 @@ fn relay_by(
 pub fn answer_text(alloc: Global, answer: &Answer, head_only: bool) -> Result<Vec<u8>, RelayFault>
     ensures relayed { IfOk result (λ text. Relays answer.now head_only (Ok text.items)) }
     ensures refused { IfErr result (λ fault. fault ≢ RelayFault.Memory → Relays answer.now head_only (Err fault)) }
-
-    // An answer has one outcome alone.
-    ensures one { (a b : Result (List ℕ) RelayFault) → Relays answer.now head_only a → Relays answer.now head_only b → a ≡ b }
 {
     let bytes = answer.as_slice();
     let Some(size) = run_end(bytes) else {

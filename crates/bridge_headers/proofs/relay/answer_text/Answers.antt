@@ -1,14 +1,8 @@
 use Rattle.std.proofs.Common.{rules, ◌≡◌, Ok, Err, Some, take, sym, ◌∙◌}
 use Rattle.bridge_headers.specs.Relay.{run_length}
 use Rattle.bridge_headers.specs.Spans.{AreSpansOf}
-use Rattle.bridge_headers.proofs.Relayed.{one_outcome, relays_some, if_ok_weaker, if_err_weaker}
+use Rattle.bridge_headers.proofs.Relayed.{relays_some, if_ok_weaker, if_err_weaker}
 use Rattle.bridge_headers.proofs.relay.answer_text.Goals as goal
-
-pub returns-in_default-read_head-clause-one : goal.returns-in_default-read_head-clause-one
-returns-in_default-read_head-clause-one c = one_outcome c.args.answer.now c.args.head_only
-
-pub returns-in-Some-found-clause-one : goal.returns-in-Some-found-clause-one
-returns-in-Some-found-clause-one c = one_outcome c.args.answer.now c.args.head_only
 
 pub returns-in-Some-found-clause-relayed : goal.returns-in-Some-found-clause-relayed
 returns-in-Some-found-clause-relayed c =
