@@ -1,0 +1,194 @@
+//! Plays worked rows of `front_http`, one a line of the input: what a stream gives however it is cut, what a request is for, what a
+//! target passes on, and the texts of answers.
+#![tactic(auto)]
+
+ghost use Rattle.std.specs.Prelude.{◌<◌};
+
+use front_http::{RequestReader, Routes, memory_reply, refusal_body, reply_text, use_target};
+use host_base::{Fails, MemSource, Request, Source};
+use std::alloc::{AllocError, Global};
+use std::io;
+
+// The bytes of a text in which `\r`, `\n` and `\0` stand for the bytes that they name.
+fn bytes_of(alloc: Global, text: &str) -> Result<Vec<u8>, AllocError> {
+    let mut bytes = Vec::new(alloc);
+    let mut escaped = false;
+    for byte in text.as_bytes() {
+        if escaped {
+            let named = match byte {
+                b'r' => b'\r',
+                b'n' => b'\n',
+                b'0' => 0,
+                _ => *byte,
+            };
+            bytes.push(named)?;
+            escaped = false;
+        } else if *byte == b'\\' {
+            escaped = true;
+        } else {
+            bytes.push(*byte)?;
+        }
+    }
+    Ok(bytes)
+}
+
+// What a request is, in a few words.
+fn shown(alloc: Global, request: &Request) -> Result<String, AllocError> {
+    let host = str::from_utf8(request.host.as_slice()).unwrap_or("?");
+    let body = request.body.len();
+    let bearer = if request.bearer.is_some() {
+        ", of a bearer"
+    } else {
+        ""
+    };
+    let last = if request.last { ", the last" } else { "" };
+    format!(in alloc;
+        "{} {} at {host} with {body} bytes{bearer}{last}; ",
+        request.method.as_str(),
+        request.target.as_str()
+    )
+}
+
+// The requests of a source, at most ten, and how it ends.
+fn told<I: Source>(alloc: Global, input: &mut I) -> Result<String, AllocError> {
+    let mut reader = RequestReader::new(alloc);
+    let mut text = String::new(alloc);
+    for _ in 0..10u8 {
+        let line = match reader.next(alloc, input) {
+            Ok(Some(request)) => shown(alloc, &request)?,
+            Ok(None) => {
+                text.push_str("done")?;
+                return Ok(text);
+            }
+            Err(fault) => {
+                let line = format!(in alloc; "{fault:?}")?;
+                text.push_str(line.as_str())?;
+                return Ok(text);
+            }
+        };
+        text.push_str(line.as_str())?;
+    }
+    Ok(text)
+}
+
+// The same of these bytes, at most so many of which come in a piece.
+fn told_in_pieces(alloc: Global, stream: &[u8], most: usize) -> Result<String, AllocError>
+    requires { 0 < most }
+{
+    let mut input = MemSource::stingy(alloc, Vec::from_slice(alloc, stream)?, most);
+    told(alloc, &mut input)
+}
+
+// The same in pieces of three lengths; what they differ in is shown.
+fn told_anyhow(alloc: Global, stream: &[u8]) -> Result<String, AllocError> {
+    let whole = told_in_pieces(alloc, stream, 1_000_000)?;
+    let pieces = told_in_pieces(alloc, stream, 7)?;
+    let bytes = told_in_pieces(alloc, stream, 1)?;
+    if whole.as_str() == pieces.as_str() && pieces.as_str() == bytes.as_str() {
+        Ok(whole)
+    } else {
+        format!(in alloc; "{whole} | {pieces} | {bytes}")
+    }
+}
+
+// A text so many times between two others, all three with `|` between them.
+fn repeated(alloc: Global, count: usize, texts: &str) -> Result<Vec<u8>, AllocError> {
+    let (piece, others) = texts.split_once('|').unwrap_or((texts, ""));
+    let (front, back) = others.split_once('|').unwrap_or((others, ""));
+    let piece = bytes_of(alloc, piece)?;
+    let back = bytes_of(alloc, back)?;
+    let mut bytes = bytes_of(alloc, front)?;
+    for _ in 0..count {
+        bytes.extend_from_slice(&piece)?;
+    }
+    bytes.extend_from_slice(&back)?;
+    Ok(bytes)
+}
+
+// The answers of a reader over a source that fails at its second call.
+fn told_of_faults(alloc: Global, stream: &[u8]) -> Result<String, AllocError> {
+    let mut second = Vec::new(alloc);
+    second.push(2)?;
+    let mut input = MemSource::new(Vec::from_slice(alloc, stream)?, Fails::new(second));
+    let mut reader = RequestReader::new(alloc);
+    let first = reader.next(alloc, &mut input).err();
+    let again = reader.next(alloc, &mut input).err();
+    format!(in alloc; "{first:?} {again:?} {}", input.faults())
+}
+
+// What a request to a host with this line is for.
+fn route_of(alloc: Global, routes: &Routes, host: &str, line: &str) -> Result<String, AllocError> {
+    let head = format!(in alloc; "{line} HTTP/1.1\r\nHost: {host}\r\n\r\n")?;
+    let bytes = Vec::from_slice(alloc, head.as_bytes())?;
+    let mut input = MemSource::new(bytes, Fails::new(Vec::new(alloc)));
+    match RequestReader::new(alloc).next(alloc, &mut input) {
+        Ok(Some(request)) => format!(in alloc; "{:?}", routes.route(&request)),
+        _ => String::from_str(alloc, "no request"),
+    }
+}
+
+fn passed_on(alloc: Global, target: &str) -> Result<String, AllocError> {
+    match use_target(alloc, target) {
+        Ok(Some(text)) => format!(in alloc; "{:?}", text.as_str()),
+        Ok(None) => String::from_str(alloc, "none"),
+        Err(_) => Err(AllocError),
+    }
+}
+
+// The refusal of this name and these numbers.
+fn refusal(
+    alloc: Global,
+    name: &str,
+    numbers: &[u64],
+    head_only: bool,
+) -> Result<String, AllocError> {
+    let Ok(body) = refusal_body(alloc, name, numbers) else {
+        return Err(AllocError);
+    };
+    let Ok(reply) = reply_text(alloc, 403, false, body.as_slice(), head_only) else {
+        return Err(AllocError);
+    };
+    format!(in alloc; "{:?}", str::from_utf8(&reply))
+}
+
+// An answer of plain text.
+fn plain(alloc: Global, text: &str) -> Result<String, AllocError> {
+    let Ok(reply) = reply_text(alloc, 200, true, text.as_bytes(), false) else {
+        return Err(AllocError);
+    };
+    format!(in alloc; "{:?}", str::from_utf8(&reply))
+}
+
+// What a line of the input gives.
+fn played(alloc: Global, routes: &Routes, word: &str, rest: &str) -> Result<String, AllocError> {
+    let (first, second) = rest.split_once(' ').unwrap_or((rest, ""));
+    match word {
+        "stream" => told_anyhow(alloc, bytes_of(alloc, rest)?.as_slice()),
+        "repeat" => {
+            let count = first.parse::<usize>().unwrap_or(0);
+            told_anyhow(alloc, repeated(alloc, count, second)?.as_slice())
+        }
+        "fault" => told_of_faults(alloc, bytes_of(alloc, rest)?.as_slice()),
+        "route" => route_of(alloc, routes, first, second),
+        "use" => passed_on(alloc, rest),
+        "refusal" => refusal(alloc, rest, &[3, 1], false),
+        "head" => refusal(alloc, rest, &[], true),
+        "plain" => plain(alloc, rest),
+        "memory" => format!(in alloc; "{:?}", str::from_utf8(memory_reply(rest == "head"))),
+        _ => String::from_str(alloc, "no such word"),
+    }
+}
+
+fn main(rt: HostRuntime) -> io::Result<()> {
+    let alloc = rt.alloc();
+    let Ok(routes) = Routes::new(alloc) else {
+        return Ok(());
+    };
+    for line in rt.lines(alloc) {
+        let line = line?;
+        let (word, rest) = line.split_once(' ').unwrap_or((line.as_str(), ""));
+        let text = played(alloc, &routes, word, rest)?;
+        println!(rt; "{line}\n    {text}")?;
+    }
+    Ok(())
+}
