@@ -1,37 +1,15 @@
 ghost use Rattle.std.specs.Prelude.{◌≡◌, ◌↔◌, IsTrue, All};
-ghost use Rattle.share_graph.specs.Known.{HasAccount, HasApp, HasGrain, HasGrant, KnowsNode, KnowsGiver, KnowsTarget, KnowsNeed, KnowsOfGrain, KnowsOfGrant, KnowsOfSaved};
+ghost use Rattle.share_graph.specs.Known.{HasApp, KnowsNode, KnowsGiver, KnowsTarget, KnowsNeed, KnowsOfGrain, KnowsOfGrant, KnowsOfSaved};
 
-use crate::facts::Node;
-use crate::finders::{account, app, grain, grant};
-use crate::grants::{Giver, Grant, Need, Target};
-use crate::rows::{Grain, Saved};
-use crate::state::Tables;
-use host_base::{AccountId, AppId, GrainId, GrantId};
-
-/// Whether the account of a number is there.
-pub fn has_account(tables: &Tables, num: AccountId) -> bool
-    ensures { IsTrue result ↔ HasAccount tables.now num }
-{
-    account(tables, num).is_some()
-}
+use host_base::AppId;
+use share_graph::{
+    Giver, Grain, Grant, Need, Node, Saved, Tables, Target, app, has_account, has_grain, has_grant,
+};
 
 fn has_app(tables: &Tables, num: AppId) -> bool
     ensures { IsTrue result ↔ HasApp tables.now num }
 {
     app(tables, num).is_some()
-}
-
-/// Whether the grain of a number is there.
-pub fn has_grain(tables: &Tables, num: GrainId) -> bool
-    ensures { IsTrue result ↔ HasGrain tables.now num }
-{
-    grain(tables, num).is_some()
-}
-
-fn has_grant(tables: &Tables, num: GrantId) -> bool
-    ensures { IsTrue result ↔ HasGrant tables.now num }
-{
-    grant(tables, num).is_some()
 }
 
 fn knows_node(tables: &Tables, node: Node) -> bool
@@ -81,14 +59,14 @@ fn knows_needs(tables: &Tables, needs: &[Need]) -> bool
 }
 
 /// Whether every row that a grain names is there.
-pub fn knows_of_grain(tables: &Tables, grain: &Grain) -> bool
+pub(crate) fn knows_of_grain(tables: &Tables, grain: &Grain) -> bool
     ensures { IsTrue result ↔ KnowsOfGrain tables.now grain.now }
 {
     has_app(tables, grain.app) && has_account(tables, grain.owner)
 }
 
 /// Whether every row that a grant names is there.
-pub fn knows_of_grant(tables: &Tables, grant: &Grant) -> bool
+pub(crate) fn knows_of_grant(tables: &Tables, grant: &Grant) -> bool
     ensures { IsTrue result ↔ KnowsOfGrant tables.now grant.now }
 {
     has_grain(tables, grant.grain)
@@ -98,7 +76,7 @@ pub fn knows_of_grant(tables: &Tables, grant: &Grant) -> bool
 }
 
 /// Whether every row that a saved reference names is there.
-pub fn knows_of_saved(tables: &Tables, saved: &Saved) -> bool
+pub(crate) fn knows_of_saved(tables: &Tables, saved: &Saved) -> bool
     ensures { IsTrue result ↔ KnowsOfSaved tables.now saved.now }
 {
     has_grain(tables, saved.holder) && has_grant(tables, saved.grant)
