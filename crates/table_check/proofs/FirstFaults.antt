@@ -74,3 +74,10 @@ pub last_tells : (t : Tables) (r : Result (Unit {0}) GraphFault) → HaveNoFault
     → HaveNoFault t.grants (GrantFault t) → MatchResult r (λ _. HaveNoFault t.saved (SavedFault t)) (IsFirstFault t.saved (SavedFault t)) → MatchResult r (λ _. IsChecked t) (λ fault. TablesFault t (Some fault))
 last_tells t (Ok u) accounts apps grains grants saved = record { accounts = accounts; apps = apps; grains = grains; grants = grants; saved = saved }
 last_tells t (Err fault) accounts apps grains grants saved = of_saved t fault accounts apps grains grants saved
+
+-- tables with a first fault aren't checked
+pub fault_refutes : (t : Tables) (fault : GraphFault) → TablesFault t (Some fault) → IsChecked t → ⊥
+fault_refutes t fault has checked =
+    let none : TablesFault t None = inr (checked.accounts, inr (checked.apps, inr (checked.grains, inr (checked.grants, checked.saved)))) in
+    let odd : Some fault ≡ None = (tables_one t).one (Some fault) None has none in
+    cc

@@ -2,20 +2,10 @@ ghost use Rattle.std.specs.Prelude.{◌≡◌, ◌≢◌, ◌↔◌, IsTrue, All
 ghost use Rattle.std.specs.List.{list_all};
 ghost use Rattle.share_graph.specs.Fresh.{NoLogin, NoToken, NoReference, IsFreshLogin, IsNewToken, IsFreshToken, IsFreshReference, IsFreshHandle, is_small_letter, is_handle_byte, is_handle};
 
+use crate::places::rows_before;
 use host_base::Digest;
 use plain_data::Name;
 use share_graph::{Account, Grant, Saved, Tables};
-
-/// The rows before a place, which are all of them where it is past their end.
-pub(crate) fn rows_before<T>(rows: &[T], place: usize) -> &[T]
-    ensures { result.now ≡ take place rows.now }
-{
-    if place <= rows.len() {
-        &rows[..place]
-    } else {
-        rows
-    }
-}
 
 fn is_other_login(account: &Account, digest: &Digest) -> bool
     ensures { IsTrue result ↔ (account.now.login ≢ digest.now) }
