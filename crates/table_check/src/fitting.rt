@@ -1,49 +1,20 @@
 ghost use Rattle.std.specs.Prelude.{◌≡◌, ◌≤◌, ◌↔◌, IsTrue, All, Some, None, true, length};
-ghost use Rattle.std.specs.List.{list_all};
 ghost use Rattle.app_manifest.specs.Checks.{double_name, second_that};
-ghost use Rattle.app_manifest.specs.Text.{is_permission_byte, is_permission_name};
+ghost use Rattle.app_manifest.specs.Text.{is_permission_name};
 ghost use Rattle.perm_roles.specs.PermSet.{IsWithin};
-ghost use Rattle.perm_roles.specs.Roles.{IsListed};
 ghost use Rattle.share_graph.specs.Fitting.{IsSoundManifest, SetFits, IsAssignmentFor, AssignmentFits, HolderSetFits, NeedSetFits, SetsFit, TokenFits, SharesWell, IsReference};
 
-use crate::asking::app_of;
-use crate::facts::Node;
-use crate::finders::grant as find_grant;
-use crate::grants::{Grant, Need, Target};
-use crate::rows::Saved;
-use crate::state::Tables;
-use app_manifest::{Manifest, PermissionDef, double_name, second_default};
-use host_base::{Digest, GrainId, Name};
-use perm_roles::{Assignment, Base, PermSet, Role};
-
-fn permission_byte(byte: u8) -> bool
-    ensures { result ≡ is_permission_byte byte }
-{
-    byte.is_ascii_alphanumeric() || byte == b'-' || byte == b'_'
-}
-
-fn permission_bytes(text: &[u8]) -> bool
-    ensures { result ≡ list_all is_permission_byte text.now }
-{
-    text.iter().all(|byte| permission_byte(*byte))
-}
-
-fn permission_text(text: &[u8]) -> bool
-    ensures { result ≡ is_permission_name text.now }
-{
-    1 <= text.len() && text.len() <= 64 && permission_bytes(text)
-}
-
-fn permission_name(name: &Name) -> bool
-    ensures { result ≡ is_permission_name name.now }
-{
-    permission_text(name.as_str().as_bytes())
-}
+use app_manifest::{Manifest, PermissionDef, double_name, is_permission_name, second_default};
+use host_base::{Digest, GrainId};
+use perm_roles::{Assignment, PermSet, Role, is_listed};
+use share_graph::{Grant, Need, Node, Saved, Tables, Target, app_of, grant as find_grant};
 
 fn are_formed(permissions: &[PermissionDef]) -> bool
     ensures { IsTrue result ↔ All (λ def. is_permission_name def.name ≡ true) permissions.now }
 {
-    permissions.iter().all(|def| permission_name(&def.name))
+    permissions
+        .iter()
+        .all(|def| is_permission_name(def.name.as_str()))
 }
 
 fn names_differ(permissions: &[PermissionDef]) -> bool
@@ -52,19 +23,10 @@ fn names_differ(permissions: &[PermissionDef]) -> bool
     double_name(permissions).is_none()
 }
 
-fn is_within(set: &PermSet, permissions: usize) -> bool
-    ensures { IsTrue result ↔ IsWithin set.now permissions }
-{
-    match u8::try_from(permissions) {
-        Ok(count) => set.fits(count),
-        Err(_) => set.fits(64),
-    }
-}
-
 fn roles_fit(roles: &[Role], permissions: usize) -> bool
     ensures { IsTrue result ↔ All (λ role. IsWithin role.perms permissions) roles.now }
 {
-    roles.iter().all(|role| is_within(&role.perms, permissions))
+    roles.iter().all(|role| role.perms.fits(permissions))
 }
 
 fn has_one_default(roles: &[Role]) -> bool
@@ -74,7 +36,7 @@ fn has_one_default(roles: &[Role]) -> bool
 }
 
 /// Whether a manifest is within its limits, with names and sets that fit.
-pub fn manifest_fits(manifest: &Manifest) -> bool
+pub(crate) fn manifest_fits(manifest: &Manifest) -> bool
     ensures { IsTrue result ↔ IsSoundManifest manifest.now }
 {
     let permissions = manifest.permissions.as_slice();
@@ -91,7 +53,7 @@ pub fn manifest_fits(manifest: &Manifest) -> bool
 fn is_within_manifest(set: &PermSet, manifest: &Manifest) -> bool
     ensures { IsTrue result ↔ IsWithin set.now (length manifest.now.permissions) }
 {
-    is_within(set, manifest.permissions.as_slice().len())
+    set.fits(manifest.permissions.as_slice().len())
 }
 
 fn set_fits(tables: &Tables, num: GrainId, set: &PermSet) -> bool
@@ -103,22 +65,10 @@ fn set_fits(tables: &Tables, num: GrainId, set: &PermSet) -> bool
     }
 }
 
-fn is_listed(roles: &[Role], base: Base) -> bool
-    ensures { IsTrue result ↔ IsListed roles.now base }
-{
-    match base {
-        Base::Role(number) => usize::from(number) < roles.len(),
-        Base::NoRole => true,
-        Base::AllAccess => true,
-    }
-}
-
 fn fits_manifest(manifest: &Manifest, assignment: &Assignment) -> bool
     ensures { IsTrue result ↔ IsAssignmentFor manifest.now assignment.now }
 {
-    let permissions = manifest.permissions.as_slice().len();
-    is_within(&assignment.add, permissions)
-        && is_within(&assignment.remove, permissions)
+    assignment.fits(manifest.permissions.as_slice().len())
         && is_listed(manifest.roles.as_slice(), assignment.base)
 }
 
@@ -138,7 +88,7 @@ fn holder_set_fits(tables: &Tables, holder: Node, set: &PermSet) -> bool
         Node::User(num, _) => set_fits(tables, num, set),
         Node::Grant(num) => match find_grant(tables, num) {
             None => false,
-            Some(grant) => set_fits(tables, grant.grain, set),
+            Some(row) => set_fits(tables, row.grain, set),
         },
     }
 }
@@ -160,7 +110,7 @@ fn need_sets_fit(tables: &Tables, needs: &[Need]) -> bool
 }
 
 /// Whether a grant's assignment and the sets of its needs fit their applications.
-pub fn sets_fit(tables: &Tables, grant: &Grant) -> bool
+pub(crate) fn sets_fit(tables: &Tables, grant: &Grant) -> bool
     ensures { IsTrue result ↔ SetsFit tables.now grant.now }
 {
     assignment_fits(tables, grant) && need_sets_fit(tables, grant.needs.as_slice())
@@ -178,18 +128,24 @@ fn token_fits(target: Target, digest: &Option<Digest>) -> bool
 }
 
 /// Whether a grant has a token where it has to, and at most eight needs.
-pub fn shares_well(grant: &Grant) -> bool
+pub(crate) fn shares_well(grant: &Grant) -> bool
     ensures { IsTrue result ↔ SharesWell grant.now }
 {
     token_fits(grant.target, &grant.digest) && grant.needs.as_slice().len() <= 8
 }
 
+fn is_claimed_by(grant: &Grant, holder: GrainId) -> bool
+    ensures { IsTrue result ↔ (grant.now.target ≡ Target.Grain holder) }
+{
+    grant.target == Target::Grain(holder)
+}
+
 /// Whether a saved reference is to a grant that its holder claimed.
-pub fn is_reference(tables: &Tables, saved: &Saved) -> bool
+pub(crate) fn is_reference(tables: &Tables, saved: &Saved) -> bool
     ensures { IsTrue result ↔ IsReference tables.now saved.now }
 {
     match find_grant(tables, saved.grant) {
         None => false,
-        Some(grant) => grant.target == Target::Grain(saved.holder),
+        Some(row) => is_claimed_by(row, saved.holder),
     }
 }

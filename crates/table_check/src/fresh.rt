@@ -1,11 +1,11 @@
-ghost use Rattle.std.specs.Prelude.{◌≡◌, ◌≢◌, ◌≤◌, ◌↔◌, IsTrue, All, Some, length, take};
+ghost use Rattle.std.specs.Prelude.{◌≡◌, ◌≢◌, ◌↔◌, IsTrue, All, Some, take};
 ghost use Rattle.std.specs.List.{list_all};
 ghost use Rattle.share_graph.specs.Fresh.{NoLogin, NoToken, NoReference, IsFreshLogin, IsNewToken, IsFreshToken, IsFreshReference, IsFreshHandle, is_small_letter, is_handle_byte, is_handle};
 
-use crate::grants::Grant;
-use crate::rows::{Account, Saved};
-use crate::state::Tables;
-use host_base::{Digest, Name};
+use crate::places::rows_before;
+use host_base::Digest;
+use plain_data::Name;
+use share_graph::{Account, Grant, Saved, Tables};
 
 fn is_other_login(account: &Account, digest: &Digest) -> bool
     ensures { IsTrue result ↔ (account.now.login ≢ digest.now) }
@@ -46,24 +46,24 @@ fn no_reference(saved: &[Saved], digest: &Digest) -> bool
 }
 
 /// Whether no account before the one at a place has its login.
-pub fn is_fresh_login(tables: &Tables, place: usize, account: &Account) -> bool
-    requires { place ≤ length tables.now.accounts }
+pub(crate) fn is_fresh_login(tables: &Tables, place: usize, account: &Account) -> bool
     ensures { IsTrue result ↔ IsFreshLogin tables.now place account.now }
 {
-    no_login(&tables.accounts.as_slice()[..place], &account.login)
+    no_login(
+        rows_before(tables.accounts.as_slice(), place),
+        &account.login,
+    )
 }
 
 fn is_new_token(tables: &Tables, place: usize, digest: &Digest) -> bool
-    requires { place ≤ length tables.now.grants }
     ensures { IsTrue result ↔ IsNewToken tables.now place digest.now }
 {
     no_login(tables.accounts.as_slice(), digest)
-        && no_token(&tables.grants.as_slice()[..place], digest)
+        && no_token(rows_before(tables.grants.as_slice(), place), digest)
 }
 
 /// Whether no row before the grant at a place has its digest.
-pub fn is_fresh_token(tables: &Tables, place: usize, grant: &Grant) -> bool
-    requires { place ≤ length tables.now.grants }
+pub(crate) fn is_fresh_token(tables: &Tables, place: usize, grant: &Grant) -> bool
     ensures { IsTrue result ↔ IsFreshToken tables.now place grant.now.digest }
 {
     match &grant.digest {
@@ -73,13 +73,12 @@ pub fn is_fresh_token(tables: &Tables, place: usize, grant: &Grant) -> bool
 }
 
 /// Whether no row before the saved reference at a place has its digest.
-pub fn is_fresh_reference(tables: &Tables, place: usize, saved: &Saved) -> bool
-    requires { place ≤ length tables.now.saved }
+pub(crate) fn is_fresh_reference(tables: &Tables, place: usize, saved: &Saved) -> bool
     ensures { IsTrue result ↔ IsFreshReference tables.now place saved.now }
 {
     no_login(tables.accounts.as_slice(), &saved.digest)
         && no_token(tables.grants.as_slice(), &saved.digest)
-        && no_reference(&tables.saved.as_slice()[..place], &saved.digest)
+        && no_reference(rows_before(tables.saved.as_slice(), place), &saved.digest)
 }
 
 fn is_other_handle(account: &Account, handle: &Name) -> bool
@@ -97,11 +96,13 @@ fn no_handle(accounts: &[Account], handle: &Name) -> bool
 }
 
 /// Whether no account before the one at a place has its handle.
-pub fn is_fresh_handle(tables: &Tables, place: usize, account: &Account) -> bool
-    requires { place ≤ length tables.now.accounts }
+pub(crate) fn is_fresh_handle(tables: &Tables, place: usize, account: &Account) -> bool
     ensures { IsTrue result ↔ IsFreshHandle tables.now place account.now }
 {
-    no_handle(&tables.accounts.as_slice()[..place], &account.handle)
+    no_handle(
+        rows_before(tables.accounts.as_slice(), place),
+        &account.handle,
+    )
 }
 
 fn letter(byte: u8) -> bool
@@ -132,7 +133,7 @@ fn has_handle_form(text: &[u8]) -> bool
 }
 
 /// Whether a name has the form of a handle.
-pub fn is_handle_name(name: &Name) -> bool
+pub(crate) fn is_handle_name(name: &Name) -> bool
     ensures { result ≡ is_handle name.now }
 {
     has_handle_form(name.as_str().as_bytes())

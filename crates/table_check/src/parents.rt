@@ -1,22 +1,8 @@
 ghost use Rattle.std.specs.Prelude.{◌≡◌, ◌↔◌, ◌+◌, IsTrue, All};
-ghost use Rattle.share_graph.specs.Parents.{IsNoUser, IsUnclaimed, PassesTo, IsChild, GiverFits, IsOwnNode, HolderFits, NeedFits, HasParent, GiverIsEarlier, NeedIsEarlier, NamesEarlier};
+ghost use Rattle.share_graph.specs.Parents.{IsUnclaimed, PassesTo, IsChild, GiverFits, NeedFits, HasParent, GiverIsEarlier, NeedIsEarlier, NamesEarlier};
 
-use crate::facts::Node;
-use crate::finders::grant as find_grant;
-use crate::grants::{Giver, Grant, Need, Target};
-use crate::state::Tables;
 use host_base::GrantId;
-
-fn is_no_user(target: Target) -> bool
-    ensures { IsTrue result ↔ IsNoUser target }
-{
-    match target {
-        Target::User(_) => false,
-        Target::Bearer { .. } => true,
-        Target::Claim(_) => true,
-        Target::Grain(_) => true,
-    }
-}
+use share_graph::{Giver, Grant, Need, Node, Tables, Target, grant as find_grant, is_own_node};
 
 fn is_unclaimed(target: Target) -> bool
     ensures { IsTrue result ↔ IsUnclaimed target }
@@ -40,12 +26,18 @@ fn passes_to(parent: Target, own: Target) -> bool
     }
 }
 
+fn passes_on(parent: &Grant, grant: &Grant) -> bool
+    ensures { IsTrue result ↔ ((parent.now.grain ≡ grant.now.grain) × PassesTo parent.now.target grant.now.target) }
+{
+    parent.grain == grant.grain && passes_to(parent.target, grant.target)
+}
+
 fn is_child(tables: &Tables, num: GrantId, grant: &Grant) -> bool
     ensures { IsTrue result ↔ IsChild tables.now num grant.now }
 {
     match find_grant(tables, num) {
         None => false,
-        Some(parent) => parent.grain == grant.grain && passes_to(parent.target, grant.target),
+        Some(parent) => passes_on(parent, grant),
     }
 }
 
@@ -56,16 +48,6 @@ fn giver_fits(tables: &Tables, giver: Giver, grant: &Grant) -> bool
         Giver::Account(_) => is_unclaimed(grant.target),
         Giver::Grant(num) => is_child(tables, num, grant),
         Giver::Site { .. } => grant.target == Target::Claim(grant.grain),
-    }
-}
-
-/// Whether a grant is there and goes to no account.
-pub fn is_own_node(tables: &Tables, num: GrantId) -> bool
-    ensures { IsTrue result ↔ IsOwnNode tables.now num }
-{
-    match find_grant(tables, num) {
-        None => false,
-        Some(grant) => is_no_user(grant.target),
     }
 }
 
@@ -89,7 +71,7 @@ fn needs_fit(tables: &Tables, needs: &[Need]) -> bool
 }
 
 /// Whether a grant has a giver that it may have, and needs that name nodes.
-pub fn has_parent(tables: &Tables, grant: &Grant) -> bool
+pub(crate) fn has_parent(tables: &Tables, grant: &Grant) -> bool
     ensures { IsTrue result ↔ HasParent tables.now grant.now }
 {
     giver_fits(tables, grant.giver, grant) && needs_fit(tables, grant.needs.as_slice())
@@ -125,7 +107,7 @@ fn needs_are_earlier(place: usize, needs: &[Need]) -> bool
 }
 
 /// Whether the grants that the grant at a place, from 0, names have smaller numbers.
-pub fn names_earlier(place: usize, grant: &Grant) -> bool
+pub(crate) fn names_earlier(place: usize, grant: &Grant) -> bool
     ensures { IsTrue result ↔ NamesEarlier (place + 1) grant.now }
 {
     giver_is_earlier(place, grant.giver) && needs_are_earlier(place, grant.needs.as_slice())

@@ -1,6 +1,6 @@
 use Rattle.share_graph.specs.Fitting.{IsAssignmentFor}
-use Rattle.share_graph.proofs.Fits.{for_app, for_no_app}
-use Rattle.share_graph.proofs.fitting.assignment_fits.Goals as goal
+use Rattle.table_check.proofs.Fits.{for_app, for_no_app}
+use Rattle.table_check.proofs.fitting.assignment_fits.Goals as goal
 
 pub returns-in-None : goal.returns-in-None
 returns-in-None c = for_no_app c.args.tables.now c.args.grant.now.grain (λ app. IsAssignmentFor app.manifest c.args.grant.now.assignment) c.in-None.ensures

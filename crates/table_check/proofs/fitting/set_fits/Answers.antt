@@ -1,7 +1,7 @@
 use Rattle.std.proofs.Common.{length}
 use Rattle.perm_roles.specs.PermSet.{IsWithin}
-use Rattle.share_graph.proofs.Fits.{for_app, for_no_app}
-use Rattle.share_graph.proofs.fitting.set_fits.Goals as goal
+use Rattle.table_check.proofs.Fits.{for_app, for_no_app}
+use Rattle.table_check.proofs.fitting.set_fits.Goals as goal
 
 pub returns-in-None : goal.returns-in-None
 returns-in-None c = for_no_app c.args.tables.now c.args.num (λ app. IsWithin c.args.set.now (length app.manifest.permissions)) c.in-None.ensures
