@@ -11,7 +11,7 @@ use crate::desk::Desk;
 use crate::ending::{close_with, halt};
 use crate::texts::wants_head;
 use crate::turn::take_turn;
-use front_http::{RequestReader, memory_reply};
+use front_http::{RequestReader, Routes, memory_reply};
 use grain_supervise::Link;
 use host_base::{Memory, Request, Sink, Source, WriteFailed};
 use plain_data::List as Row;
@@ -56,6 +56,7 @@ pub const REQUEST_LIMIT: u64 = 1_000_000;
 // Takes a turn, and writes its answer.
 fn answer_one<O: Sink, D: Desk, L: Link>(
     alloc: Global,
+    routes: &Routes,
     request: &Request,
     last: u64,
     out: &mut O,
@@ -69,7 +70,7 @@ fn answer_one<O: Sink, D: Desk, L: Link>(
     ensures takes { (low : ℕ) → low ≤ length (D.book desk.old).seen → TakesOne low last forwarded.old forwarded.new request.now
         (O.outlet out.old) (O.outlet out.new) (L.line link.old) (L.line link.new) (D.book desk.old) (D.book desk.new) result }
 {
-    match take_turn(alloc, request, last, desk, link, forwarded) {
+    match take_turn(alloc, routes, request, last, desk, link, forwarded) {
         Ok(answered) => match out.put(answered.text.as_slice()) {
             Ok(()) => Ok(answered.place),
             Err(WriteFailed) => Err(End::WriteFault),
@@ -81,6 +82,7 @@ fn answer_one<O: Sink, D: Desk, L: Link>(
 // Reads a request and answers it, or ends the connection.
 fn serve_one<I: Source, O: Sink, D: Desk, L: Link>(
     alloc: Global,
+    routes: &Routes,
     reader: &mut RequestReader,
     places: &mut Vec<u64>,
     last: u64,
@@ -108,7 +110,7 @@ fn serve_one<I: Source, O: Sink, D: Desk, L: Link>(
     }
     match reader.next(alloc, input) {
         Ok(next) => match next {
-            Some(request) => answer_one(alloc, &request, last, out, desk, link, forwarded),
+            Some(request) => answer_one(alloc, routes, &request, last, out, desk, link, forwarded),
             None => Err(End::Done),
         },
         Err(fault) => Err(halt(alloc, fault, out)),
@@ -138,6 +140,15 @@ pub fn serve_conn<I: Source, O: Sink, D: Desk, L: Link>(
         (result.end ≡ End.Memory) ⊎ Complete requests result.end result.served }
 {
     let from = desk.place();
+    let Ok(routes) = Routes::new(alloc) else {
+        return ConnEnd {
+            end: close_with(out, memory_reply(false), End::Memory),
+            from,
+            places: Places::empty(alloc),
+            served: 0,
+            forwarded: 0,
+        };
+    };
     let mut reader = RequestReader::new(alloc);
     let mut places = Vec::new(alloc);
     let mut last = from;
@@ -145,6 +156,7 @@ pub fn serve_conn<I: Source, O: Sink, D: Desk, L: Link>(
     'requests: for served in 0..REQUEST_LIMIT {
         match serve_one(
             alloc,
+            &routes,
             &mut reader,
             &mut places,
             last,
