@@ -112,7 +112,7 @@ cause_from end.ReadFault i i1 i2 o o1 o2 ri ri2 ro ro2 l = rose_from i.faults i1
 cause_from end.WriteFault i i1 i2 o o1 o2 ri ri2 ro ro2 l = rose_from o.faults o1.faults o2.faults ro ro2 l
 cause_from end.Done i i1 i2 o o1 o2 ri ri2 ro ro2 l = tt
 cause_from (end.Refused status at) i i1 i2 o o1 o2 ri ri2 ro ro2 l = tt
-cause_from (end.CutOff n) i i1 i2 o o1 o2 ri ri2 ro ro2 l = tt
+cause_from (end.CutOff n) i i1 i2 o o1 o2 ri ri2 ro ro2 l = l
 cause_from end.Spent i i1 i2 o o1 o2 ri ri2 ro ro2 l = tt
 cause_from end.Memory i i1 i2 o o1 o2 ri ri2 ro ro2 l = tt
 
