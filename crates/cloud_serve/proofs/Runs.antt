@@ -7,7 +7,7 @@ use Rattle.std.specs.List.{flat_map}
 use Rattle.std.proofs.lemmas.Grind.{flat_map-append}
 use Rattle.host_base.specs.Outside.{Inlet, Outlet, Rose}
 use Rattle.host_base.specs.declared.request.Request.{Request}
-use Rattle.front_http.specs.Reading.{Reading, unread, IsRemaining}
+use Rattle.front_http.specs.Reading.{Reading, unread}
 use Rattle.front_http.specs.Stream.{Requests, Bad, IsStream}
 use Rattle.grain_supervise.specs.declared.ask.Ask.{Ask}
 use Rattle.cloud_serve.specs.declared.showing.Showing.{Showing}
@@ -15,13 +15,13 @@ use Rattle.cloud_serve.specs.declared.showing.Showing.TheVariants as showing
 use Rattle.cloud_serve.specs.declared.serve.End.{End}
 use Rattle.cloud_serve.specs.declared.serve.End.TheVariants as end
 use Rattle.cloud_serve.specs.Book.{Book, Later}
-use Rattle.cloud_serve.specs.Effects.{AskedOf, TakesNone}
+use Rattle.cloud_serve.specs.Effects.{AskedOf}
 use Rattle.cloud_serve.specs.Turns.{Turn, IsLawfulBy, IsLawful, AreLawful}
-use Rattle.cloud_serve.specs.Served.{World, InHand, Nothing, Refusing, Answering, Broken, NoRoom, request_in, asked_in, HandAt, CauseAt, IsOver, IsEndOf, StreamAt, Stands, Complete, limit, Splits, Served}
+use Rattle.cloud_serve.specs.Served.{World, InHand, Nothing, Refusing, Answering, Broken, NoRoom, request_in, asked_in, HandAt, CauseAt, IsOver, StreamAt, Stands, Complete, limit, Splits, Served}
 use Rattle.cloud_serve.specs.Serving.{ClosesWith, OneMore, Stops, SoFar}
 use Rattle.cloud_serve.specs.Texts.{memory_text}
 use Rattle.cloud_serve.proofs.Serving.{stops_no_room}
-use Rattle.cloud_serve.proofs.Growth.{later_refl, later_longer, takes_none_refl, takes_none_trans, asked_none, asked_trans, judged_later, judged_within}
+use Rattle.cloud_serve.proofs.Growth.{later_longer, takes_none_refl, takes_none_trans, asked_none, asked_trans, judged_later, judged_within}
 
 -- what was lawful stays so when more is seen
 lawful_later : (r : Showing) (old new : Book) → Later old new → (low last : ℕ) (turn : Turn) → IsLawfulBy r old low last turn → IsLawfulBy r new low last turn

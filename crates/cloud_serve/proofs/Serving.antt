@@ -1,5 +1,5 @@
 -- What serving one request comes to, over plain values.
-use Rattle.std.proofs.Common.{◌≡◌, ℕ, ◌+◌, ◌<◌, ◌≤◌, ◌++◌, Bool, true, false, List, [], ◌∷◌, Option, Some, None, Result, Ok, Err, length, take, refl, sym, ◌∙◌, ap, subst, arith, append-nil, inl, inr}
+use Rattle.std.proofs.Common.{◌≡◌, ℕ, ◌<◌, ◌++◌, Bool, true, false, List, [], ◌∷◌, Option, Some, None, Result, Ok, Err, take, refl, sym, ◌∙◌, ap, subst, arith, append-nil, inl, inr}
 use Rattle.host_base.specs.Outside.{Outlet, Rose}
 use Rattle.host_base.specs.declared.request.Request.{Request}
 use Rattle.front_http.specs.declared.fault.FrontFault.{FrontFault}
@@ -7,16 +7,16 @@ use Rattle.front_http.specs.declared.fault.FrontFault.TheVariants as fault
 use Rattle.front_http.specs.declared.refusal.Refusal.{Refusal}
 use Rattle.front_http.specs.declared.refusal.Refusal.TheVariants as refusal
 use Rattle.front_http.specs.Reading.{Reading, IsRemaining, Gave, Ended, Next, EndsRead, over}
-use Rattle.front_http.specs.Stream.{Requests, Ending, Done, Last, Cut, Bad, none_but}
+use Rattle.front_http.specs.Stream.{Requests, Ending, Bad}
 use Rattle.grain_supervise.specs.Line.{Line}
 use Rattle.cloud_serve.specs.declared.serve.End.{End}
 use Rattle.cloud_serve.specs.declared.serve.End.TheVariants as end
 use Rattle.cloud_serve.specs.Book.{Book}
 use Rattle.cloud_serve.specs.Effects.{AskedOf, TakesNone}
-use Rattle.cloud_serve.specs.Texts.{wants_head, refusal_status, refused_text, memory_text}
+use Rattle.cloud_serve.specs.Texts.{wants_head, refusal_status, memory_text}
 use Rattle.cloud_serve.specs.Taking.{Answers, BreaksOff}
 use Rattle.cloud_serve.specs.Served.{World, InHand, Nothing, Refusing, Answering, Broken, NoRoom, request_in, asked_in, text_in, IsLawfulIn, HandAt, CauseAt, IsOver, IsRefusedIn, StreamAt, WrittenAt, CountAt, limit, Splits}
-use Rattle.cloud_serve.specs.Serving.{ClosesWith, RefusesBy, Halts, TookOne, StopsOne, TakesOne, OneMore, Stops, Steps}
+use Rattle.cloud_serve.specs.Serving.{ClosesWith, RefusesBy, Halts, TookOne, StopsOne, TakesOne, Stops, Steps}
 use Rattle.cloud_serve.proofs.Growth.{takes_none_refl, asked_none}
 
 pub took_one : (low last counted counts : ℕ) (request : Request) (out out' : Outlet) (line line' : Line) (old new : Book) (place : ℕ) (text : List ℕ) → Answers old new line line' counted counts low last request place text

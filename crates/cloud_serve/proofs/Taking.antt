@@ -1,5 +1,5 @@
 -- What taking a turn comes to, over plain values.
-use Rattle.std.proofs.Common.{◌≡◌, ◌≢◌, ℕ, ◌+◌, ◌≤◌, Bool, List, [], ◌∷◌, Option, Some, Result, Ok, Err, IfOk, length, codes, refl, sym, ◌∙◌, ap, subst, arith, inl, inr}
+use Rattle.std.proofs.Common.{◌≡◌, ℕ, ◌≤◌, Bool, List, [], ◌∷◌, Option, Result, Ok, Err, IfOk, length, codes, refl, ◌∙◌, ap, subst, arith, inl, inr}
 use Rattle.host_base.specs.declared.bytes.Memory.{Memory}
 use Rattle.host_base.specs.declared.ids.GrainId.{GrainId}
 use Rattle.host_base.specs.declared.ids.RunId.{RunId}
@@ -15,11 +15,11 @@ use Rattle.grain_supervise.specs.Line.{Line}
 use Rattle.cloud_serve.specs.declared.showing.Showing.{Showing}
 use Rattle.cloud_serve.specs.declared.showing.Showing.TheVariants as showing
 use Rattle.cloud_serve.specs.Book.{Book, Judged}
-use Rattle.cloud_serve.specs.Effects.{AskedOf, TakesNone}
+use Rattle.cloud_serve.specs.Effects.{TakesNone}
 use Rattle.cloud_serve.specs.Routes.{Shows}
 use Rattle.cloud_serve.specs.Taking.{AsksBy, Asks, ForwardBy, Forwards, Answers, BreaksOff}
 use Rattle.cloud_serve.specs.Texts.{wants_head, own_text, denial_text}
-use Rattle.cloud_serve.specs.Turns.{Turn, AnswersBack, IsPlain, IsLawfulBy, IsBegunBy, ask_of}
+use Rattle.cloud_serve.specs.Turns.{Turn, AnswersBack, IsLawfulBy, IsBegunBy}
 use Rattle.cloud_serve.proofs.Growth.{later_refl, takes_none_refl, asked_none, judged_later}
 
 -- one text was asked, and what came back is answered, or memory ran out

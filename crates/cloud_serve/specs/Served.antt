@@ -1,5 +1,5 @@
 -- What serving a connection comes to: its turns, what was in hand at the end, and the table of ends.
-use Rattle.std.specs.Prelude.{◌≡◌, ℕ, ◌<◌, ◌≤◌, ◌++◌, Bool, true, false, List, [], ◌∷◌, Option, Some, length, take, map}
+use Rattle.std.specs.Prelude.{◌≡◌, ℕ, ◌<◌, ◌++◌, true, false, List, [], ◌∷◌, Option, Some, length, take, map}
 use Rattle.std.specs.List.{flat_map}
 use Rattle.host_base.specs.Outside.{Inlet, Outlet, Rose}
 use Rattle.host_base.specs.declared.request.Request.{Request}

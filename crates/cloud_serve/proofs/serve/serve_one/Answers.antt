@@ -1,4 +1,4 @@
-use Rattle.std.proofs.Common.{Option, Some, Result, Ok, Err, refl, ◌∙◌, ap, subst}
+use Rattle.std.proofs.Common.{Option, Result, Ok, Err, refl, ◌∙◌, ap, subst}
 use Rattle.host_base.specs.declared.request.Request.{Request}
 use Rattle.front_http.specs.declared.fault.FrontFault.{FrontFault}
 use Rattle.front_http.specs.Reading.{Next}

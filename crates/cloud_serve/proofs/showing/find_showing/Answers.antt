@@ -1,4 +1,4 @@
-use Rattle.std.proofs.Common.{◌≡◌, Option, Some, None, refl, inr}
+use Rattle.std.proofs.Common.{◌≡◌, Some, None, refl, inr}
 use Rattle.front_http.specs.declared.route.Route.{Route}
 use Rattle.cloud_serve.proofs.showing.find_showing.Goals as goal
 
