@@ -117,6 +117,19 @@ fn serve_one<I: Source, O: Sink, D: Desk, L: Link>(
     }
 }
 
+// How a connection ended, with the list of its places.
+fn ended(end: End, from: u64, places: Vec<u64>, served: u64, forwarded: u64) -> ConnEnd
+    ensures { result ≡ record { end = end; from = from; places = places.items; served = served; forwarded = forwarded } }
+{
+    ConnEnd {
+        end,
+        from,
+        places: Places::new(places),
+        served,
+        forwarded,
+    }
+}
+
 /// Serves one connection: reads a request, answers it, writes the answer whole, and goes on. Want of memory is answered too.
 pub fn serve_conn<I: Source, O: Sink, D: Desk, L: Link>(
     alloc: Global,
@@ -141,13 +154,8 @@ pub fn serve_conn<I: Source, O: Sink, D: Desk, L: Link>(
 {
     let from = desk.place();
     let Ok(routes) = Routes::new(alloc) else {
-        return ConnEnd {
-            end: close_with(out, memory_reply(false), End::Memory),
-            from,
-            places: Places::empty(alloc),
-            served: 0,
-            forwarded: 0,
-        };
+        let end = close_with(out, memory_reply(false), End::Memory);
+        return ended(end, from, Vec::new(alloc), 0, 0);
     };
     let mut reader = RequestReader::new(alloc);
     let mut places = Vec::new(alloc);
@@ -170,22 +178,8 @@ pub fn serve_conn<I: Source, O: Sink, D: Desk, L: Link>(
                 places.push(place).unwrap();
                 last = place;
             }
-            Err(end) => {
-                return ConnEnd {
-                    end,
-                    from,
-                    places: Places::new(places),
-                    served,
-                    forwarded,
-                };
-            }
+            Err(end) => return ended(end, from, places, served, forwarded),
         }
     }
-    ConnEnd {
-        end: End::Spent,
-        from,
-        places: Places::new(places),
-        served: REQUEST_LIMIT,
-        forwarded,
-    }
+    ended(End::Spent, from, places, REQUEST_LIMIT, forwarded)
 }
