@@ -7,36 +7,37 @@ use Rattle.std.specs.List.{flat_map}
 use Rattle.std.proofs.lemmas.Grind.{flat_map-append}
 use Rattle.host_base.specs.Outside.{Inlet, Outlet, Rose}
 use Rattle.host_base.specs.declared.request.Request.{Request}
-use Rattle.front_http.specs.Reading.{Reading, unread, IsRemaining}
+use Rattle.front_http.specs.Reading.{Reading, unread}
 use Rattle.front_http.specs.Stream.{Requests, Bad, IsStream}
 use Rattle.grain_supervise.specs.declared.ask.Ask.{Ask}
-use Rattle.cloud_serve.specs.declared.route.Route.{Route}
-use Rattle.cloud_serve.specs.declared.route.Route.TheVariants as route
+use Rattle.cloud_serve.specs.declared.showing.Showing.{Showing}
+use Rattle.cloud_serve.specs.declared.showing.Showing.TheVariants as showing
 use Rattle.cloud_serve.specs.declared.serve.End.{End}
 use Rattle.cloud_serve.specs.declared.serve.End.TheVariants as end
 use Rattle.cloud_serve.specs.Book.{Book, Later}
-use Rattle.cloud_serve.specs.Effects.{AskedOf, TakesNone}
-use Rattle.cloud_serve.specs.Routes.{route_of}
+use Rattle.cloud_serve.specs.Effects.{AskedOf}
 use Rattle.cloud_serve.specs.Turns.{Turn, IsLawfulBy, IsLawful, AreLawful}
-use Rattle.cloud_serve.specs.Served.{World, InHand, Nothing, Refusing, Answering, Broken, NoRoom, request_in, asked_in, HandAt, CauseAt, IsOver, IsEndOf, StreamAt, Stands, Complete, limit, Splits, Served}
-use Rattle.cloud_serve.specs.Serving.{OneMore, Stops, SoFar}
-use Rattle.cloud_serve.proofs.Growth.{later_refl, later_longer, takes_none_refl, takes_none_trans, asked_none, asked_trans, judged_later, judged_within}
+use Rattle.cloud_serve.specs.Served.{World, InHand, Nothing, Refusing, Answering, Broken, NoRoom, request_in, asked_in, HandAt, CauseAt, IsOver, StreamAt, Stands, Complete, limit, Splits, Served}
+use Rattle.cloud_serve.specs.Serving.{ClosesWith, OneMore, Stops, SoFar}
+use Rattle.cloud_serve.specs.Texts.{memory_text}
+use Rattle.cloud_serve.proofs.Serving.{stops_no_room}
+use Rattle.cloud_serve.proofs.Growth.{later_longer, takes_none_refl, takes_none_trans, asked_none, asked_trans, judged_later, judged_within}
 
 -- what was lawful stays so when more is seen
-lawful_later : (r : Route) (old new : Book) → Later old new → (low last : ℕ) (turn : Turn) → IsLawfulBy r old low last turn → IsLawfulBy r new low last turn
-lawful_later route.NoRoute old new later low last turn is = is
-lawful_later route.NoCredential old new later low last turn is = is
-lawful_later (route.Keyed key) old new later low last turn is =
+lawful_later : (r : Showing) (old new : Book) → Later old new → (low last : ℕ) (turn : Turn) → IsLawfulBy r old low last turn → IsLawfulBy r new low last turn
+lawful_later showing.NoRoute old new later low last turn is = is
+lawful_later showing.NoCredential old new later low last turn is = is
+lawful_later (showing.Keyed key) old new later low last turn is =
     record { verdict = is.verdict; judged = judged_later old new low low key turn.place is.verdict later (omega arith) is.judged; reached_is = is.reached_is; follows = is.follows }
 
-reached_within : (r : Route) (book : Book) (low last : ℕ) (turn : Turn) → low ≤ length book.seen → IsLawfulBy r book low last turn → turn.reached ≤ length book.seen
-reached_within route.NoRoute book low last turn less is = omega (arith, is.reached_is)
-reached_within route.NoCredential book low last turn less is = omega (arith, is.reached_is)
-reached_within (route.Keyed key) book low last turn less is = omega (arith, is.reached_is, judged_within book low key turn.place is.verdict is.judged)
+reached_within : (r : Showing) (book : Book) (low last : ℕ) (turn : Turn) → low ≤ length book.seen → IsLawfulBy r book low last turn → turn.reached ≤ length book.seen
+reached_within showing.NoRoute book low last turn less is = omega (arith, is.reached_is)
+reached_within showing.NoCredential book low last turn less is = omega (arith, is.reached_is)
+reached_within (showing.Keyed key) book low last turn less is = omega (arith, is.reached_is, judged_within book low key turn.place is.verdict is.judged)
 
 turns_later : (old new : Book) → Later old new → (low last : ℕ) (turns : List Turn) (high place : ℕ) → AreLawful old low last turns high place → AreLawful new low last turns high place
 turns_later old new later low last [] high place are = are
-turns_later old new later low last (turn ∷ turns) high place are = (lawful_later (route_of turn.request) old new later low last turn are.0, turns_later old new later turn.reached turn.place turns high place are.1)
+turns_later old new later low last (turn ∷ turns) high place are = ((are.0.0, are.0.1, lawful_later are.0.0 old new later low last turn are.0.2), turns_later old new later turn.reached turn.place turns high place are.1)
 
 turns-append : (book : Book) (low last : ℕ) (turns : List Turn) (high place : ℕ) (turn : Turn) → AreLawful book low last turns high place → IsLawful book high place turn → AreLawful book low last (turns ++ turn ∷ []) turn.reached turn.place
 turns-append book low last [] high place turn are is =
@@ -78,7 +79,7 @@ pub so_far_more : (old now new : World) (reading reading' : Reading) (from last 
 so_far_more old now new reading reading' from last places served forwarded forwarded' place s o reads writes whole = record {
   turns = s.turns ++ o.turn ∷ [];
   high = o.turn.reached;
-  high_within = reached_within (route_of o.turn.request) new.book s.high last o.turn (omega (arith, s.high_within, later_longer now.book new.book o.none_taken.later)) o.lawful;
+  high_within = reached_within o.lawful.0 new.book s.high last o.turn (omega (arith, s.high_within, later_longer now.book new.book o.none_taken.later)) o.lawful.2;
   lawful = subst (λ (n : ℕ). AreLawful new.book from from (s.turns ++ o.turn ∷ []) o.turn.reached n) o.place_is (turns-append new.book from from s.turns s.high last o.turn (turns_later now.book new.book o.none_taken.later from from s.turns s.high last s.lawful) o.lawful);
   none_taken = takes_none_trans old.book now.book new.book s.none_taken o.none_taken;
   places_are = ap (λ (ps : List ℕ). ps ++ place ∷ []) s.places_are ∙ ap (λ (p : ℕ). map (λ (t : Turn). t.place) s.turns ++ p ∷ []) (sym o.place_is) ∙ sym (map-append (λ (t : Turn). t.place) s.turns (o.turn ∷ []));
@@ -111,7 +112,7 @@ cause_from end.ReadFault i i1 i2 o o1 o2 ri ri2 ro ro2 l = rose_from i.faults i1
 cause_from end.WriteFault i i1 i2 o o1 o2 ri ri2 ro ro2 l = rose_from o.faults o1.faults o2.faults ro ro2 l
 cause_from end.Done i i1 i2 o o1 o2 ri ri2 ro ro2 l = tt
 cause_from (end.Refused status at) i i1 i2 o o1 o2 ri ri2 ro ro2 l = tt
-cause_from (end.CutOff n) i i1 i2 o o1 o2 ri ri2 ro ro2 l = tt
+cause_from (end.CutOff n) i i1 i2 o o1 o2 ri ri2 ro ro2 l = l
 cause_from end.Spent i i1 i2 o o1 o2 ri ri2 ro ro2 l = tt
 cause_from end.Memory i i1 i2 o o1 o2 ri ri2 ro ro2 l = tt
 
@@ -222,3 +223,11 @@ complete_when old new end.Spent from places served forwarded s input all told me
     let le : length requests ≤ length all.list = front_le all requests (request_in s.hand) st.0 st.1 in
     let spent : served ≡ 1000000 = s.count in
     absurd (omega (arith, few, s.served_is))
+
+-- memory ran out before any request was read
+pub served_at_once : (old : World) (outlet : Outlet) (from : ℕ) (result : End) (text : List ℕ) → from ≡ length old.book.seen → text ≡ memory_text false → ClosesWith old.outlet outlet text end.Memory result
+    → old.outlet.faults ≤ outlet.faults → Served old (record { inlet = old.inlet; outlet = outlet; line = old.line; book = old.book }) result from [] 0 0
+served_at_once old outlet from result text is text_is closes writes =
+    let new : World = record { inlet = old.inlet; outlet = outlet; line = old.line; book = old.book } in
+    let so_far = so_far_none old from is in
+    served_when old old new unread from from [] 0 0 0 result is so_far (stops_no_room so_far.high from 0 unread old new result text refl refl text_is closes) (omega arith) (omega arith) writes

@@ -1,22 +1,22 @@
 -- What serving one request comes to, over plain values.
-use Rattle.std.proofs.Common.{◌≡◌, ℕ, ◌+◌, ◌<◌, ◌≤◌, ◌++◌, Bool, true, false, List, [], ◌∷◌, Option, Some, None, Result, Ok, Err, length, take, refl, sym, ◌∙◌, ap, subst, arith, append-nil, inl, inr}
+use Rattle.std.proofs.Common.{◌≡◌, ℕ, ◌<◌, ◌++◌, Bool, true, false, List, [], ◌∷◌, Option, Some, None, Result, Ok, Err, take, refl, sym, ◌∙◌, ap, subst, arith, append-nil, inl, inr}
 use Rattle.host_base.specs.Outside.{Outlet, Rose}
 use Rattle.host_base.specs.declared.request.Request.{Request}
 use Rattle.front_http.specs.declared.fault.FrontFault.{FrontFault}
 use Rattle.front_http.specs.declared.fault.FrontFault.TheVariants as fault
 use Rattle.front_http.specs.declared.refusal.Refusal.{Refusal}
 use Rattle.front_http.specs.declared.refusal.Refusal.TheVariants as refusal
-use Rattle.front_http.specs.Reading.{Reading, IsRemaining, Gave, Ended, Next, over}
-use Rattle.front_http.specs.Stream.{Requests, Ending, Done, Last, Cut, Bad, none_but}
+use Rattle.front_http.specs.Reading.{Reading, IsRemaining, Gave, Ended, Next, EndsRead, over}
+use Rattle.front_http.specs.Stream.{Requests, Ending, Bad}
 use Rattle.grain_supervise.specs.Line.{Line}
 use Rattle.cloud_serve.specs.declared.serve.End.{End}
 use Rattle.cloud_serve.specs.declared.serve.End.TheVariants as end
 use Rattle.cloud_serve.specs.Book.{Book}
 use Rattle.cloud_serve.specs.Effects.{AskedOf, TakesNone}
-use Rattle.cloud_serve.specs.Texts.{wants_head, refusal_status, refused_text, memory_text}
+use Rattle.cloud_serve.specs.Texts.{wants_head, refusal_status, memory_text}
 use Rattle.cloud_serve.specs.Taking.{Answers, BreaksOff}
 use Rattle.cloud_serve.specs.Served.{World, InHand, Nothing, Refusing, Answering, Broken, NoRoom, request_in, asked_in, text_in, IsLawfulIn, HandAt, CauseAt, IsOver, IsRefusedIn, StreamAt, WrittenAt, CountAt, limit, Splits}
-use Rattle.cloud_serve.specs.Serving.{ClosesWith, RefusesBy, Halts, TookOne, StopsOne, TakesOne, OneMore, Stops, Steps}
+use Rattle.cloud_serve.specs.Serving.{ClosesWith, RefusesBy, Halts, TookOne, StopsOne, TakesOne, Stops, Steps}
 use Rattle.cloud_serve.proofs.Growth.{takes_none_refl, asked_none}
 
 pub took_one : (low last counted counts : ℕ) (request : Request) (out out' : Outlet) (line line' : Line) (old new : Book) (place : ℕ) (text : List ℕ) → Answers old new line line' counted counts low last request place text
@@ -195,18 +195,23 @@ stops_done low last counted reading old new line book out ended =
     (λ left told all remains. let same = (ended left told).only all remains in (ap (λ (r : Requests). r.list) same, over_is_over reading.closed all.end (ap (λ (r : Requests). r.end) same)))
     (unwritten old.outlet new.outlet out) tt tt (λ served less. less)
 
+-- a request that is cut off comes only where the source told its end
+pub cut_ended : (closed ended : Bool) (result : Result (Option Request) FrontFault) (n : ℕ) → (closed ≡ true → result ≡ Ok None) → (closed ≡ false → EndsRead result ended) → result ≡ Err (fault.CutOff n) → ended ≡ true
+cut_ended true ended result n none ends is = let nothing = none refl in cc
+cut_ended false ended result n none ends is = subst (λ (r : Result (Option Request) FrontFault). EndsRead r ended) is (ends refl)
+
 -- the reader answered a fault
 pub stops_halted : (low last counted : ℕ) (reading reading' : Reading) (old new : World) (f : FrontFault) (result : End) → old.line ≡ new.line → old.book ≡ new.book
-    → ((left : List ℕ) → old.inlet.left ≡ Some left → Next reading left (Err f) reading' new.inlet.left) → (f ≡ fault.ReadFault → Rose old.inlet.faults new.inlet.faults)
+    → ((left : List ℕ) → old.inlet.left ≡ Some left → Next reading left (Err f) reading' new.inlet.left) → (f ≡ fault.ReadFault → Rose old.inlet.faults new.inlet.faults) → ((n : ℕ) → f ≡ fault.CutOff n → new.inlet.ended ≡ true)
     → Halts old.outlet new.outlet f result → Stops low last counted counted reading old new result
-stops_halted low last counted reading reading' old new (fault.BadHead at) result line book next rose h = stops_refused low last counted reading old new refusal.BadHead at result line book next h
-stops_halted low last counted reading reading' old new (fault.LongHead at) result line book next rose h = stops_refused low last counted reading old new refusal.LongHead at result line book next h
-stops_halted low last counted reading reading' old new (fault.NeedLength at) result line book next rose h = stops_refused low last counted reading old new refusal.NeedLength at result line book next h
-stops_halted low last counted reading reading' old new (fault.LongBody at) result line book next rose h = stops_refused low last counted reading old new refusal.LongBody at result line book next h
-stops_halted low last counted reading reading' old new (fault.CutOff n) result line book next rose h = subst (λ (e : End). Stops low last counted counted reading old new e) (sym h.0)
+stops_halted low last counted reading reading' old new (fault.BadHead at) result line book next rose cut h = stops_refused low last counted reading old new refusal.BadHead at result line book next h
+stops_halted low last counted reading reading' old new (fault.LongHead at) result line book next rose cut h = stops_refused low last counted reading old new refusal.LongHead at result line book next h
+stops_halted low last counted reading reading' old new (fault.NeedLength at) result line book next rose cut h = stops_refused low last counted reading old new refusal.NeedLength at result line book next h
+stops_halted low last counted reading reading' old new (fault.LongBody at) result line book next rose cut h = stops_refused low last counted reading old new refusal.LongBody at result line book next h
+stops_halted low last counted reading reading' old new (fault.CutOff n) result line book next rose cut h = subst (λ (e : End). Stops low last counted counted reading old new e) (sym h.0)
     (stops_bare low last counted reading old new (end.CutOff n) Nothing bare_nothing line book
     (λ left told all remains. let same = (next left told).only all remains in (ap (λ (r : Requests). r.list) same, ap (λ (r : Requests). r.end) same))
-    (unwritten old.outlet new.outlet h.1) tt tt (λ served less. less))
-stops_halted low last counted reading reading' old new fault.ReadFault result line book next rose h = subst (λ (e : End). Stops low last counted counted reading old new e) (sym h.0)
+    (unwritten old.outlet new.outlet h.1) tt (cut n refl) (λ served less. less))
+stops_halted low last counted reading reading' old new fault.ReadFault result line book next rose cut h = subst (λ (e : End). Stops low last counted counted reading old new e) (sym h.0)
     (stops_bare low last counted reading old new end.ReadFault Nothing bare_nothing line book (λ left told all remains. tt) (unwritten old.outlet new.outlet h.1) tt (rose refl) (λ served less. less))
-stops_halted low last counted reading reading' old new fault.Memory result line book next rose h = stops_no_room low last counted reading old new result (memory_text false) line book refl h
+stops_halted low last counted reading reading' old new fault.Memory result line book next rose cut h = stops_no_room low last counted reading old new result (memory_text false) line book refl h

@@ -1,5 +1,5 @@
 -- What a connection does to the link and the desk.
-use Rattle.std.specs.Prelude.{◌≡◌, ℕ, ◌+◌, ◌<◌, ◌≤◌, ◌++◌, List, Option, Some, count_by, is_none}
+use Rattle.std.specs.Prelude.{◌≡◌, ℕ, ◌+◌, ◌<◌, ◌≤◌, ◌++◌, List, Some, count_by, is_none}
 use Rattle.grain_supervise.specs.declared.ask.Ask.{Ask}
 use Rattle.grain_supervise.specs.Line.{Line}
 use Rattle.cloud_serve.specs.Book.{Book, Later}

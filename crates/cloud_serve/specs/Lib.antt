@@ -1,5 +1,4 @@
 pub mod Book
-pub mod Digests
 pub mod Routes
 pub mod Texts
 pub mod Turns

@@ -1,5 +1,5 @@
 -- What serving a connection comes to: its turns, what was in hand at the end, and the table of ends.
-use Rattle.std.specs.Prelude.{◌≡◌, ℕ, ◌<◌, ◌≤◌, ◌++◌, Bool, false, List, [], ◌∷◌, Option, Some, length, take, map}
+use Rattle.std.specs.Prelude.{◌≡◌, ℕ, ◌<◌, ◌++◌, true, false, List, [], ◌∷◌, Option, Some, length, take, map}
 use Rattle.std.specs.List.{flat_map}
 use Rattle.host_base.specs.Outside.{Inlet, Outlet, Rose}
 use Rattle.host_base.specs.declared.request.Request.{Request}
@@ -74,12 +74,12 @@ HandAt end.WriteFault (Broken turn) = Unit {0}
 HandAt end.WriteFault NoRoom = Unit {0}
 HandAt _ _ = ⊥
 
--- Second part: which count must have risen in this call.
+-- Second part: which count must have risen in this call; and that the source has told its end where a request is cut off.
 abbrev pub CauseAt : End → Inlet → Inlet → Outlet → Outlet → Type 0
 CauseAt end.ReadFault inlet inlet' outlet outlet' = Rose inlet.faults inlet'.faults
 CauseAt end.WriteFault inlet inlet' outlet outlet' = Rose outlet.faults outlet'.faults
 CauseAt end.Done inlet inlet' outlet outlet' = Unit {0}
-CauseAt (end.CutOff n) inlet inlet' outlet outlet' = Unit {0}
+CauseAt (end.CutOff n) inlet inlet' outlet outlet' = inlet'.ended ≡ true
 CauseAt end.Spent inlet inlet' outlet outlet' = Unit {0}
 CauseAt (end.Refused status at) inlet inlet' outlet outlet' = Unit {0}
 CauseAt end.Memory inlet inlet' outlet outlet' = Unit {0}

@@ -11,10 +11,10 @@ use Rattle.bridge_headers.specs.Relay.{Relays}
 use Rattle.bridge_headers.specs.declared.fault.RelayFault.{RelayFault}
 use Rattle.bridge_headers.specs.declared.fault.RelayFault.TheVariants as fault
 use Rattle.grain_supervise.specs.declared.ask.Ask.{Ask}
-use Rattle.cloud_serve.specs.declared.route.Route.{Route}
-use Rattle.cloud_serve.specs.declared.route.Route.TheVariants as route
+use Rattle.cloud_serve.specs.declared.showing.Showing.{Showing}
+use Rattle.cloud_serve.specs.declared.showing.Showing.TheVariants as showing
 use Rattle.cloud_serve.specs.Book.{Book, Judged}
-use Rattle.cloud_serve.specs.Routes.{route_of}
+use Rattle.cloud_serve.specs.Routes.{Shows}
 use Rattle.cloud_serve.specs.Texts.{wants_head, own_text, denial_text}
 
 -- One request and all that came of it: its place in the history, how far the connection has counted the history then,
@@ -67,24 +67,24 @@ pub record IsKeyed (book : Book) (low : ℕ) (key : Key) (turn : Turn) : Type 0 
   pub follows : Follows verdict turn
 
 -- A lawful turn, where the connection had counted `low` entries and the place before it was `last`.
-abbrev pub IsLawfulBy : Route → Book → ℕ → ℕ → Turn → Type 0
-IsLawfulBy route.NoRoute book low last turn = IsPlain low last (own_text 404 (codes "NoRoute") [] (wants_head turn.request)) turn
-IsLawfulBy route.NoCredential book low last turn = IsPlain low last (denial_text denial.UnknownKey (wants_head turn.request)) turn
-IsLawfulBy (route.Keyed key) book low last turn = IsKeyed book low key turn
+abbrev pub IsLawfulBy : Showing → Book → ℕ → ℕ → Turn → Type 0
+IsLawfulBy showing.NoRoute book low last turn = IsPlain low last (own_text 404 (codes "NoRoute") [] (wants_head turn.request)) turn
+IsLawfulBy showing.NoCredential book low last turn = IsPlain low last (denial_text denial.UnknownKey (wants_head turn.request)) turn
+IsLawfulBy (showing.Keyed key) book low last turn = IsKeyed book low key turn
 
 abbrev pub IsLawful : Book → ℕ → ℕ → Turn → Type 0
-IsLawful book low last turn = IsLawfulBy (route_of turn.request) book low last turn
+IsLawful book low last turn = (shown : Showing) × Shows turn.request shown × IsLawfulBy shown book low last turn
 
 -- A turn that memory ran out on: nothing was asked, or the one text of a request that goes through.
-abbrev pub IsBegunBy : Route → Book → ℕ → Turn → Type 0
-IsBegunBy route.NoRoute book low turn = turn.asked ≡ []
-IsBegunBy route.NoCredential book low turn = turn.asked ≡ []
-IsBegunBy (route.Keyed key) book low turn =
+abbrev pub IsBegunBy : Showing → Book → ℕ → Turn → Type 0
+IsBegunBy showing.NoRoute book low turn = turn.asked ≡ []
+IsBegunBy showing.NoCredential book low turn = turn.asked ≡ []
+IsBegunBy (showing.Keyed key) book low turn =
     (turn.asked ≡ [])
     ⊎ ((permit : Permit) × (back : Option (List ℕ)) × Judged low book key turn.place (verdict.Forward permit) × (turn.asked ≡ ask_of permit turn.request back ∷ []))
 
 abbrev pub IsBegun : Book → ℕ → Turn → Type 0
-IsBegun book low turn = IsBegunBy (route_of turn.request) book low turn
+IsBegun book low turn = (shown : Showing) × Shows turn.request shown × IsBegunBy shown book low turn
 
 -- Lawful turns, one after another: each counts what the one before it reached, and knows the place before it. `high` and `place`
 -- are how far they counted, and the last place.

@@ -2,10 +2,9 @@
 #![tactic(auto)]
 
 pub mod desk;
-mod digest;
 mod ending;
-mod route;
 pub mod serve;
+mod showing;
 mod texts;
 mod turn;
 

@@ -11,7 +11,7 @@ use crate::desk::Desk;
 use crate::ending::{close_with, halt};
 use crate::texts::wants_head;
 use crate::turn::take_turn;
-use front_http::{RequestReader, memory_reply};
+use front_http::{RequestReader, Routes, memory_reply};
 use grain_supervise::Link;
 use host_base::{Memory, Request, Sink, Source, WriteFailed};
 use plain_data::List as Row;
@@ -56,6 +56,7 @@ pub const REQUEST_LIMIT: u64 = 1_000_000;
 // Takes a turn, and writes its answer.
 fn answer_one<O: Sink, D: Desk, L: Link>(
     alloc: Global,
+    routes: &Routes,
     request: &Request,
     last: u64,
     out: &mut O,
@@ -69,7 +70,7 @@ fn answer_one<O: Sink, D: Desk, L: Link>(
     ensures takes { (low : ℕ) → low ≤ length (D.book desk.old).seen → TakesOne low last forwarded.old forwarded.new request.now
         (O.outlet out.old) (O.outlet out.new) (L.line link.old) (L.line link.new) (D.book desk.old) (D.book desk.new) result }
 {
-    match take_turn(alloc, request, last, desk, link, forwarded) {
+    match take_turn(alloc, routes, request, last, desk, link, forwarded) {
         Ok(answered) => match out.put(answered.text.as_slice()) {
             Ok(()) => Ok(answered.place),
             Err(WriteFailed) => Err(End::WriteFault),
@@ -81,6 +82,7 @@ fn answer_one<O: Sink, D: Desk, L: Link>(
 // Reads a request and answers it, or ends the connection.
 fn serve_one<I: Source, O: Sink, D: Desk, L: Link>(
     alloc: Global,
+    routes: &Routes,
     reader: &mut RequestReader,
     places: &mut Vec<u64>,
     last: u64,
@@ -108,10 +110,23 @@ fn serve_one<I: Source, O: Sink, D: Desk, L: Link>(
     }
     match reader.next(alloc, input) {
         Ok(next) => match next {
-            Some(request) => answer_one(alloc, &request, last, out, desk, link, forwarded),
+            Some(request) => answer_one(alloc, routes, &request, last, out, desk, link, forwarded),
             None => Err(End::Done),
         },
         Err(fault) => Err(halt(alloc, fault, out)),
+    }
+}
+
+// How a connection ended, with the list of its places.
+fn ended(end: End, from: u64, places: Vec<u64>, served: u64, forwarded: u64) -> ConnEnd
+    ensures { result ≡ record { end = end; from = from; places = places.items; served = served; forwarded = forwarded } }
+{
+    ConnEnd {
+        end,
+        from,
+        places: Places::new(places),
+        served,
+        forwarded,
     }
 }
 
@@ -138,6 +153,10 @@ pub fn serve_conn<I: Source, O: Sink, D: Desk, L: Link>(
         (result.end ≡ End.Memory) ⊎ Complete requests result.end result.served }
 {
     let from = desk.place();
+    let Ok(routes) = Routes::new(alloc) else {
+        let end = close_with(out, memory_reply(false), End::Memory);
+        return ended(end, from, Vec::new(alloc), 0, 0);
+    };
     let mut reader = RequestReader::new(alloc);
     let mut places = Vec::new(alloc);
     let mut last = from;
@@ -145,6 +164,7 @@ pub fn serve_conn<I: Source, O: Sink, D: Desk, L: Link>(
     'requests: for served in 0..REQUEST_LIMIT {
         match serve_one(
             alloc,
+            &routes,
             &mut reader,
             &mut places,
             last,
@@ -158,22 +178,8 @@ pub fn serve_conn<I: Source, O: Sink, D: Desk, L: Link>(
                 places.push(place).unwrap();
                 last = place;
             }
-            Err(end) => {
-                return ConnEnd {
-                    end,
-                    from,
-                    places: Places::new(places),
-                    served,
-                    forwarded,
-                };
-            }
+            Err(end) => return ended(end, from, places, served, forwarded),
         }
     }
-    ConnEnd {
-        end: End::Spent,
-        from,
-        places: Places::new(places),
-        served: REQUEST_LIMIT,
-        forwarded,
-    }
+    ended(End::Spent, from, places, REQUEST_LIMIT, forwarded)
 }

@@ -1,15 +1,16 @@
 //! One turn: what a request comes to.
 ghost use Rattle.std.specs.Prelude.{◌≡◌, ℕ, ◌+◌, ◌<◌, ◌≤◌, Some, length, IfOk};
 ghost use Rattle.cloud_serve.specs.Book.{Book};
-ghost use Rattle.cloud_serve.specs.Routes.{route_of};
+ghost use Rattle.cloud_serve.specs.Routes.{Shows};
 ghost use Rattle.cloud_serve.specs.Taking.{Asks, Forwards, Takes};
 ghost use Rattle.cloud_serve.specs.Turns.{AnswersBack};
-ghost use Rattle.cloud_serve.specs.declared.route.Route.TheVariants as routes;
+ghost use Rattle.cloud_serve.specs.declared.showing.Showing.TheVariants as shown;
 
 use crate::desk::Desk;
-use crate::route::{Route, find_route};
+use crate::showing::{Showing, find_showing};
 use crate::texts::{denial_reply, own_reply, wants_head};
 use bridge_headers::{RelayFault, answer_text, grain_text};
+use front_http::Routes;
 use grain_supervise::{AskFault, Link, LongAnswer, whole_answer};
 use host_base::{
     ANSWER_READ, Answer, Bytes, Denial, GrainId, Key, Memory, Permit, Request, RunId, Verdict,
@@ -102,7 +103,7 @@ fn keyed<D: Desk, L: Link>(
     link: &mut L,
     forwarded: &mut u64,
 ) -> Result<Answered, Memory>
-    requires shown { route_of request.now ≡ routes.Keyed key.now }
+    requires shown { Shows request.now (shown.Keyed key.now) }
     requires room { forwarded.old < 18446744073709551615 }
     ensures few { forwarded.new ≤ forwarded.old + 1 }
     ensures takes { (low last : ℕ) → low ≤ length (D.book desk.old).seen →
@@ -128,6 +129,7 @@ fn keyed<D: Desk, L: Link>(
 /// `last` is the place before it.
 pub fn take_turn<D: Desk, L: Link>(
     alloc: Global,
+    routes: &Routes,
     request: &Request,
     last: u64,
     desk: &mut D,
@@ -139,17 +141,17 @@ pub fn take_turn<D: Desk, L: Link>(
     ensures takes { (low : ℕ) → low ≤ length (D.book desk.old).seen →
         Takes (D.book desk.old) (D.book desk.new) (L.line link.old) (L.line link.new) forwarded.old forwarded.new low last request.now result }
 {
-    match find_route(request) {
-        Route::NoRoute => match own_reply(alloc, 404, "NoRoute", &[], wants_head(request)) {
+    match find_showing(routes, request) {
+        Showing::NoRoute => match own_reply(alloc, 404, "NoRoute", &[], wants_head(request)) {
             Ok(text) => Ok(Answered { place: last, text }),
             Err(Memory) => Err(Memory),
         },
-        Route::NoCredential => {
+        Showing::NoCredential => {
             match denial_reply(alloc, &Denial::UnknownKey, wants_head(request)) {
                 Ok(text) => Ok(Answered { place: last, text }),
                 Err(Memory) => Err(Memory),
             }
         }
-        Route::Keyed(key) => keyed(alloc, request, &key, desk, link, forwarded),
+        Showing::Keyed(key) => keyed(alloc, request, &key, desk, link, forwarded),
     }
 }

@@ -1,8 +1,8 @@
-use Rattle.std.proofs.Common.{Option, Some, Result, Ok, Err, refl, ◌∙◌, ap, subst}
+use Rattle.std.proofs.Common.{Option, Result, Ok, Err, refl, ◌∙◌, ap, subst}
 use Rattle.host_base.specs.declared.request.Request.{Request}
 use Rattle.front_http.specs.declared.fault.FrontFault.{FrontFault}
 use Rattle.front_http.specs.Reading.{Next}
-use Rattle.cloud_serve.proofs.Serving.{steps_one, stops_done, stops_halted, stops_no_room}
+use Rattle.cloud_serve.proofs.Serving.{steps_one, cut_ended, stops_done, stops_halted, stops_no_room}
 use Rattle.cloud_serve.proofs.serve.serve_one.Goals as goal
 
 pub returns-then-is_err-clause-steps : goal.returns-then-is_err-clause-steps
@@ -24,4 +24,5 @@ pub returns-in-Err-clause-steps : goal.returns-in-Err-clause-steps
 returns-in-Err-clause-steps g c low less =
     stops_halted low c.args.last _ c.args.reader.now c.next.new.self _ _ c.in-Err.fault c.halt.result refl refl
     (λ left is. subst (λ (r : Result (Option Request) FrontFault). Next c.args.reader.now left r c.next.new.self (g.I.Source.inlet c.next.new.input).left) c.in-Err.is (c.next.ensures.given left is c.requires.running))
-    (λ read. c.next.ensures.cause (c.in-Err.is ∙ ap Err read) c.requires.running) c.halt.ensures.halts
+    (λ read. c.next.ensures.cause (c.in-Err.is ∙ ap Err read) c.requires.running)
+    (λ n cut. cut_ended c.args.reader.now.closed (g.I.Source.inlet c.next.new.input).ended c.next.result n (λ closed. (c.next.ensures.closed c.requires.running closed).0) (c.next.ensures.ends c.requires.running) (c.in-Err.is ∙ ap Err cut)) c.halt.ensures.halts

@@ -2,6 +2,7 @@ use Rattle.std.proofs.Common.{length, subst}
 use Rattle.host_base.specs.declared.verdict.Verdict.{Verdict}
 use Rattle.host_base.specs.declared.verdict.Verdict.TheVariants as verdict
 use Rattle.share_graph.specs.History.{replay}
+use Rattle.cloud_serve.specs.declared.showing.Showing.TheVariants as showing
 use Rattle.cloud_serve.specs.Book.{Judged}
 use Rattle.cloud_serve.proofs.Sites.{no_site}
 use Rattle.cloud_serve.proofs.Taking.{breaks_first, answers_denied, answers_forwarded, breaks_forwarded}
@@ -10,12 +11,12 @@ use Rattle.cloud_serve.proofs.turn.keyed.Goals as goal
 pub returns-in-Err-clause-takes : goal.returns-in-Err-clause-takes
 returns-in-Err-clause-takes g c low last less =
     let all = c.verdict.ensures in
-    breaks_first _ _ _ _ low c.args.request.now (record { later = all.later; accepted = all.accepted })
+    breaks_first _ _ _ _ low c.args.request.now (showing.Keyed c.args.key.now) c.requires.shown (record { later = all.later; accepted = all.accepted })
 
 pub returns-in-Deny-clause-takes : goal.returns-in-Deny-clause-takes
 returns-in-Deny-clause-takes g c low last less =
     let all = c.verdict.ensures in
-    breaks_first _ _ _ _ low c.args.request.now (record { later = all.later; accepted = all.accepted })
+    breaks_first _ _ _ _ low c.args.request.now (showing.Keyed c.args.key.now) c.requires.shown (record { later = all.later; accepted = all.accepted })
 
 pub returns-in-Ok-denial_reply-clause-takes : goal.returns-in-Ok-denial_reply-clause-takes
 returns-in-Ok-denial_reply-clause-takes g c low last less =
