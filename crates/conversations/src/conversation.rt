@@ -20,6 +20,8 @@ pub struct Conversation {
     pub sink_fails: Vec<u64>,
     pub link_fails: Vec<u64>,
     pub status: u8,
+    /// How many times over the client sends what it sends, and gets what comes back.
+    pub repeats: usize,
 }
 
 impl Conversation {
@@ -39,6 +41,7 @@ impl Conversation {
             sink_fails: Vec::new(alloc),
             link_fails: Vec::new(alloc),
             status: 0,
+            repeats: 1,
         })
     }
 }

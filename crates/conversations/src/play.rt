@@ -36,6 +36,15 @@ fn equal_up_to(wanted: &[u8], came: &[u8]) -> Option<usize> {
     Some(pairs.take_while(|pair| pair.0 == pair.1).count())
 }
 
+// Bytes some times over.
+fn repeated(alloc: Global, bytes: &Vec<u8>, times: usize) -> Result<Vec<u8>, AllocError> {
+    let mut all = Vec::new(alloc);
+    for _ in 0..times {
+        all.extend_from_slice(bytes.as_slice())?;
+    }
+    Ok(all)
+}
+
 // The texts that were asked, one after another.
 fn texts(alloc: Global, asked: &[Ask]) -> Result<Vec<u8>, AllocError> {
     let mut all = Vec::new(alloc);
@@ -54,7 +63,8 @@ fn compared(
     status: u8,
 ) -> Result<Vec<Difference>, AllocError> {
     let mut found = Vec::new(alloc);
-    let wanted = conversation.answered.as_slice();
+    let wanted = repeated(alloc, &conversation.answered, conversation.repeats)?;
+    let wanted = wanted.as_slice();
     if let Some(equal) = equal_up_to(wanted, came) {
         found.push(Difference::Answered {
             equal,
@@ -83,7 +93,7 @@ fn compared(
 
 // The source of a conversation.
 fn source(alloc: Global, conversation: &Conversation) -> Result<MemSource, AllocError> {
-    let bytes = conversation.sent.clone()?;
+    let bytes = repeated(alloc, &conversation.sent, conversation.repeats)?;
     match conversation.gives {
         Some(most) => Ok(MemSource::stingy(alloc, bytes, most.max(1))),
         None => {

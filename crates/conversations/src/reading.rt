@@ -45,6 +45,10 @@ fn read_setting(
             Ok(status) => conversation.status = status,
             Err(_) => return Ok(false),
         },
+        "repeat" => match value.parse::<usize>() {
+            Ok(times) => conversation.repeats = times,
+            Err(_) => return Ok(false),
+        },
         "gives" => match value.parse::<usize>() {
             Ok(most) if most > 0 => conversation.gives = Some(most),
             _ => return Ok(false),
