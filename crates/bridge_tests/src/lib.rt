@@ -6,4 +6,6 @@ mod answers;
 #[cfg(test)]
 mod links;
 #[cfg(test)]
+mod relayed;
+#[cfg(test)]
 mod texts;

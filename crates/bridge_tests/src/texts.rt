@@ -52,7 +52,7 @@ fn permit(
 }
 
 /// Ada's session of the first worked row.
-fn ada(alloc: Global) -> Result<Permit, Fail> {
+pub fn ada(alloc: Global) -> Result<Permit, Fail> {
     let tab = TabMark {
         tab: 1,
         session: SessionId(1),
@@ -62,7 +62,7 @@ fn ada(alloc: Global) -> Result<Permit, Fail> {
 }
 
 /// A request for `/hello` with these header lines.
-fn request(
+pub fn request(
     alloc: Global,
     method: &str,
     lines: &[(&str, &str)],
