@@ -179,20 +179,28 @@ fn bytes_are_put_and_given_back(rt: HostRuntime) -> Result<(), Fail> {
     Ok(())
 }
 
+// The grain that a verdict speaks of.
+fn grain_of(verdict: &Verdict) -> Option<GrainId> {
+    match verdict {
+        Verdict::Forward(permit) => Some(permit.grain),
+        Verdict::Deny(Denial::GrainStopped(grain)) => Some(*grain),
+        _ => None,
+    }
+}
+
 #[test]
 fn verdicts_are_copied(rt: HostRuntime) -> Result<(), Fail> {
-    let alloc = rt.alloc();
     let permit = Permit {
         run: RunId(1),
         grain: GrainId(2),
-        names: Names::empty(alloc),
+        names: Names::empty(rt.alloc()),
         shown: Shown::Anonymous,
         tab: None,
     };
     let copy = Verdict::Forward(permit).clone()?;
-    assert!(rt; matches!(copy, Verdict::Forward(permit) if permit.grain == GrainId(2)));
+    assert_eq!(rt; grain_of(&copy), Some(GrainId(2)));
     let denial = Verdict::Deny(Denial::GrainStopped(GrainId(3))).clone()?;
-    assert!(rt; matches!(denial, Verdict::Deny(Denial::GrainStopped(GrainId(3)))));
+    assert_eq!(rt; grain_of(&denial), Some(GrainId(3)));
     Ok(())
 }
 

@@ -22,6 +22,9 @@ pub struct Conversation {
     pub status: u8,
     /// How many times over the client sends what it sends, and gets what comes back.
     pub repeats: usize,
+    /// Whether what is sent is cut at each of its lengths: as many answers come back as requests are whole, and the status is 6
+    /// but where none is begun.
+    pub cuts: bool,
 }
 
 impl Conversation {
@@ -42,6 +45,7 @@ impl Conversation {
             link_fails: Vec::new(alloc),
             status: 0,
             repeats: 1,
+            cuts: false,
         })
     }
 }

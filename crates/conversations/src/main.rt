@@ -33,7 +33,10 @@ fn play_file(rt: &HostRuntime, name: &str) -> io::Result<()> {
             println!(rt; "{name}: {}: {difference}", conversation.name)?;
         }
     }
-    println!(rt; "{name}: {} conversations, {differing} went otherwise", read.len())?;
+    println!(rt;
+        "{name}: {} conversations, {differing} went otherwise",
+        read.len()
+    )?;
     Ok(())
 }
 

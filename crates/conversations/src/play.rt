@@ -24,7 +24,10 @@ pub enum Difference {
         came: usize,
     },
     #[error("the status is {came}, not {wanted}")]
-    Status { wanted: u8, came: u8 },
+    Status {
+        wanted: u8,
+        came: u8,
+    },
 }
 
 // How far two texts are equal, where they aren't.
@@ -54,17 +57,25 @@ fn texts(alloc: Global, asked: &[Ask]) -> Result<Vec<u8>, AllocError> {
     Ok(all)
 }
 
-// What came of a conversation that isn't as it says.
+/// What is sent, and what must come of it.
+#[derive(Debug, Drop)]
+struct Part {
+    sent: Vec<u8>,
+    answered: Vec<u8>,
+    status: u8,
+}
+
+// What came of a part that isn't as the conversation says.
 fn compared(
     alloc: Global,
     conversation: &Conversation,
+    part: &Part,
     came: &[u8],
     asked: &[Ask],
     status: u8,
 ) -> Result<Vec<Difference>, AllocError> {
     let mut found = Vec::new(alloc);
-    let wanted = repeated(alloc, &conversation.answered, conversation.repeats)?;
-    let wanted = wanted.as_slice();
+    let wanted = part.answered.as_slice();
     if let Some(equal) = equal_up_to(wanted, came) {
         found.push(Difference::Answered {
             equal,
@@ -82,18 +93,22 @@ fn compared(
             })?;
         }
     }
-    if status != conversation.status {
+    if status != part.status {
         found.push(Difference::Status {
-            wanted: conversation.status,
+            wanted: part.status,
             came: status,
         })?;
     }
     Ok(found)
 }
 
-// The source of a conversation.
-fn source(alloc: Global, conversation: &Conversation) -> Result<MemSource, AllocError> {
-    let bytes = repeated(alloc, &conversation.sent, conversation.repeats)?;
+// The source of a part.
+fn source(
+    alloc: Global,
+    conversation: &Conversation,
+    part: &Part,
+) -> Result<MemSource, AllocError> {
+    let bytes = part.sent.clone()?;
     match conversation.gives {
         Some(most) => Ok(MemSource::stingy(alloc, bytes, most.max(1))),
         None => {
@@ -112,17 +127,62 @@ fn grain_answers(alloc: Global, conversation: &Conversation) -> Result<List<Answ
     Ok(answers)
 }
 
-// Plays a conversation with a link: what was written, the link, and the status.
+// Plays a part with a link: what was written, the link, and the status.
 fn played<L: Link + Drop>(
     alloc: Global,
     conversation: &Conversation,
+    part: &Part,
     link: L,
 ) -> Result<(MemSink, L, u8), AllocError> {
-    let mut input = source(alloc, conversation)?;
+    let mut input = source(alloc, conversation, part)?;
     let mut out = MemSink::new(alloc, List::new(conversation.sink_fails.clone()?));
     let words = conversation.words.as_slice();
     let ran = run(alloc, words, &mut input, &mut out, World { link });
     Ok((out, ran.link, ran.status))
+}
+
+// What goes otherwise in a part.
+fn part_differences(
+    alloc: Global,
+    conversation: &Conversation,
+    part: &Part,
+) -> Result<Vec<Difference>, AllocError> {
+    let fails = List::new(conversation.link_fails.clone()?);
+    if conversation.grains.is_empty() {
+        let link = EchoLink::new(alloc, fails);
+        let (out, link, status) = played(alloc, conversation, part, link)?;
+        return compared(
+            alloc,
+            conversation,
+            part,
+            out.written(),
+            link.asked(),
+            status,
+        );
+    }
+    let answers = grain_answers(alloc, conversation)?;
+    let link = CannedLink::new(alloc, answers, fails);
+    let (out, link, status) = played(alloc, conversation, part, link)?;
+    compared(
+        alloc,
+        conversation,
+        part,
+        out.written(),
+        link.asked(),
+        status,
+    )
+}
+
+// The part of the first bytes of a conversation.
+fn cut_at(alloc: Global, conversation: &Conversation, length: usize) -> Result<Part, AllocError> {
+    let mut sent = repeated(alloc, &conversation.sent, conversation.repeats)?;
+    let one = conversation.sent.len().max(1);
+    sent.truncate(length);
+    Ok(Part {
+        sent,
+        answered: repeated(alloc, &conversation.answered, length / one)?,
+        status: if length % one == 0 { 0 } else { 6 },
+    })
 }
 
 /// What goes otherwise than a conversation says.
@@ -130,14 +190,19 @@ pub fn differences(
     alloc: Global,
     conversation: &Conversation,
 ) -> Result<Vec<Difference>, AllocError> {
-    let fails = List::new(conversation.link_fails.clone()?);
-    if conversation.grains.is_empty() {
-        let link = EchoLink::new(alloc, fails);
-        let (out, link, status) = played(alloc, conversation, link)?;
-        return compared(alloc, conversation, out.written(), link.asked(), status);
+    let whole = Part {
+        sent: repeated(alloc, &conversation.sent, conversation.repeats)?,
+        answered: repeated(alloc, &conversation.answered, conversation.repeats)?,
+        status: conversation.status,
+    };
+    if conversation.cuts {
+        for length in 0..whole.sent.len() {
+            let part = cut_at(alloc, conversation, length)?;
+            let found = part_differences(alloc, conversation, &part)?;
+            if !found.is_empty() {
+                return Ok(found);
+            }
+        }
     }
-    let answers = grain_answers(alloc, conversation)?;
-    let link = CannedLink::new(alloc, answers, fails);
-    let (out, link, status) = played(alloc, conversation, link)?;
-    compared(alloc, conversation, out.written(), link.asked(), status)
+    part_differences(alloc, conversation, &whole)
 }

@@ -40,6 +40,7 @@ fn read_setting(
 ) -> Result<bool, AllocError> {
     match name {
         "words" => conversation.words = words(alloc, value)?,
+        "cuts" => conversation.cuts = true,
         "grain" => conversation.grains.push(Vec::new(alloc))?,
         "status" => match value.parse::<u8>() {
             Ok(status) => conversation.status = status,
