@@ -1,4 +1,4 @@
--- What rounds over a table keep and gain.
+-- An aid for the proof of solving: what rounds over a table keep and gain.
 use Rattle.std.specs.Prelude.{ℕ, IsSome, sum_by}
 use Rattle.std.specs.Map.{values_of}
 use Rattle.host_base.specs.declared.ids.GrainId.{GrainId}

@@ -1,4 +1,4 @@
--- What is known of whoever stands behind a good key.
+-- An aid for the proof of the verdict: what is known of whoever stands behind a good key.
 use Rattle.share_graph.specs.declared.sessions.Root.{Root}
 use Rattle.share_graph.specs.declared.sessions.Root.TheVariants as root
 use Rattle.share_graph.specs.declared.state.Tables.{Tables}

@@ -1,4 +1,4 @@
--- The names of a set of permissions.
+-- An aid for the proof of the verdict: the names of a set of permissions.
 use Rattle.std.specs.Prelude.{◌≡◌, ℕ, ◌↔◌, Contains, List}
 use Rattle.std.specs.List.Sorted.{IsStrictlyIncreasing}
 use Rattle.perm_roles.specs.declared.perm_set.PermSet.{PermSet}
