@@ -166,7 +166,7 @@ fn handles(alloc: Global) -> Result<List<Handle>, Fail> {
     Ok(list)
 }
 
-// Two accounts, an application with two permissions, a grain of Ada's, and three of Ben's, of which the third grain of all is in the trash.
+// Two accounts, an application with two permissions, a grain of Ada's, and three of Ben's, the second of which is in the trash.
 fn state(alloc: Global) -> Result<State, Fail> {
     let people = [("ada", false, true), ("ben", false, true)];
     let owned = [(ADA, false), (BEN, false), (BEN, true), (BEN, false)];
