@@ -117,7 +117,11 @@ fn needs_in_a_circle_support_nothing(rt: HostRuntime) -> Result<(), Fail> {
             } else {
                 Some(Denial::NoShare(num, DAN))
             };
-            assert_eq!(rt; missing(rt.alloc(), &tables, Node::User(num, DAN))?, wanted);
+            assert_eq!(rt;
+                missing(rt.alloc(), &tables, Node::User(num, DAN))?,
+                wanted,
+                "{num:?}, held: {is_held}"
+            );
         }
     }
     Ok(())
@@ -188,7 +192,11 @@ fn permissions_pass_as_far_as_the_source_holds_them(rt: HostRuntime) -> Result<(
         (MINUTES, DAN, None),
         (VOTE, ZOE, None),
     ] {
-        assert_eq!(rt; solved.access(Node::User(num, holder)), wanted);
+        assert_eq!(rt;
+            solved.access(Node::User(num, holder)),
+            wanted,
+            "{num:?} {holder:?}"
+        );
     }
     let held = Need::PermissionsHeld {
         holder: Node::User(MINUTES, ZOE),
