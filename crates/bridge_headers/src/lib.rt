@@ -1,11 +1,11 @@
 //! What passes between a client and a grain: the text of a request as a grain gets it, and the relay of its answer.
 #![tactic(auto)]
 
-pub mod asked;
+mod asked;
 mod fault;
 mod framing;
 mod head;
-pub mod identity;
+mod identity;
 mod lines;
 mod names;
 mod relay;
