@@ -3,6 +3,5 @@
 
 #[cfg(test)]
 mod manifests;
-
 #[cfg(test)]
 mod powerbox;

@@ -372,7 +372,11 @@ fn faults_have_numbers(rt: HostRuntime) -> Result<(), Fail> {
         (ManifestFault::LostName(2), 7, 2),
         (ManifestFault::LostRole(1), 8, 1),
     ] {
-        assert_eq!(rt; (fault.number(), fault.argument()), (number, argument), "{fault}");
+        assert_eq!(rt;
+            (fault.number(), fault.argument()),
+            (number, argument),
+            "{fault}"
+        );
     }
     let error = ManifestError::Fault(ManifestFault::LostRole(1));
     assert_eq!(rt;
