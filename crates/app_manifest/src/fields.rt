@@ -7,8 +7,8 @@ ghost use Rattle.app_manifest.specs.Text.{text_with, is_permission_name};
 ghost use Rattle.app_manifest.specs.Fields.{title_of, stated_or_empty, text_or_empty, flag_or_false, flags_of};
 ghost use Rattle.app_manifest.specs.Draft.{version_of};
 
-use crate::forms::{is_permission_name, is_plain, is_title};
-use plain_data::Name;
+use crate::forms::{is_permission_name, is_title};
+use plain_data::{Name, is_plain};
 use serde_json::Value;
 use std::alloc::{AllocError, Global};
 

@@ -2,10 +2,10 @@
 
 ghost use Rattle.std.specs.Prelude.{◌≡◌};
 ghost use Rattle.std.specs.List.{list_all};
-ghost use Rattle.plain_data.specs.Name.{is_plain, is_plain_byte};
+ghost use Rattle.plain_data.specs.Name.{is_plain};
 ghost use Rattle.app_manifest.specs.Text.{is_title, is_permission_byte, is_permission_name};
 
-use plain_data::NAME_LIMIT;
+use plain_data::is_plain;
 
 const TITLE_LIMIT: usize = 200;
 
@@ -23,19 +23,6 @@ pub fn is_permission_name(text: &str) -> bool
     ensures { result ≡ is_permission_name text.now }
 {
     !text.is_empty() && text.len() <= PERMISSION_NAME_LIMIT && has_permission_bytes(text.as_bytes())
-}
-
-// Whether a text has the form of a name.
-pub(crate) fn is_plain(text: &str) -> bool
-    ensures { result ≡ is_plain text.now }
-{
-    text.len() <= NAME_LIMIT && has_plain_bytes(text.as_bytes())
-}
-
-fn has_plain_bytes(bytes: &[u8]) -> bool
-    ensures { result ≡ list_all is_plain_byte bytes.now }
-{
-    bytes.iter().all(|&byte| byte >= 32 && byte != 127)
 }
 
 fn has_permission_bytes(bytes: &[u8]) -> bool

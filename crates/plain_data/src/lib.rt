@@ -6,5 +6,5 @@ mod name;
 mod text;
 
 pub use list::List;
-pub use name::{NAME_LIMIT, Name};
+pub use name::{NAME_LIMIT, Name, is_plain};
 pub use text::Text;

@@ -32,7 +32,7 @@ impl Name {
     pub fn new(text: String) -> Option<Self>
         ensures { MatchOption result (IsName (string_bytes text) → ⊥) (λ name. name ≡ string_bytes text) }
     {
-        if has_form(text.as_bytes()) {
+        if is_plain(text.as_str()) {
             Some(Name { text })
         } else {
             None
@@ -43,7 +43,7 @@ impl Name {
     pub fn from_str(alloc: Global, text: &str) -> Result<Option<Self>, AllocError>
         ensures { IfOk result (λ found. MatchOption found (IsName text.now → ⊥) (λ name. name ≡ text.now)) }
     {
-        if has_form(text.as_bytes()) {
+        if is_plain(text) {
             let text = String::from_str(alloc, text)?;
             Ok(Some(Name { text }))
         } else {
@@ -121,8 +121,9 @@ fn has_plain_bytes(text: &[u8]) -> bool
     text.iter().all(|byte| has_plain_byte(*byte))
 }
 
-fn has_form(text: &[u8]) -> bool
+/// Whether a text has the form of a name.
+pub fn is_plain(text: &str) -> bool
     ensures { result ≡ is_plain text.now }
 {
-    text.len() <= NAME_LIMIT && has_plain_bytes(text)
+    text.len() <= NAME_LIMIT && has_plain_bytes(text.as_bytes())
 }

@@ -1,4 +1,4 @@
-ghost use Rattle.std.specs.Prelude.{◌≡◌, IfOk};
+ghost use Rattle.std.specs.Prelude.{◌≡◌, IfOk, MatchOption};
 ghost use Rattle.std.specs.String.{string_bytes};
 ghost use Rattle.std.specs.Str.{IsUtf8};
 
@@ -34,6 +34,16 @@ impl Text {
     {
         let text = String::from_str(alloc, text)?;
         Ok(Text { text })
+    }
+
+    /// The text that bytes are, or none where they aren't UTF-8.
+    pub fn from_bytes(alloc: Global, bytes: &[u8]) -> Result<Option<Self>, AllocError>
+        ensures { IfOk result (λ found. MatchOption found (IsUtf8 bytes.now → ⊥) (λ text. text ≡ bytes.now)) }
+    {
+        match str::from_utf8(bytes) {
+            Ok(text) => Ok(Some(Text::from_str(alloc, text)?)),
+            Err(_) => Ok(None),
+        }
     }
 
     /// The text as a `str`.

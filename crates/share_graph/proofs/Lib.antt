@@ -14,3 +14,6 @@ pub mod WaysOne
 pub mod Marked
 pub mod RevokingLaw
 pub mod Outside
+pub mod Roomy
+pub mod ChangedRow
+pub mod ClosedFirst

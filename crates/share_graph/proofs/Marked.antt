@@ -3,7 +3,7 @@ use Rattle.std.proofs.Common.{◌≡◌, ◌≢◌, ℕ, zero, suc, ◌<◌, Lis
 use Rattle.share_graph.specs.declared.grants.Grant.{Grant}
 use Rattle.share_graph.specs.Rows.{row}
 use Rattle.share_graph.specs.Changing.{change, change_row}
-use Rattle.share_graph.specs.Revoking.{revoked}
+use Rattle.share_graph.specs.Setting.{revoked}
 
 change_other : {X : Type 0} (f : X → X) (xs : List X) (i k : ℕ) → k ≢ i → slice_get (change f xs i) k ≡ slice_get xs k
 change_other f [] i k h = refl

@@ -6,7 +6,8 @@ use Rattle.share_graph.specs.declared.state.Tables.{Tables}
 use Rattle.share_graph.specs.declared.facts.Fact.{Fact}
 use Rattle.share_graph.specs.declared.facts.Node.{Node}
 use Rattle.share_graph.specs.Changing.{change_row}
-use Rattle.share_graph.specs.Revoking.{revoked, revoke_in, TakesExactly}
+use Rattle.share_graph.specs.Revoking.{revoke_in, TakesExactly}
+use Rattle.share_graph.specs.Setting.{revoked}
 use Rattle.share_graph.proofs.Marked.{change_row_other, mark_row_same}
 use Rattle.share_graph.specs.Rows.{row}
 use Rattle.share_graph.specs.Derivation.{IsLive, Derivation, own, via, site, Uses, HoldsWithout}

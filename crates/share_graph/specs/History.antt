@@ -4,12 +4,12 @@ use Rattle.share_graph.specs.declared.event.Event.{Event}
 use Rattle.share_graph.specs.declared.event.Event.TheVariants as event
 use Rattle.share_graph.specs.declared.sessions.Root.{Root}
 use Rattle.share_graph.specs.declared.sessions.Root.TheVariants as root
-use Rattle.share_graph.specs.declared.sessions.Run.{Run}
 use Rattle.share_graph.specs.declared.sessions.Session.{Session}
 use Rattle.share_graph.specs.declared.state.State.{State}
 use Rattle.share_graph.specs.declared.state.Tables.{Tables}
 use Rattle.share_graph.specs.Changing.{change_row}
 use Rattle.share_graph.specs.Revoking.{revoke_in}
+use Rattle.share_graph.specs.Setting.{with_admin, with_enabled, with_trashed, dropped, stopped, closed}
 
 abbrev pub is_same_root : Root → Root → Bool
 is_same_root (root.Account a) (root.Account b) = a.0 == b.0
@@ -20,9 +20,6 @@ is_same_root (root.Grant g) (root.Account b) = false
 -- the session is open, and has that root
 abbrev pub is_open_of : Root → Session → Bool
 is_open_of root session = not session.closed && is_same_root root session.root
-
-abbrev pub closed : Session → Session
-closed session = record session { closed = true }
 
 -- the first open session of the root is closed
 abbrev pub close_first : Root → List Session → List Session
@@ -42,21 +39,17 @@ tables_after t (event.AppAdded app) = record t { apps = t.apps ++ app ∷ [] }
 tables_after t (event.GrainAdded grain) = record t { grains = t.grains ++ grain ∷ [] }
 tables_after t (event.GrantAdded grant) = record t { grants = t.grants ++ grant ∷ [] }
 tables_after t (event.SavedAdded saved) = record t { saved = t.saved ++ saved ∷ [] }
-tables_after t (event.AdminSet a on) = record t { accounts = change_row (λ account. record account { admin = on }) t.accounts a.0 }
-tables_after t (event.EnabledSet a on) = record t { accounts = change_row (λ account. record account { enabled = on }) t.accounts a.0 }
-tables_after t (event.TrashedSet n on) = record t { grains = change_row (λ grain. record grain { trashed = on }) t.grains n.0 }
+tables_after t (event.AdminSet a on) = record t { accounts = change_row (with_admin on) t.accounts a.0 }
+tables_after t (event.EnabledSet a on) = record t { accounts = change_row (with_enabled on) t.accounts a.0 }
+tables_after t (event.TrashedSet n on) = record t { grains = change_row (with_trashed on) t.grains n.0 }
 tables_after t (event.GrantRevoked g) = revoke_in t g
 tables_after t (event.Claimed grant handle) = record t { grants = t.grants ++ grant ∷ [] }
-tables_after t (event.SavedDropped v) = record t { saved = change_row (λ saved. record saved { dropped = true }) t.saved v.0 }
+tables_after t (event.SavedDropped v) = record t { saved = change_row dropped t.saved v.0 }
 tables_after t (event.RunStarted run) = t
 tables_after t (event.RunStopped r) = t
 tables_after t (event.SessionOpened session) = t
 tables_after t (event.SessionClosed n) = t
 tables_after t (event.HandleMade handle) = t
-
--- the run is stopped
-abbrev pub stopped : Run → Run
-stopped run = record run { stopped = true }
 
 -- THE STEP of the machine: the state after an event
 abbrev pub after : State → Event → State

@@ -20,3 +20,6 @@ pub mod Revoking
 pub mod History
 pub mod EventFits
 pub mod Region
+pub mod Rooms
+pub mod Setting
+pub mod Opening

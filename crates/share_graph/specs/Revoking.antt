@@ -1,15 +1,12 @@
 -- The tables after a grant was revoked, and the law of revoking.
-use Rattle.std.specs.Prelude.{◌↔◌, true}
+use Rattle.std.specs.Prelude.{◌↔◌}
 use Rattle.host_base.specs.declared.ids.GrantId.{GrantId}
 use Rattle.share_graph.specs.declared.facts.Fact.{Fact}
 use Rattle.share_graph.specs.declared.facts.Node.{Node}
-use Rattle.share_graph.specs.declared.grants.Grant.{Grant}
 use Rattle.share_graph.specs.declared.state.Tables.{Tables}
 use Rattle.share_graph.specs.Changing.{change_row}
+use Rattle.share_graph.specs.Setting.{revoked}
 use Rattle.share_graph.specs.Derivation.{Holds, HoldsWithout}
-
-abbrev pub revoked : Grant → Grant
-revoked grant = record grant { revoked = true }
 
 -- the grant's row is marked as revoked
 abbrev pub revoke_in : Tables → GrantId → Tables

@@ -13,8 +13,10 @@ mod keys;
 mod known;
 mod nodes;
 mod refusal;
+mod row_list;
 mod rows;
 mod sessions;
+mod setters;
 mod state;
 mod ways;
 
@@ -33,6 +35,7 @@ pub use keys::{
 pub use known::{has_account, has_grain, has_grant, is_own_node};
 pub use nodes::{node_of, source_of};
 pub use refusal::Refusal;
+pub use row_list::{Room, Rows};
 pub use rows::{Account, App, Grain, Saved};
 pub use sessions::{Handle, Root, Run, Session};
 pub use state::{State, Tables, copy_of};

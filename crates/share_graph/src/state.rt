@@ -1,28 +1,28 @@
 ghost use Rattle.std.specs.Prelude.{◌≡◌, IfOk};
 
 use crate::grants::Grant;
+use crate::row_list::Rows;
 use crate::rows::{Account, App, Grain, Saved};
 use crate::sessions::{Handle, Run, Session};
 use host_base::Memory;
-use plain_data::List;
 
 /// What the server keeps over a restart. Each list is in the order of its rows' numbers, from 1.
 #[derive(Clone, Drop)]
 pub struct Tables {
-    pub accounts: List<Account>,
-    pub apps: List<App>,
-    pub grains: List<Grain>,
-    pub grants: List<Grant>,
-    pub saved: List<Saved>,
+    pub accounts: Rows<Account>,
+    pub apps: Rows<App>,
+    pub grains: Rows<Grain>,
+    pub grants: Rows<Grant>,
+    pub saved: Rows<Saved>,
 }
 
 /// The tables, and what lives between a start and a stop of the server. Handles are in the order in which they were made.
 #[derive(Clone, Drop)]
 pub struct State {
     pub tables: Tables,
-    pub sessions: List<Session>,
-    pub runs: List<Run>,
-    pub handles: List<Handle>,
+    pub sessions: Rows<Session>,
+    pub runs: Rows<Run>,
+    pub handles: Rows<Handle>,
 }
 
 /// A copy of a state.

@@ -4,9 +4,9 @@ ghost use Rattle.sha2.specs.Sha256.{sha256};
 ghost use Rattle.small_book.specs.SmallBook.{account_row, small_accounts};
 
 use host_base::{AccountId, Digest, Memory};
-use plain_data::{List, Name};
+use plain_data::Name;
 use sha2::{Digest as Hasher, Sha256};
-use share_graph::Account;
+use share_graph::{Account, Rows};
 use std::alloc::Global;
 
 const ADA_LOGIN: &str = "AQEBAQEBAQEBAQEBAQEBAQEBAQEBAQEBAQEBAQEBAQE";
@@ -26,7 +26,7 @@ pub(crate) fn digest_of(text: &str) -> Digest
 
 /// Appends the account of the next number.
 fn add(
-    list: &mut List<Account>,
+    list: &mut Rows<Account>,
     alloc: Global,
     handle: &str,
     name: &str,
@@ -51,10 +51,10 @@ fn add(
     Ok(())
 }
 
-pub(crate) fn accounts(alloc: Global) -> Result<List<Account>, Memory>
+pub(crate) fn accounts(alloc: Global) -> Result<Rows<Account>, Memory>
     ensures { IfOk result (λ rows. rows ≡ small_accounts) }
 {
-    let mut list = List::empty(alloc);
+    let mut list = Rows::empty(alloc);
     add(&mut list, alloc, "ada", "Ada Holm", ADA_LOGIN, true)?;
     add(&mut list, alloc, "zoe", "Zoë K.", ZOE_LOGIN, false)?;
     add(&mut list, alloc, "ben", "Ben Roy", BEN_LOGIN, false)?;

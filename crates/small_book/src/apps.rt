@@ -8,7 +8,7 @@ use host_base::{AppId, Memory};
 use perm_roles::{PermSet, Role};
 use plain_data::{List, Name};
 use powerbox_match::{Descriptor, Quality, Tag, TagValue};
-use share_graph::App;
+use share_graph::{App, Rows};
 use std::alloc::Global;
 
 fn permission(alloc: Global, name: &str) -> Result<PermissionDef, Memory>
@@ -86,10 +86,10 @@ fn poll(alloc: Global) -> Result<Manifest, Memory>
     })
 }
 
-pub(crate) fn apps(alloc: Global) -> Result<List<App>, Memory>
+pub(crate) fn apps(alloc: Global) -> Result<Rows<App>, Memory>
     ensures { IfOk result (λ rows. rows ≡ small_apps) }
 {
-    let mut list = List::empty(alloc);
+    let mut list = Rows::empty(alloc);
     let manifest = notes(alloc)?;
     list.push(App {
         num: AppId(1),

@@ -7,8 +7,7 @@ use crate::apps::apps;
 use crate::grains::{grains, grants};
 use crate::live::{runs, sessions};
 use host_base::Memory;
-use plain_data::List;
-use share_graph::{State, Tables};
+use share_graph::{Rows, State, Tables};
 use std::alloc::Global;
 
 /// Four accounts, two applications, a grain of each, two shares of the first grain, four sessions and two runs.
@@ -22,12 +21,12 @@ pub fn small_book(alloc: Global) -> Result<State, Memory>
         apps: apps(alloc)?,
         grains: grains(alloc)?,
         grants: grants(alloc)?,
-        saved: List::empty(alloc),
+        saved: Rows::empty(alloc),
     };
     Ok(State {
         tables,
         sessions: sessions(alloc)?,
         runs: runs(alloc)?,
-        handles: List::empty(alloc),
+        handles: Rows::empty(alloc),
     })
 }

@@ -5,7 +5,7 @@ ghost use Rattle.small_book.specs.SmallBook.{grain_row, small_grains, share_row,
 use host_base::{AccountId, AppId, GrainId, GrantId, Memory};
 use perm_roles::{Assignment, Base, PermSet};
 use plain_data::{List, Name};
-use share_graph::{Giver, Grain, Grant, Target};
+use share_graph::{Giver, Grain, Grant, Rows, Target};
 use std::alloc::Global;
 
 fn grain(alloc: Global, num: u32, app: u32, owner: u32, title: &str) -> Result<Grain, Memory>
@@ -21,10 +21,10 @@ fn grain(alloc: Global, num: u32, app: u32, owner: u32, title: &str) -> Result<G
     })
 }
 
-pub(crate) fn grains(alloc: Global) -> Result<List<Grain>, Memory>
+pub(crate) fn grains(alloc: Global) -> Result<Rows<Grain>, Memory>
     ensures { IfOk result (λ rows. rows ≡ small_grains) }
 {
-    let mut list = List::empty(alloc);
+    let mut list = Rows::empty(alloc);
     list.push(grain(alloc, 1, 1, 1, "Minutes")?)?;
     list.push(grain(alloc, 2, 2, 1, "Vote")?)?;
     Ok(list)
@@ -49,10 +49,10 @@ fn share(alloc: Global, num: u32, grain: u32, giver: u32, user: u32, base: Base)
     }
 }
 
-pub(crate) fn grants(alloc: Global) -> Result<List<Grant>, Memory>
+pub(crate) fn grants(alloc: Global) -> Result<Rows<Grant>, Memory>
     ensures { IfOk result (λ rows. rows ≡ small_grants) }
 {
-    let mut list = List::empty(alloc);
+    let mut list = Rows::empty(alloc);
     list.push(share(alloc, 1, 1, 1, 2, Base::Role(1)))?;
     list.push(share(alloc, 2, 1, 2, 3, Base::AllAccess))?;
     Ok(list)

@@ -3,8 +3,7 @@ ghost use Rattle.small_book.specs.SmallBook.{session_row, small_sessions, run_ro
 
 use crate::accounts::digest_of;
 use host_base::{AccountId, GrainId, Memory, RunId, SessionId};
-use plain_data::List;
-use share_graph::{Root, Run, Session};
+use share_graph::{Root, Rows, Run, Session};
 use std::alloc::Global;
 
 const FIRST_KEY: &str = "11111111111111111111111111111111";
@@ -32,10 +31,10 @@ fn session(num: u32, key: &str, grain: u32, account: u32) -> Session
     }
 }
 
-pub(crate) fn sessions(alloc: Global) -> Result<List<Session>, Memory>
+pub(crate) fn sessions(alloc: Global) -> Result<Rows<Session>, Memory>
     ensures { IfOk result (λ rows. rows ≡ small_sessions) }
 {
-    let mut list = List::empty(alloc);
+    let mut list = Rows::empty(alloc);
     list.push(session(1, FIRST_KEY, 1, 1))?;
     list.push(session(2, SECOND_KEY, 1, 2))?;
     list.push(session(3, THIRD_KEY, 1, 3))?;
@@ -54,10 +53,10 @@ fn run(num: u64, grain: u32, token: &str) -> Run
     }
 }
 
-pub(crate) fn runs(alloc: Global) -> Result<List<Run>, Memory>
+pub(crate) fn runs(alloc: Global) -> Result<Rows<Run>, Memory>
     ensures { IfOk result (λ rows. rows ≡ small_runs) }
 {
-    let mut list = List::empty(alloc);
+    let mut list = Rows::empty(alloc);
     list.push(run(1, 1, NOTES_TOKEN))?;
     list.push(run(2, 2, POLL_TOKEN))?;
     Ok(list)

@@ -6,5 +6,5 @@ use Rattle.plain_data.proofs.name.Name.new.Goals as goal
 pub invariant_of-result : goal.invariant_of-result
 invariant_of-result c = record {
   utf8 = IsUtf8-string_bytes c.args.text;
-  plain = ap is_plain (sym c.as_bytes.ensures.value) ∙ sym c.has_form.ensures ∙ c.if-has_form.true;
+  plain = ap is_plain (sym c.as_str.ensures.value) ∙ sym c.is_plain.ensures ∙ c.if-is_plain.true;
 }

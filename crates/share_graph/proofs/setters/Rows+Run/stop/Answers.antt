@@ -1,0 +1,6 @@
+use Rattle.share_graph.specs.Setting.{stopped}
+use Rattle.share_graph.proofs.ChangedRow.{sets_row}
+use Rattle.share_graph.proofs.setters.Rows+Run.stop.Goals as goal
+
+pub returns-in-Some : goal.returns-in-Some
+returns-in-Some c = rw (← c.self.view_is) (sets_row stopped _ _ _ c.index_mut.result.now c.in-Some.ensures.0 c.index_mut.ensures.value)

@@ -1,0 +1,16 @@
+-- Room in a list that grows to twice its length where that is a power of two.
+use Rattle.std.specs.Prelude.{◌≡◌, ◌<◌, ◌≤◌, ◌+◌, ◌*◌, ◌^◌, ℕ, Option, Some, None, List, [], vec_capacity}
+use Rattle.std.specs.Global.{Vec}
+
+-- the number lies between two neighbouring powers of two
+abbrev pub IsBetweenPowers : ℕ → Type 0
+IsBetweenPowers n = (k : ℕ) × (2 ^ k < n) × (n < 2 * 2 ^ k)
+
+-- the capacity holds so many rows, and twice each power of two below their number
+abbrev pub HasRoom : ℕ → ℕ → Type 0
+HasRoom n capacity = (n ≤ capacity) × ((k : ℕ) → 2 ^ k < n → 2 * 2 ^ k ≤ capacity)
+
+-- room for one row more beside so many: a list that lies between two powers has it, and any other grows into this one
+abbrev pub IsRoomBeside : {T : Type 0} → ℕ → Option (Vec T) → Type 0
+IsRoomBeside n None = IsBetweenPowers n
+IsRoomBeside n (Some vec) = (vec.items ≡ []) × HasRoom (n + 1) (vec_capacity vec)

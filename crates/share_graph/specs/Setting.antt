@@ -1,0 +1,29 @@
+-- What events set in rows.
+use Rattle.std.specs.Prelude.{Bool, true}
+use Rattle.share_graph.specs.declared.grants.Grant.{Grant}
+use Rattle.share_graph.specs.declared.rows.Account.{Account}
+use Rattle.share_graph.specs.declared.rows.Grain.{Grain}
+use Rattle.share_graph.specs.declared.rows.Saved.{Saved}
+use Rattle.share_graph.specs.declared.sessions.Run.{Run}
+use Rattle.share_graph.specs.declared.sessions.Session.{Session}
+
+abbrev pub with_admin : Bool → Account → Account
+with_admin on account = record account { admin = on }
+
+abbrev pub with_enabled : Bool → Account → Account
+with_enabled on account = record account { enabled = on }
+
+abbrev pub with_trashed : Bool → Grain → Grain
+with_trashed on grain = record grain { trashed = on }
+
+abbrev pub revoked : Grant → Grant
+revoked grant = record grant { revoked = true }
+
+abbrev pub dropped : Saved → Saved
+dropped saved = record saved { dropped = true }
+
+abbrev pub stopped : Run → Run
+stopped run = record run { stopped = true }
+
+abbrev pub closed : Session → Session
+closed session = record session { closed = true }

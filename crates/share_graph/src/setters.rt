@@ -1,0 +1,133 @@
+ghost use Rattle.std.specs.Prelude.{◌≡◌, ◌<◌, ◌+◌, ◌⊎◌, length, MatchOption};
+ghost use Rattle.share_graph.specs.Changing.{change_row};
+ghost use Rattle.share_graph.specs.History.{is_open_of, close_first};
+ghost use Rattle.share_graph.specs.Opening.{NoneIsOpen, IsFirstOpen};
+ghost use Rattle.share_graph.specs.Setting.{with_admin, with_enabled, with_trashed, revoked, dropped, stopped, closed};
+
+use crate::grants::Grant;
+use crate::row_list::Rows;
+use crate::rows::{Account, Grain, Saved};
+use crate::sessions::{Root, Run, Session};
+use host_base::{AccountId, GrainId, GrantId, RunId, SavedId, SessionId};
+
+/// Whether a session is open, and has this root.
+pub fn is_open_of(root: Root, session: &Session) -> bool
+    ensures { result ≡ is_open_of root session.now }
+{
+    !session.closed && root == session.root
+}
+
+// The place, from 0, of the first open session of a root.
+fn first_open(root: Root, sessions: &[Session]) -> Option<usize>
+    ensures { MatchOption result (NoneIsOpen root sessions.now) (IsFirstOpen root sessions.now) }
+{
+    let mut place = 0;
+    while place < sessions.len() {
+        if is_open_of(root, &sessions[place]) {
+            return Some(place);
+        }
+        place += 1;
+    }
+    None
+}
+
+// The place, from 0, of the row of a number, from 1.
+fn place_of(num: u64, length: usize) -> Option<usize>
+    ensures { MatchOption result ((num ≡ 0) ⊎ (length < num)) (λ place. (num ≡ place + 1) × (place < length)) }
+{
+    if num == 0 || num > length as u64 {
+        return None;
+    }
+    Some(num as usize - 1)
+}
+
+impl Rows<Account> {
+    /// Makes the account of a number an admin, or none. Where it isn't there nothing changes.
+    #[tactic(auto, using(crate::proofs::ChangedRow::sets_nothing))]
+    pub fn set_admin(&mut self, num: AccountId, on: bool)
+        ensures { self.new ≡ change_row (with_admin on) self.old num.0 }
+    {
+        if let Some(place) = place_of(u64::from(num.0), self.items.len()) {
+            self.items[place].admin = on;
+        }
+    }
+
+    /// Enables the account of a number, or disables it. Where it isn't there nothing changes.
+    #[tactic(auto, using(crate::proofs::ChangedRow::sets_nothing))]
+    pub fn set_enabled(&mut self, num: AccountId, on: bool)
+        ensures { self.new ≡ change_row (with_enabled on) self.old num.0 }
+    {
+        if let Some(place) = place_of(u64::from(num.0), self.items.len()) {
+            self.items[place].enabled = on;
+        }
+    }
+}
+
+impl Rows<Grain> {
+    /// Puts the grain of a number into the trash, or takes it out. Where it isn't there nothing changes.
+    #[tactic(auto, using(crate::proofs::ChangedRow::sets_nothing))]
+    pub fn set_trashed(&mut self, num: GrainId, on: bool)
+        ensures { self.new ≡ change_row (with_trashed on) self.old num.0 }
+    {
+        if let Some(place) = place_of(u64::from(num.0), self.items.len()) {
+            self.items[place].trashed = on;
+        }
+    }
+}
+
+impl Rows<Grant> {
+    /// Revokes the grant of a number. Where it isn't there nothing changes.
+    #[tactic(auto, using(crate::proofs::ChangedRow::sets_nothing))]
+    pub fn revoke(&mut self, num: GrantId)
+        ensures { self.new ≡ change_row revoked self.old num.0 }
+    {
+        if let Some(place) = place_of(u64::from(num.0), self.items.len()) {
+            self.items[place].revoked = true;
+        }
+    }
+}
+
+impl Rows<Saved> {
+    /// Drops the saved reference of a number. Where it isn't there nothing changes.
+    #[tactic(auto, using(crate::proofs::ChangedRow::sets_nothing))]
+    pub fn drop_reference(&mut self, num: SavedId)
+        ensures { self.new ≡ change_row dropped self.old num.0 }
+    {
+        if let Some(place) = place_of(u64::from(num.0), self.items.len()) {
+            self.items[place].dropped = true;
+        }
+    }
+}
+
+impl Rows<Run> {
+    /// Stops the run of a number. Where it isn't there nothing changes.
+    #[tactic(auto, using(crate::proofs::ChangedRow::sets_nothing))]
+    pub fn stop(&mut self, num: RunId)
+        ensures { self.new ≡ change_row stopped self.old num.0 }
+    {
+        if let Some(place) = place_of(num.0, self.items.len()) {
+            self.items[place].stopped = true;
+        }
+    }
+}
+
+impl Rows<Session> {
+    /// Closes the session of a number. Where it isn't there nothing changes.
+    #[tactic(auto, using(crate::proofs::ChangedRow::sets_nothing))]
+    pub fn close(&mut self, num: SessionId)
+        ensures { self.new ≡ change_row closed self.old num.0 }
+    {
+        if let Some(place) = place_of(u64::from(num.0), self.items.len()) {
+            self.items[place].closed = true;
+        }
+    }
+
+    /// Closes the first open session of a root. Where none is open nothing changes.
+    pub fn close_first(&mut self, root: Root)
+        ensures { self.new ≡ close_first root self.old }
+    {
+        if let Some(place) = first_open(root, self.items.as_slice()) {
+            self.items[place].closed = true;
+        }
+    }
+}
