@@ -38,5 +38,6 @@ pub use refusal::Refusal;
 pub use row_list::{Room, Rows};
 pub use rows::{Account, App, Grain, Saved};
 pub use sessions::{Handle, Root, Run, Session};
+pub use setters::is_open_of;
 pub use state::{State, Tables, copy_of};
 pub use ways::{Origin, origin_of, root_maker, shown_as};

@@ -7,6 +7,7 @@ use share_graph::{Event, Kind, State};
 
 /// The row of the tables that an event adds to a state or changes: its kind and its number. An event that changes sessions, runs
 /// or handles alone changes none.
+#[tactic(auto, using(crate::proofs::OthersStay::others_stay))]
 pub fn row_of_event(state: &State, event: &Event) -> Option<(Kind, u32)>
     requires { EventFits state.now event.now }
     ensures row { result ≡ changed_row event.now }

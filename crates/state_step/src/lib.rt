@@ -1,12 +1,12 @@
 //! The step of the machine: what an accepted command's event does to a state.
 #![tactic(auto)]
 
-mod apply;
+mod applying;
 mod changed;
-mod prepare;
+mod preparing;
 mod staged;
 
-pub use apply::{after, apply};
+pub use applying::{ROOT_SESSIONS, after, apply};
 pub use changed::row_of_event;
-pub use prepare::prepare;
+pub use preparing::prepare;
 pub use staged::Staged;

@@ -1,0 +1,2 @@
+pub mod AfterAll
+pub mod OthersStay
