@@ -1,3 +1,5 @@
 pub mod Staging
 pub mod Changed
 pub mod Losing
+pub mod NewRows
+pub mod Fits

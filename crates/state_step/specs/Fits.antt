@@ -1,0 +1,37 @@
+-- Which events fit a well-formed state: the laws that whoever makes events cites.
+use Rattle.host_base.specs.declared.ids.AccountId.{AccountId}
+use Rattle.std.specs.Prelude.{Bool}
+use Rattle.host_base.specs.declared.ids.GrainId.{GrainId}
+use Rattle.host_base.specs.declared.ids.GrantId.{GrantId}
+use Rattle.host_base.specs.declared.ids.RunId.{RunId}
+use Rattle.host_base.specs.declared.ids.SavedId.{SavedId}
+use Rattle.host_base.specs.declared.ids.SessionId.{SessionId}
+use Rattle.share_graph.specs.declared.event.Event.{Event}
+use Rattle.share_graph.specs.declared.event.Event.TheVariants as event
+use Rattle.share_graph.specs.declared.state.State.{State}
+use Rattle.share_graph.specs.EventFits.{HasChanged, EventFits}
+use Rattle.share_graph.specs.WellFormed.{IsWellFormed}
+use Rattle.state_step.specs.NewRows.{IsNewAccount, IsNewApp, IsNewGrain, IsNewGrant, IsNewReference, IsNewSession, IsNewRun, IsNewHandle, IsNewClaim}
+
+-- what is owed for an event: that its new row may be added, or that the row which it changes is there
+abbrev pub IsDue : State → Event → Type 0
+IsDue s (event.AccountAdded account) = IsNewAccount s account
+IsDue s (event.AppAdded app) = IsNewApp s app
+IsDue s (event.GrainAdded grain) = IsNewGrain s grain
+IsDue s (event.GrantAdded grant) = IsNewGrant s grant
+IsDue s (event.SavedAdded saved) = IsNewReference s saved
+IsDue s (event.AdminSet a on) = HasChanged s (event.AdminSet a on)
+IsDue s (event.EnabledSet a on) = HasChanged s (event.EnabledSet a on)
+IsDue s (event.TrashedSet n on) = HasChanged s (event.TrashedSet n on)
+IsDue s (event.GrantRevoked g) = HasChanged s (event.GrantRevoked g)
+IsDue s (event.Claimed grant handle) = IsNewClaim s grant handle
+IsDue s (event.SavedDropped v) = HasChanged s (event.SavedDropped v)
+IsDue s (event.RunStarted run) = IsNewRun s run
+IsDue s (event.RunStopped r) = HasChanged s (event.RunStopped r)
+IsDue s (event.SessionOpened session) = IsNewSession s session
+IsDue s (event.SessionClosed n) = HasChanged s (event.SessionClosed n)
+IsDue s (event.HandleMade handle) = IsNewHandle s handle
+
+-- WHAT IS OWED SUFFICES: each such event fits a well-formed state.
+abbrev pub DueFits : Type 0
+DueFits = (s : State) (e : Event) → IsWellFormed s → IsDue s e → EventFits s e
