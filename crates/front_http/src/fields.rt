@@ -2,12 +2,10 @@
 ghost use Rattle.std.specs.Prelude.{◌≡◌, length, option_map, IfOk};
 ghost use Rattle.front_http.specs.Heads.{is_same, values_of, lower, only, closes as closes_by, bearer_of, body_length as length_of, host_of, bearer_text};
 ghost use Rattle.front_http.specs.Fields.{first_of};
-ghost use Rattle.sha2.specs.Sha256.{sha256};
 
 use crate::number::{is_digits, number_within};
 use crate::refusal::Refusal;
-use host_base::{Bytes, Digest, Field, Memory};
-use sha2::{Digest as Sha, Sha256};
+use host_base::{Bytes, Digest, Field, Memory, digest_of};
 use std::alloc::Global;
 
 /// The longest body, in bytes.
@@ -88,13 +86,6 @@ fn credential(value: &[u8]) -> Option<&[u8]>
     } else {
         None
     }
-}
-
-/// The digest of a text.
-pub fn digest_of(text: &[u8]) -> Digest
-    ensures { result ≡ record { 0 = sha256 text.now } }
-{
-    Digest(Sha256::digest(text))
 }
 
 /// The digest of the credential, where there is exactly one.

@@ -6,11 +6,10 @@ ghost use Rattle.front_http.specs.Routes.{host_kind as host_kind_of, is_method a
 ghost use Rattle.front_http.specs.Tables.{with_route, value_of};
 ghost use Rattle.front_http.specs.Numbers.{with_number as renumbered, form_of, kept_number, kind_of};
 
-use crate::fields::digest_of;
 use crate::number::number_between;
 use crate::route::Route;
 use crate::target::{path, session_text, use_parts};
-use host_base::{Memory, Request};
+use host_base::{Memory, Request, digest_of};
 use matchit::{InsertError, Router};
 use std::alloc::Global;
 use std::marker::Model;

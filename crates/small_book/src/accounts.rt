@@ -3,9 +3,8 @@ ghost use Rattle.plain_data.specs.Name.{is_plain};
 ghost use Rattle.sha2.specs.Sha256.{sha256};
 ghost use Rattle.small_book.specs.SmallBook.{account_row, small_accounts};
 
-use host_base::{AccountId, Digest, Memory};
+use host_base::{AccountId, Memory, digest_of};
 use plain_data::Name;
-use sha2::{Digest as Hasher, Sha256};
 use share_graph::{Account, Rows};
 use std::alloc::Global;
 
@@ -16,13 +15,6 @@ const ZOE_LOGIN: &str = "AgICAgICAgICAgICAgICAgICAgICAgICAgICAgICAgI";
 const BEN_LOGIN: &str = "AwMDAwMDAwMDAwMDAwMDAwMDAwMDAwMDAwMDAwMDAwM";
 
 const DAN_LOGIN: &str = "BAQEBAQEBAQEBAQEBAQEBAQEBAQEBAQEBAQEBAQEBAQ";
-
-/// How a secret text is known: by its SHA-256 digest.
-pub(crate) fn digest_of(text: &str) -> Digest
-    ensures { result ≡ record { 0 = sha256 text.now } }
-{
-    Digest(Sha256::digest(text.as_bytes()))
-}
 
 /// Appends the account of the next number.
 fn add(
@@ -43,7 +35,7 @@ fn add(
         num: AccountId(num),
         handle: Name::from_plain(alloc, handle)?,
         name: Name::from_plain(alloc, name)?,
-        login: digest_of(login),
+        login: digest_of(login.as_bytes()),
         admin,
         enabled: true,
     };

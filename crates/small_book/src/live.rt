@@ -1,8 +1,7 @@
 ghost use Rattle.std.specs.Prelude.{◌≡◌, IfOk};
 ghost use Rattle.small_book.specs.SmallBook.{session_row, small_sessions, run_row, small_runs};
 
-use crate::accounts::digest_of;
-use host_base::{AccountId, GrainId, Memory, RunId, SessionId};
+use host_base::{AccountId, GrainId, Memory, RunId, SessionId, digest_of};
 use share_graph::{Root, Rows, Run, Session};
 use std::alloc::Global;
 
@@ -23,7 +22,7 @@ fn session(num: u32, key: &str, grain: u32, account: u32) -> Session
 {
     Session {
         num: SessionId(num),
-        digest: digest_of(key),
+        digest: digest_of(key.as_bytes()),
         grain: GrainId(grain),
         root: Root::Account(AccountId(account)),
         tab: u64::from(num),
@@ -48,7 +47,7 @@ fn run(num: u64, grain: u32, token: &str) -> Run
     Run {
         num: RunId(num),
         grain: GrainId(grain),
-        digest: digest_of(token),
+        digest: digest_of(token.as_bytes()),
         stopped: false,
     }
 }
