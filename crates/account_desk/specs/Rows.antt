@@ -1,0 +1,42 @@
+-- The rows that the commands add, and the tests of this desk alone.
+use Rattle.std.specs.Prelude.{◌≡◌, ◌≢◌, ℕ, Bool, List, Contains, true, false}
+use Rattle.host_base.specs.declared.digest.Digest.{Digest}
+use Rattle.host_base.specs.declared.ids.AccountId.{AccountId}
+use Rattle.host_base.specs.declared.ids.AppId.{AppId}
+use Rattle.app_manifest.specs.declared.manifest.Manifest.{Manifest}
+use Rattle.share_graph.specs.declared.event.Event.{Event}
+use Rattle.share_graph.specs.declared.refusal.Refusal.{Refusal}
+use Rattle.share_graph.specs.declared.refusal.Refusal.TheVariants.{HandleTaken}
+use Rattle.share_graph.specs.declared.rows.Account.{Account}
+use Rattle.share_graph.specs.declared.rows.App.{App}
+use Rattle.share_graph.specs.declared.rows.Grain.{Grain}
+use Rattle.share_graph.specs.declared.state.Tables.{Tables}
+use Rattle.share_graph.specs.History.{tables_after}
+use Rattle.share_graph.specs.Keys.{IsOneOf, IsNoneOf}
+use Rattle.desk_base.specs.Made.{next}
+
+-- a new account is enabled, and no admin
+abbrev pub new_account : Tables → List ℕ → List ℕ → Digest → Account
+new_account t handle name d = record { num = record { 0 = next t.accounts }; handle = handle; name = name; login = d; admin = false; enabled = true }
+
+abbrev pub new_app : Tables → Manifest → App
+new_app t manifest = record { num = record { 0 = next t.apps }; manifest = manifest }
+
+abbrev pub new_grain : Tables → AppId → AccountId → List ℕ → Grain
+new_grain t app owner title = record { num = record { 0 = next t.grains }; app = app; owner = owner; title = title; trashed = false }
+
+-- the account has the handle
+abbrev pub HasHandle : List ℕ → Account → Type 0
+HasHandle handle account = account.handle ≡ handle
+
+-- the refusal that names the account which has the handle
+abbrev pub IsTaken : Tables → List ℕ → Refusal → Type 0
+IsTaken t handle r = (account : Account) × (r ≡ HandleTaken account.num) × IsOneOf t.accounts (HasHandle handle) account
+
+-- the account is an enabled admin
+abbrev pub IsEnabledAdmin : Account → Type 0
+IsEnabledAdmin account = (account.enabled ≡ true) × (account.admin ≡ true)
+
+-- after the event no account is an enabled admin
+unfoldable pub LeavesNoAdmin : Tables → Event → Type 0
+LeavesNoAdmin t e = IsNoneOf (tables_after t e).accounts IsEnabledAdmin

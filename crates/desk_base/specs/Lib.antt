@@ -1,0 +1,6 @@
+pub mod Steps
+pub mod Limits
+pub mod Made
+pub mod Wording
+pub mod Outcomes
+pub mod Accepting

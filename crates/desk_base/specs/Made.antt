@@ -1,0 +1,20 @@
+-- What replies show.
+use Rattle.std.specs.Prelude.{ℕ, ◌+◌, List, Some, None, length}
+use Rattle.share_graph.specs.declared.desk.Made.{Made}
+use Rattle.share_graph.specs.declared.state.Tables.{Tables}
+
+abbrev pub nothing_made : Made
+nothing_made = record { account = None; app = None; grain = None; grant = None; handle = None; saved = None; session = None }
+
+-- the number of the next row
+abbrev pub next : {X : Type 0} → List X → ℕ
+next rows = length rows + 1
+
+abbrev pub made_account : Tables → Made
+made_account t = record nothing_made { account = Some (next t.accounts) }
+
+abbrev pub made_app : Tables → Made
+made_app t = record nothing_made { app = Some (next t.apps) }
+
+abbrev pub made_grain : Tables → Made
+made_grain t = record nothing_made { grain = Some (next t.grains) }
