@@ -1,1 +1,3 @@
-
+pub mod Words
+pub mod OneWord
+pub mod FitForms

@@ -4,3 +4,5 @@ pub mod Made
 pub mod Wording
 pub mod Outcomes
 pub mod Accepting
+pub mod Calling
+pub mod Fitting
