@@ -1,2 +1,12 @@
 //! The desk of accounts, applications and grains: what becomes of a command on them.
 #![tactic(auto)]
+
+mod accounts;
+mod admins;
+mod apps;
+mod grains;
+
+pub use accounts::{add_account, add_account_ready};
+pub use admins::{set_admin, set_enabled};
+pub use apps::add_app;
+pub use grains::{new_grain, trash, untrash};

@@ -1,0 +1,124 @@
+ghost use Rattle.std.specs.Prelude.{◌≡◌, true, false};
+ghost use Rattle.share_graph.specs.Forms.{IsOne};
+ghost use Rattle.share_graph.specs.WellFormed.{IsWellFormed};
+ghost use Rattle.desk_base.specs.Fitting.{RowFits};
+ghost use Rattle.desk_base.specs.Outcomes.{Checks, IsCarried};
+ghost use Rattle.account_desk.specs.Commands.{NewGrain, grain_step, Trash, trash_step};
+
+use crate::accounts::copy_of_name;
+use desk_base::{NOTHING, Stop, caller_account, has_grain_room, known_app, known_grain};
+use host_base::{AccountId, AppId, GrainId};
+use least_access::Solved;
+use plain_data::Name;
+use share_graph::{Caller, DeskFault, Event, Grain, Made, Outcome, Refusal, State};
+
+// The checks of `new_grain`: the account that is to own it.
+fn check_new_grain(
+    state: &State,
+    caller: &Caller,
+    app: AppId,
+    title: &Name,
+) -> Result<AccountId, Stop>
+    ensures { Checks (NewGrain state.now caller.now app title.now) (grain_step state.now.tables app title.now) result }
+{
+    let owner = caller_account(state, caller)?;
+    known_app(&state.tables, app)?;
+    has_grain_room(&state.tables)?;
+    Ok(owner.num)
+}
+
+/// Makes a grain of an application, owned by the caller. The reply shows its number.
+pub fn new_grain(
+    state: &State,
+    solved: &Solved,
+    caller: &Caller,
+    app: AppId,
+    title: &Name,
+) -> Result<Outcome, DeskFault>
+    requires { IsWellFormed state.now }
+    ensures row { IsCarried (NewGrain state.now caller.now app title.now) result }
+    ensures one { IsOne (NewGrain state.now caller.now app title.now) }
+    ensures fits { RowFits state.now (NewGrain state.now caller.now app title.now) }
+{
+    let _ = solved;
+    let owner = match check_new_grain(state, caller, app, title) {
+        Ok(owner) => owner,
+        Err(Stop::Refused(refusal)) => return Err(DeskFault::Refused(refusal)),
+        Err(Stop::Same(made)) => return Ok(Outcome::Same(made)),
+    };
+    let num = state.tables.grains.as_slice().len() as u32 + 1;
+    let grain = Grain {
+        num: GrainId(num),
+        app,
+        owner,
+        title: copy_of_name(title)?,
+        trashed: false,
+    };
+    let made = Made {
+        grain: Some(num),
+        ..NOTHING
+    };
+    Ok(Outcome::Change(Event::GrainAdded(grain), made))
+}
+
+// The checks of `trash` and `untrash`.
+fn check_trash(state: &State, caller: &Caller, num: GrainId, on: bool) -> Result<(), Stop>
+    ensures { Checks (Trash state.now caller.now num on) (λ _. trash_step num on) result }
+{
+    let account = caller_account(state, caller)?;
+    let grain = known_grain(&state.tables, num)?;
+    if grain.owner != account.num {
+        return Err(Stop::Refused(Refusal::NotOwner(num)));
+    }
+    if grain.trashed == on {
+        return Err(Stop::Same(NOTHING));
+    }
+    Ok(())
+}
+
+fn set_trashed(
+    state: &State,
+    caller: &Caller,
+    num: GrainId,
+    on: bool,
+) -> Result<Outcome, DeskFault>
+    ensures { IsCarried (Trash state.now caller.now num on) result }
+{
+    match check_trash(state, caller, num, on) {
+        Ok(()) => Ok(Outcome::Change(Event::TrashedSet(num, on), NOTHING)),
+        Err(Stop::Refused(refusal)) => Err(DeskFault::Refused(refusal)),
+        Err(Stop::Same(made)) => Ok(Outcome::Same(made)),
+    }
+}
+
+/// Puts a grain into the trash. Its run goes on.
+pub fn trash(
+    state: &State,
+    solved: &Solved,
+    caller: &Caller,
+    num: GrainId,
+) -> Result<Outcome, DeskFault>
+    requires { IsWellFormed state.now }
+    ensures row { IsCarried (Trash state.now caller.now num true) result }
+    ensures one { IsOne (Trash state.now caller.now num true) }
+    ensures fits { RowFits state.now (Trash state.now caller.now num true) }
+{
+    let _ = solved;
+    set_trashed(state, caller, num, true)
+}
+
+/// Takes a grain out of the trash.
+pub fn untrash(
+    state: &State,
+    solved: &Solved,
+    caller: &Caller,
+    num: GrainId,
+) -> Result<Outcome, DeskFault>
+    requires { IsWellFormed state.now }
+    ensures row { IsCarried (Trash state.now caller.now num false) result }
+    ensures one { IsOne (Trash state.now caller.now num false) }
+    ensures fits { RowFits state.now (Trash state.now caller.now num false) }
+{
+    let _ = solved;
+    set_trashed(state, caller, num, false)
+}
