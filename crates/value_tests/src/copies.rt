@@ -1,0 +1,105 @@
+//! Copies, and what is put together and given back.
+
+use crate::notation::split_number;
+use app_manifest::is_title;
+use host_base::{Answer, Bytes, Denial, GrainId, Memory, Names, Permit, RunId, Shown, Verdict};
+use plain_data::{List, Name, Text};
+use std::alloc::{AllocError, Global};
+use std::fmt::Write;
+
+/// Appends the copy of the name that a text is, and whether the two are equal.
+pub fn copy_name(alloc: Global, out: &mut String, text: &str) -> Result<(), AllocError> {
+    if !is_title(text) {
+        return out.push_str("no title");
+    }
+    let name = Name::from_plain(alloc, text)?;
+    let copy = name.clone()?;
+    write!(out, "{:?}, equal {}", copy.as_str(), copy == name)
+}
+
+/// Appends the copy of a text, and the text that its `String` is.
+pub fn copy_text(alloc: Global, out: &mut String, text: &str) -> Result<(), AllocError> {
+    let copy = Text::from_str(alloc, text)?.clone()?;
+    let made = Text::new(String::from_str(alloc, text)?);
+    write!(out, "{:?} {:?}", copy.as_str(), made.as_str())
+}
+
+/// Appends the copy of a list of numbers, and the list that is made of its items.
+pub fn copy_list(alloc: Global, out: &mut String, words: &str) -> Result<(), AllocError> {
+    let mut list = List::empty(alloc);
+    for word in words.split_whitespace() {
+        list.push(word.parse::<u32>().unwrap_or(0))?;
+    }
+    write!(out, "{:?} ", list.clone()?.as_slice())?;
+    let made = List::new(list.into_vec());
+    write!(out, "{:?}", made.as_slice())
+}
+
+// The pieces between spaces, put one after another.
+fn joined(alloc: Global, pieces: &str) -> Result<Bytes, Memory> {
+    let mut bytes = Bytes::empty(alloc);
+    for piece in pieces.split(' ') {
+        bytes.put(piece.as_bytes())?;
+    }
+    Ok(bytes)
+}
+
+/// Appends how many bytes the pieces are, whether there is none, their copy, and what is given back.
+pub fn copy_bytes(alloc: Global, out: &mut String, pieces: &str) -> Result<(), AllocError> {
+    let Ok(bytes) = joined(alloc, pieces) else {
+        return Err(AllocError);
+    };
+    write!(out, "{} bytes, none {}, ", bytes.len(), bytes.is_empty())?;
+    let copy = bytes.clone()?;
+    write!(out, "{:?} ", str::from_utf8(copy.as_slice()))?;
+    write!(out, "{:?}", str::from_utf8(&bytes.into_vec()))
+}
+
+/// Appends a copy of bytes, and the bytes of a `Vec`.
+pub fn own_bytes(alloc: Global, out: &mut String, slice: &[u8]) -> Result<(), AllocError> {
+    let Ok(copy) = Bytes::copy_of(alloc, slice) else {
+        return Err(AllocError);
+    };
+    let made = Bytes::new(Vec::from_slice(alloc, slice)?);
+    write!(
+        out,
+        "{:?} {:?}",
+        str::from_utf8(copy.as_slice()),
+        str::from_utf8(made.as_slice())
+    )
+}
+
+/// Appends how long the answer of bytes is, how long its copy, and whether these are the first of the bytes.
+pub fn keep_answer(alloc: Global, out: &mut String, bytes: &[u8]) -> Result<(), AllocError> {
+    let answer = Answer::new(Vec::from_slice(alloc, bytes)?);
+    write!(out, "{} bytes, ", answer.as_slice().len())?;
+    let copy = answer.clone()?.into_vec();
+    write!(
+        out,
+        "{} in a copy, equal {}",
+        copy.len(),
+        bytes.starts_with(&copy)
+    )
+}
+
+// The verdict of a word on a grain.
+fn verdict_of(alloc: Global, word: &str, grain: GrainId) -> Verdict {
+    if word == "stopped" {
+        return Verdict::Deny(Denial::GrainStopped(grain));
+    }
+    Verdict::Forward(Permit {
+        run: RunId(1),
+        grain,
+        names: Names::empty(alloc),
+        shown: Shown::Anonymous,
+        tab: None,
+    })
+}
+
+/// Appends the copy of a verdict: the number of its grain, and its word.
+pub fn copy_verdict(alloc: Global, out: &mut String, row: &str) -> Result<(), AllocError> {
+    let (number, word) = split_number(row);
+    let grain = GrainId(u32::try_from(number).unwrap_or(0));
+    let copy = verdict_of(alloc, word, grain).clone()?;
+    write!(out, "{copy:?}")
+}

@@ -1,0 +1,53 @@
+//! Values of tags that no JSON states, and whether they are within the limits of a tag.
+
+use plain_data::Name;
+use powerbox_match::{Descriptor, Quality, Tag, TagValue};
+use std::alloc::{AllocError, Global};
+use std::fmt::Write;
+
+// Lists within lists, that many deep.
+fn nested(alloc: Global, depth: usize) -> Result<TagValue, AllocError> {
+    let mut value = TagValue::Any;
+    for _ in 1..depth {
+        let mut items = Vec::new(alloc);
+        items.push(value)?;
+        value = TagValue::Items(items);
+    }
+    Ok(value)
+}
+
+// Fields of the names between commas, in this order.
+fn named(alloc: Global, names: &str) -> Result<TagValue, AllocError> {
+    let mut fields = Vec::new(alloc);
+    for name in names.split(',') {
+        if let Some(name) = Name::from_str(alloc, name)? {
+            fields.push((name, TagValue::Any))?;
+        }
+    }
+    Ok(TagValue::Fields(fields))
+}
+
+// Appends how many tags the descriptor of a value has, if the value is within the limits.
+fn put_tags(alloc: Global, out: &mut String, value: TagValue) -> Result<(), AllocError> {
+    if !value.is_within_limits() {
+        return out.push_str("past the limits");
+    }
+    let mut tags = Vec::new(alloc);
+    tags.push(Tag::new(7, value))?;
+    let descriptor = Descriptor::new(tags, Quality::Preferred);
+    write!(out, "within the limits, {} tags", descriptor.tags().len())
+}
+
+/// Appends whether lists within lists are within the limits: how deep they are.
+pub fn limit_depth(alloc: Global, out: &mut String, depth: &str) -> Result<(), AllocError> {
+    put_tags(
+        alloc,
+        out,
+        nested(alloc, depth.parse::<usize>().unwrap_or(0))?,
+    )
+}
+
+/// Appends whether fields are within the limits: their names, with commas between them.
+pub fn limit_fields(alloc: Global, out: &mut String, names: &str) -> Result<(), AllocError> {
+    put_tags(alloc, out, named(alloc, names)?)
+}

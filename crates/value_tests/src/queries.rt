@@ -1,0 +1,131 @@
+//! What the JSON of a query states, and what matches it.
+
+ghost use Rattle.std.specs.Prelude.{◌≢◌, All, IsTrue};
+
+use plain_data::{List, Name};
+use powerbox_match::{Choices, Descriptor, Query, TagValue, descriptor_from, matches, query_from};
+use serde_json::Value;
+use std::alloc::{AllocError, Global};
+use std::fmt::Write;
+
+// Appends the names of fields.
+fn put_names(out: &mut String, fields: &[(Name, TagValue)]) -> Result<(), AllocError> {
+    out.push_str("fields")?;
+    for field in fields {
+        write!(out, " {:?}", field.0.as_str())?;
+    }
+    Ok(())
+}
+
+// Appends a tag's value, without what is within it.
+fn put_value(out: &mut String, value: &TagValue) -> Result<(), AllocError> {
+    match value {
+        TagValue::Any => out.push_str("anything"),
+        TagValue::Number(number) => write!(out, "{number}"),
+        TagValue::Text(text) => write!(out, "{:?}", text.as_str()),
+        TagValue::Fields(fields) => put_names(out, fields),
+        TagValue::Items(items) => write!(out, "{} items", items.len()),
+    }
+}
+
+fn put_descriptor(out: &mut String, descriptor: &Descriptor) -> Result<(), AllocError> {
+    write!(out, "{:?}:", descriptor.quality())?;
+    for tag in descriptor.tags() {
+        write!(out, " {} ", tag.id())?;
+        put_value(out, tag.value())?;
+    }
+    Ok(())
+}
+
+/// Appends how many descriptors there are, and what they say.
+pub fn put_descriptors(out: &mut String, descriptors: &[Descriptor]) -> Result<(), AllocError> {
+    write!(out, "{} descriptors", descriptors.len())?;
+    for descriptor in descriptors {
+        out.push_str(", ")?;
+        put_descriptor(out, descriptor)?;
+    }
+    Ok(())
+}
+
+/// Appends what the copy of a query states.
+pub fn read_query(alloc: Global, out: &mut String, text: &str) -> Result<(), AllocError> {
+    let Ok(value) = Value::from_str(alloc, text) else {
+        return out.push_str("no JSON");
+    };
+    match query_from(alloc, &value) {
+        Ok(query) => put_descriptors(out, query.clone()?.as_slice()),
+        Err(fault) => write!(out, "{fault:?}"),
+    }
+}
+
+fn query_of(alloc: Global, text: &str) -> Option<Query> {
+    let value = Value::from_str(alloc, text).ok()?;
+    query_from(alloc, &value).ok()
+}
+
+/// Appends how well a query matches what is offered.
+pub fn match_query(alloc: Global, out: &mut String, row: &str) -> Result<(), AllocError> {
+    let (wanted, given) = row.split_once(" | ").unwrap_or((row, ""));
+    let Some(wanted) = query_of(alloc, wanted) else {
+        return out.push_str("no query");
+    };
+    let Some(given) = query_of(alloc, given) else {
+        return out.push_str("no offers");
+    };
+    write!(out, "{:?}", matches(&wanted, given.as_slice()))
+}
+
+fn descriptor_of(alloc: Global, text: &str) -> Option<Descriptor> {
+    let value = Value::from_str(alloc, text).ok()?;
+    descriptor_from(alloc, &value).ok()
+}
+
+/// Appends how well the copy of a descriptor matches it.
+pub fn match_copy(alloc: Global, out: &mut String, text: &str) -> Result<(), AllocError> {
+    let Some(descriptor) = descriptor_of(alloc, text) else {
+        return out.push_str("no descriptor");
+    };
+    let mut copies = List::empty(alloc);
+    copies.push(descriptor.clone()?)?;
+    write!(out, "{:?}", matches(&copies, &[descriptor]))
+}
+
+// Whether no choice has a number.
+fn is_free(choices: &Choices, number: u32) -> bool
+    ensures { IsTrue result → All (λ choice. choice.num ≢ number) choices.now }
+{
+    choices.list().iter().all(|choice| choice.num != number)
+}
+
+// Puts an offer of a number among the choices, unless one has it.
+fn add_offer(
+    choices: &mut Choices,
+    wanted: &Query,
+    number: u32,
+    offer: &Query,
+) -> Result<(), AllocError> {
+    if !is_free(choices, number) {
+        return Ok(());
+    }
+    match choices.add(wanted, number, offer.as_slice()) {
+        Ok(()) => Ok(()),
+        Err(_) => Err(AllocError),
+    }
+}
+
+/// Appends the choices of a query among offers with the numbers 1, 2 ...
+pub fn order_choices(alloc: Global, out: &mut String, row: &str) -> Result<(), AllocError> {
+    let (wanted, offers) = row.split_once(" | ").unwrap_or((row, ""));
+    let Some(wanted) = query_of(alloc, wanted) else {
+        return out.push_str("no query");
+    };
+    let mut choices = Choices::new(alloc);
+    let mut number = 0u32;
+    for text in offers.split(" | ") {
+        number = number.saturating_add(1);
+        if let Some(offer) = query_of(alloc, text) {
+            add_offer(&mut choices, &wanted, number, &offer)?;
+        }
+    }
+    write!(out, "{:?}", choices.list())
+}
