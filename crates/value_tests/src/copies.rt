@@ -1,6 +1,6 @@
 //! Copies, and what is put together and given back.
 
-use crate::notation::split_number;
+use crate::notation::{numbers_of, split_number, split_word};
 use app_manifest::is_title;
 use host_base::{Answer, Bytes, Denial, GrainId, Memory, Names, Permit, RunId, Shown, Verdict};
 use plain_data::{List, Name, Text};
@@ -25,28 +25,25 @@ pub fn copy_text(alloc: Global, out: &mut String, text: &str) -> Result<(), Allo
 }
 
 /// Appends the copy of a list of numbers, and the list that is made of its items.
-pub fn copy_list(alloc: Global, out: &mut String, words: &str) -> Result<(), AllocError> {
-    let mut list = List::empty(alloc);
-    for word in words.split_whitespace() {
-        list.push(word.parse::<u32>().unwrap_or(0))?;
-    }
+pub fn copy_list(alloc: Global, out: &mut String, numbers: &str) -> Result<(), AllocError> {
+    let list = numbers_of(alloc, numbers)?;
     write!(out, "{:?} ", list.clone()?.as_slice())?;
     let made = List::new(list.into_vec());
     write!(out, "{:?}", made.as_slice())
 }
 
-// The pieces between spaces, put one after another.
-fn joined(alloc: Global, pieces: &str) -> Result<Bytes, Memory> {
+// The bytes of two pieces, put one after the other.
+fn joined(alloc: Global, one: &str, other: &str) -> Result<Bytes, Memory> {
     let mut bytes = Bytes::empty(alloc);
-    for piece in pieces.split(' ') {
-        bytes.put(piece.as_bytes())?;
-    }
+    bytes.put(one.as_bytes())?;
+    bytes.put(other.as_bytes())?;
     Ok(bytes)
 }
 
-/// Appends how many bytes the pieces are, whether there is none, their copy, and what is given back.
-pub fn copy_bytes(alloc: Global, out: &mut String, pieces: &str) -> Result<(), AllocError> {
-    let Ok(bytes) = joined(alloc, pieces) else {
+/// Appends how many bytes two pieces are, whether there is none, their copy, and what is given back.
+pub fn copy_bytes(alloc: Global, out: &mut String, row: &str) -> Result<(), AllocError> {
+    let (one, other) = split_word(row);
+    let Ok(bytes) = joined(alloc, one, other) else {
         return Err(AllocError);
     };
     write!(out, "{} bytes, none {}, ", bytes.len(), bytes.is_empty())?;

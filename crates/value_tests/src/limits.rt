@@ -1,5 +1,6 @@
 //! Values of tags that no JSON states, and whether they are within the limits of a tag.
 
+use crate::notation::{number_of, split_word};
 use plain_data::Name;
 use powerbox_match::{Descriptor, Quality, Tag, TagValue};
 use std::alloc::{AllocError, Global};
@@ -16,14 +17,24 @@ fn nested(alloc: Global, depth: usize) -> Result<TagValue, AllocError> {
     Ok(value)
 }
 
-// Fields of the names between commas, in this order.
-fn named(alloc: Global, names: &str) -> Result<TagValue, AllocError> {
+// Appends a field of any value, if its name is one.
+fn put_field(
+    alloc: Global,
+    fields: &mut Vec<(Name, TagValue)>,
+    name: &str,
+) -> Result<(), AllocError> {
+    let Some(name) = Name::from_str(alloc, name)? else {
+        return Ok(());
+    };
+    fields.push((name, TagValue::Any))?;
+    Ok(())
+}
+
+// Fields of two names, in this order.
+fn named(alloc: Global, one: &str, other: &str) -> Result<TagValue, AllocError> {
     let mut fields = Vec::new(alloc);
-    for name in names.split(',') {
-        if let Some(name) = Name::from_str(alloc, name)? {
-            fields.push((name, TagValue::Any))?;
-        }
-    }
+    put_field(alloc, &mut fields, one)?;
+    put_field(alloc, &mut fields, other)?;
     Ok(TagValue::Fields(fields))
 }
 
@@ -40,14 +51,11 @@ fn put_tags(alloc: Global, out: &mut String, value: TagValue) -> Result<(), Allo
 
 /// Appends whether lists within lists are within the limits: how deep they are.
 pub fn limit_depth(alloc: Global, out: &mut String, depth: &str) -> Result<(), AllocError> {
-    put_tags(
-        alloc,
-        out,
-        nested(alloc, depth.parse::<usize>().unwrap_or(0))?,
-    )
+    put_tags(alloc, out, nested(alloc, number_of(depth))?)
 }
 
-/// Appends whether fields are within the limits: their names, with commas between them.
-pub fn limit_fields(alloc: Global, out: &mut String, names: &str) -> Result<(), AllocError> {
-    put_tags(alloc, out, named(alloc, names)?)
+/// Appends whether two fields are within the limits: their names.
+pub fn limit_fields(alloc: Global, out: &mut String, row: &str) -> Result<(), AllocError> {
+    let (one, other) = split_word(row);
+    put_tags(alloc, out, named(alloc, one, other)?)
 }

@@ -1,12 +1,11 @@
 //! What the JSON of a manifest states, and which may take the place of another.
 
-use crate::notation::split_word;
+use crate::notation::{json_of, number_of, split_bar, split_word};
 use crate::queries::put_descriptors;
 use app_manifest::{
     Manifest, ManifestError, ManifestFault, flag_from, flags_from, is_permission_name, is_title,
     manifest_from, text_from, title_from, upgrade,
 };
-use serde_json::Value;
 use std::alloc::{AllocError, Global};
 use std::fmt::Write;
 
@@ -42,10 +41,16 @@ pub fn read_manifest(alloc: Global, out: &mut String, text: &str) -> Result<(), 
     }
 }
 
+// Appends all that the copy of a manifest says.
+fn put_copy(out: &mut String, manifest: &Manifest) -> Result<(), AllocError> {
+    let copy = manifest.clone()?;
+    put_parts(out, &copy)
+}
+
 /// Appends what the copy of a manifest states.
 pub fn copy_manifest(alloc: Global, out: &mut String, text: &str) -> Result<(), AllocError> {
     match manifest_from(alloc, text.as_bytes()) {
-        Ok(manifest) => put_parts(out, &manifest.clone()?),
+        Ok(manifest) => put_copy(out, &manifest),
         Err(error) => put_error(out, &error),
     }
 }
@@ -54,12 +59,12 @@ pub fn copy_manifest(alloc: Global, out: &mut String, text: &str) -> Result<(), 
 fn upgraded(alloc: Global, old: &str, new: &str) -> Result<Manifest, ManifestError> {
     let old = manifest_from(alloc, old.as_bytes())?;
     let new = manifest_from(alloc, new.as_bytes())?;
-    upgrade(&old, new).map_err(ManifestError::Fault)
+    Ok(upgrade(&old, new)?)
 }
 
 /// Appends how many roles the second manifest has where it may take the place of the first.
 pub fn upgrade_manifest(alloc: Global, out: &mut String, row: &str) -> Result<(), AllocError> {
-    let (old, new) = row.split_once(" | ").unwrap_or((row, ""));
+    let (old, new) = split_bar(row);
     match upgraded(alloc, old, new) {
         Ok(manifest) => write!(out, "{} roles", manifest.roles.as_slice().len()),
         Err(error) => put_error(out, &error),
@@ -84,18 +89,13 @@ fn fault_of(name: &str, argument: usize) -> ManifestFault {
 /// Appends the numbers of a fault, and what it says: its name, and its argument.
 pub fn put_fault(out: &mut String, row: &str) -> Result<(), AllocError> {
     let (name, argument) = split_word(row);
-    let fault = fault_of(name, argument.parse::<usize>().unwrap_or(0));
+    let fault = fault_of(name, number_of(argument));
     put_error(out, &ManifestError::Fault(fault))
-}
-
-// The value of a field, or none where it is missing.
-fn field_of(alloc: Global, text: &str) -> Option<Value> {
-    Value::from_str(alloc, text).ok()
 }
 
 /// Appends the title, text, flag and flags that a field states, of which no JSON is a missing one.
 pub fn read_field(alloc: Global, out: &mut String, text: &str) -> Result<(), AllocError> {
-    let field = field_of(alloc, text);
+    let field = json_of(alloc, text);
     let title = title_from(alloc, field.as_ref())?;
     write!(out, "{:?} ", title.as_ref().map(|name| name.as_str()))?;
     let text = text_from(alloc, field.as_ref())?;

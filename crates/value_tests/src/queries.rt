@@ -2,9 +2,9 @@
 
 ghost use Rattle.std.specs.Prelude.{◌≢◌, All, IsTrue};
 
+use crate::notation::{json_of, split_bar};
 use plain_data::{List, Name};
 use powerbox_match::{Choices, Descriptor, Query, TagValue, descriptor_from, matches, query_from};
-use serde_json::Value;
 use std::alloc::{AllocError, Global};
 use std::fmt::Write;
 
@@ -49,7 +49,7 @@ pub fn put_descriptors(out: &mut String, descriptors: &[Descriptor]) -> Result<(
 
 /// Appends what the copy of a query states.
 pub fn read_query(alloc: Global, out: &mut String, text: &str) -> Result<(), AllocError> {
-    let Ok(value) = Value::from_str(alloc, text) else {
+    let Some(value) = json_of(alloc, text) else {
         return out.push_str("no JSON");
     };
     match query_from(alloc, &value) {
@@ -59,13 +59,13 @@ pub fn read_query(alloc: Global, out: &mut String, text: &str) -> Result<(), All
 }
 
 fn query_of(alloc: Global, text: &str) -> Option<Query> {
-    let value = Value::from_str(alloc, text).ok()?;
+    let value = json_of(alloc, text)?;
     query_from(alloc, &value).ok()
 }
 
 /// Appends how well a query matches what is offered.
 pub fn match_query(alloc: Global, out: &mut String, row: &str) -> Result<(), AllocError> {
-    let (wanted, given) = row.split_once(" | ").unwrap_or((row, ""));
+    let (wanted, given) = split_bar(row);
     let Some(wanted) = query_of(alloc, wanted) else {
         return out.push_str("no query");
     };
@@ -76,7 +76,7 @@ pub fn match_query(alloc: Global, out: &mut String, row: &str) -> Result<(), All
 }
 
 fn descriptor_of(alloc: Global, text: &str) -> Option<Descriptor> {
-    let value = Value::from_str(alloc, text).ok()?;
+    let value = json_of(alloc, text)?;
     descriptor_from(alloc, &value).ok()
 }
 
@@ -115,13 +115,13 @@ fn add_offer(
 
 /// Appends the choices of a query among offers with the numbers 1, 2 ...
 pub fn order_choices(alloc: Global, out: &mut String, row: &str) -> Result<(), AllocError> {
-    let (wanted, offers) = row.split_once(" | ").unwrap_or((row, ""));
+    let (wanted, offers) = split_bar(row);
     let Some(wanted) = query_of(alloc, wanted) else {
         return out.push_str("no query");
     };
     let mut choices = Choices::new(alloc);
     let mut number = 0u32;
-    for text in offers.split(" | ") {
+    for text in offers.split('|') {
         number = number.saturating_add(1);
         if let Some(offer) = query_of(alloc, text) {
             add_offer(&mut choices, &wanted, number, &offer)?;

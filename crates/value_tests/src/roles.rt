@@ -1,6 +1,6 @@
 //! Roles, and what assignments give. The roles are those of a manifest.
 
-use crate::notation::{split_number, split_word};
+use crate::notation::{number_of, split_number, split_word};
 use crate::sets::set_of;
 use app_manifest::manifest_from;
 use perm_roles::{Assignment, Base, Role, granted, is_listed, named_role};
@@ -12,7 +12,7 @@ fn base_of(word: &str) -> Base {
     match word {
         "none" => Base::NoRole,
         "all" => Base::AllAccess,
-        _ => Base::Role(word.parse::<u16>().unwrap_or(0)),
+        _ => Base::Role(u16::try_from(number_of(word)).unwrap_or(0)),
     }
 }
 

@@ -1,16 +1,16 @@
 //! Sets of positions.
 
-use crate::notation::{split_number, split_word};
+use crate::notation::{number_of, split_number, split_word};
 use perm_roles::PermSet;
 use std::alloc::{AllocError, Global};
 use std::fmt::Write;
 
 /// The set of a word: `all:3` has the positions below 3, and a number is the word of its set.
 pub fn set_of(word: &str) -> PermSet {
-    match word.strip_prefix("all:") {
-        Some(count) => PermSet::all(count.parse::<u8>().unwrap_or(0).min(64)),
+    match word.split_once(':') {
+        Some((_, count)) => PermSet::all(u8::try_from(number_of(count)).unwrap_or(0).min(64)),
         None if word == "none" => PermSet::empty(),
-        None => PermSet::from_bits(word.parse::<u64>().unwrap_or(0)),
+        None => PermSet::from_bits(number_of(word) as u64),
     }
 }
 
@@ -29,8 +29,8 @@ pub fn put_set(out: &mut String, set: &PermSet) -> Result<(), AllocError> {
 // The places at which a text has a 1 as a list.
 fn flags_of(alloc: Global, digits: &str) -> Result<Vec<bool>, AllocError> {
     let mut flags = Vec::new(alloc);
-    for digit in digits.chars() {
-        flags.push(digit == '1')?;
+    for digit in digits.as_bytes() {
+        flags.push(*digit == b'1')?;
     }
     Ok(flags)
 }

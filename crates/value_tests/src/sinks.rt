@@ -1,7 +1,6 @@
 //! What sinks take, in memory and over std's writers.
 
-use crate::notation::{split_number, split_word};
-use crate::sources::fails_of;
+use crate::notation::{numbers_of, split_number, split_word};
 use host_base::{Fails, MemSink, ReadFailed, Sink, StdSink, WriteFailed};
 use std::alloc::{AllocError, Global};
 use std::fmt::Write;
@@ -52,7 +51,7 @@ fn put_memory(out: &mut String, mut sink: MemSink, pieces: &str) -> Result<(), A
 /// Puts pieces to memory that fails at these calls.
 pub fn put_failing(alloc: Global, out: &mut String, row: &str) -> Result<(), AllocError> {
     let (fails, pieces) = split_word(row);
-    put_memory(out, MemSink::new(alloc, fails_of(alloc, fails)?), pieces)
+    put_memory(out, MemSink::new(alloc, numbers_of(alloc, fails)?), pieces)
 }
 
 /// Puts pieces to memory with room for so many bytes.

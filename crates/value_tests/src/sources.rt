@@ -1,19 +1,10 @@
 //! What sources give, in memory and over std's readers.
 
-use crate::notation::{split_number, split_word};
-use host_base::{CallCount, Fails, MemSource, Source, StdSource};
+use crate::notation::{numbers_of, split_number, split_word};
+use host_base::{CallCount, MemSource, Source, StdSource};
 use std::alloc::{AllocError, Global};
 use std::fmt::Write;
 use std::io::{self, Read};
-
-/// The numbers of the calls that are to fail, with commas between them; no call has the number 0.
-pub fn fails_of(alloc: Global, numbers: &str) -> Result<Fails, AllocError> {
-    let mut fails = Fails::empty(alloc);
-    for number in numbers.split(',') {
-        fails.push(number.parse::<u64>().unwrap_or(0))?;
-    }
-    Ok(fails)
-}
 
 // Gives a byte at each call, but fails at one, and gives nothing at another.
 #[derive(Drop)]
@@ -47,7 +38,7 @@ fn put_taken<S: Source>(
     calls: usize,
 ) -> Result<(), AllocError> {
     let mut buf = [0u8; 4];
-    let room = room.clamp(1, 4);
+    let room = room.max(1).min(4);
     for _ in 0..calls {
         match source.take(&mut buf[..room]) {
             Ok(taken) => write!(out, "{:?}, ", str::from_utf8(&buf[..taken]))?,
@@ -99,7 +90,7 @@ pub fn take_failing(alloc: Global, out: &mut String, row: &str) -> Result<(), Al
     let (fails, row) = split_word(row);
     let (calls, text) = split_number(row);
     let bytes = Vec::from_slice(alloc, text.as_bytes())?;
-    put_memory(out, MemSource::new(bytes, fails_of(alloc, fails)?), calls)
+    put_memory(out, MemSource::new(bytes, numbers_of(alloc, fails)?), calls)
 }
 
 /// Appends which calls fail and the faults after each, and the faults after one more that wasn't listed: the calls that are listed,
@@ -107,7 +98,7 @@ pub fn take_failing(alloc: Global, out: &mut String, row: &str) -> Result<(), Al
 pub fn count_calls(alloc: Global, out: &mut String, row: &str) -> Result<(), AllocError> {
     let (fails, row) = split_word(row);
     let (calls, _) = split_number(row);
-    let mut count = CallCount::new(fails_of(alloc, fails)?);
+    let mut count = CallCount::new(numbers_of(alloc, fails)?);
     for _ in 0..calls {
         write!(out, "{} {}, ", count.next_fails(), count.faults())?;
     }
