@@ -1,6 +1,6 @@
 //! Copies, and what is put together and given back.
 
-use crate::notation::{numbers_of, split_number, split_word};
+use crate::notation::{byte_of, numbers_of, put_bytes, put_text, split_word};
 use app_manifest::is_title;
 use host_base::{Answer, Bytes, Denial, GrainId, Memory, Names, Permit, RunId, Shown, Verdict};
 use plain_data::{List, Name, Text};
@@ -14,14 +14,20 @@ pub fn copy_name(alloc: Global, out: &mut String, text: &str) -> Result<(), Allo
     }
     let name = Name::from_plain(alloc, text)?;
     let copy = name.clone()?;
-    write!(out, "{:?}, equal {}", copy.as_str(), copy == name)
+    put_text(out, copy.as_str())?;
+    write!(out, ", equal {}", copy == name)
 }
 
-/// Appends the copy of a text, and the text that its `String` is.
+/// Appends the copy of a text.
 pub fn copy_text(alloc: Global, out: &mut String, text: &str) -> Result<(), AllocError> {
     let copy = Text::from_str(alloc, text)?.clone()?;
-    let made = Text::new(String::from_str(alloc, text)?);
-    write!(out, "{:?} {:?}", copy.as_str(), made.as_str())
+    put_text(out, copy.as_str())
+}
+
+/// Appends the text that a `String` is.
+pub fn own_text(alloc: Global, out: &mut String, text: &str) -> Result<(), AllocError> {
+    let text = Text::new(String::from_str(alloc, text)?);
+    put_text(out, text.as_str())
 }
 
 /// Appends the copy of a list of numbers, and the list that is made of its items.
@@ -47,23 +53,19 @@ pub fn copy_bytes(alloc: Global, out: &mut String, row: &str) -> Result<(), Allo
         return Err(AllocError);
     };
     write!(out, "{} bytes, none {}, ", bytes.len(), bytes.is_empty())?;
-    let copy = bytes.clone()?;
-    write!(out, "{:?} ", str::from_utf8(copy.as_slice()))?;
-    write!(out, "{:?}", str::from_utf8(&bytes.into_vec()))
+    put_bytes(out, bytes.clone()?.as_slice())?;
+    out.push_str(", ")?;
+    put_bytes(out, &bytes.into_vec())
 }
 
-/// Appends a copy of bytes, and the bytes of a `Vec`.
+/// Appends whether a copy of bytes and the bytes of a `Vec` are equal, and the first.
 pub fn own_bytes(alloc: Global, out: &mut String, slice: &[u8]) -> Result<(), AllocError> {
     let Ok(copy) = Bytes::copy_of(alloc, slice) else {
         return Err(AllocError);
     };
     let made = Bytes::new(Vec::from_slice(alloc, slice)?);
-    write!(
-        out,
-        "{:?} {:?}",
-        str::from_utf8(copy.as_slice()),
-        str::from_utf8(made.as_slice())
-    )
+    put_bytes(out, copy.as_slice())?;
+    write!(out, ", equal {}", copy.as_slice() == made.as_slice())
 }
 
 /// Appends how long the answer of bytes is, how long its copy, and whether these are the first of the bytes.
@@ -95,8 +97,8 @@ fn verdict_of(alloc: Global, word: &str, grain: GrainId) -> Verdict {
 
 /// Appends the copy of a verdict: the number of its grain, and its word.
 pub fn copy_verdict(alloc: Global, out: &mut String, row: &str) -> Result<(), AllocError> {
-    let (number, word) = split_number(row);
-    let grain = GrainId(u32::try_from(number).unwrap_or(0));
+    let (number, word) = split_word(row);
+    let grain = GrainId(u32::from(byte_of(number)));
     let copy = verdict_of(alloc, word, grain).clone()?;
     write!(out, "{copy:?}")
 }

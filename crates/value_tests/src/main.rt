@@ -14,7 +14,7 @@ mod sinks;
 mod sources;
 
 use crate::copies::{
-    copy_bytes, copy_list, copy_name, copy_text, copy_verdict, keep_answer, own_bytes,
+    copy_bytes, copy_list, copy_name, copy_text, copy_verdict, keep_answer, own_bytes, own_text,
 };
 use crate::limits::{limit_depth, limit_fields};
 use crate::manifests::{
@@ -63,6 +63,7 @@ fn answer(alloc: Global, out: &mut String, word: &str, bytes: &[u8]) -> Result<(
         "name" => put_name(alloc, out, bytes),
         "copy-name" => copy_name(alloc, out, text),
         "copy-text" => copy_text(alloc, out, text),
+        "text" => own_text(alloc, out, text),
         "copy-list" => copy_list(alloc, out, text),
         "copy-bytes" => copy_bytes(alloc, out, text),
         "bytes" => own_bytes(alloc, out, bytes),

@@ -1,6 +1,6 @@
 //! What the JSON of a manifest states, and which may take the place of another.
 
-use crate::notation::{json_of, number_of, split_bar, split_word};
+use crate::notation::{byte_of, json_of, number_of, put_text, split_at, split_word};
 use crate::queries::put_descriptors;
 use app_manifest::{
     Manifest, ManifestError, ManifestFault, flag_from, flags_from, is_permission_name, is_title,
@@ -11,7 +11,8 @@ use std::fmt::Write;
 
 // Appends all that a manifest says.
 fn put_parts(out: &mut String, manifest: &Manifest) -> Result<(), AllocError> {
-    write!(out, "{:?} {}", manifest.title.as_str(), manifest.version)?;
+    put_text(out, manifest.title.as_str())?;
+    write!(out, " {}", manifest.version)?;
     for permission in manifest.permissions.as_slice() {
         write!(out, "\n    {permission:?}")?;
     }
@@ -55,33 +56,46 @@ pub fn copy_manifest(alloc: Global, out: &mut String, text: &str) -> Result<(), 
     }
 }
 
-// The second manifest where it may take the place of the first.
-fn upgraded(alloc: Global, old: &str, new: &str) -> Result<Manifest, ManifestError> {
-    let old = manifest_from(alloc, old.as_bytes())?;
-    let new = manifest_from(alloc, new.as_bytes())?;
-    Ok(upgrade(&old, new)?)
+// Appends how many roles the new manifest has where it may take the place of the old one.
+fn put_upgraded(out: &mut String, old: &Manifest, new: Manifest) -> Result<(), AllocError> {
+    match upgrade(old, new) {
+        Ok(manifest) => write!(out, "{} roles", manifest.roles.as_slice().len()),
+        Err(fault) => put_error(out, &ManifestError::Fault(fault)),
+    }
+}
+
+// The same for the text of the new one.
+fn upgrade_to(
+    alloc: Global,
+    out: &mut String,
+    old: &Manifest,
+    new: &str,
+) -> Result<(), AllocError> {
+    match manifest_from(alloc, new.as_bytes()) {
+        Ok(new) => put_upgraded(out, old, new),
+        Err(error) => put_error(out, &error),
+    }
 }
 
 /// Appends how many roles the second manifest has where it may take the place of the first.
 pub fn upgrade_manifest(alloc: Global, out: &mut String, row: &str) -> Result<(), AllocError> {
-    let (old, new) = split_bar(row);
-    match upgraded(alloc, old, new) {
-        Ok(manifest) => write!(out, "{} roles", manifest.roles.as_slice().len()),
+    let (old, new) = split_at(row, '|');
+    match manifest_from(alloc, old.as_bytes()) {
+        Ok(old) => upgrade_to(alloc, out, &old, new),
         Err(error) => put_error(out, &error),
     }
 }
 
 // The fault of a name and an argument.
-fn fault_of(name: &str, argument: usize) -> ManifestFault {
-    let number = u8::try_from(argument).unwrap_or(0);
+fn fault_of(name: &str, argument: &str) -> ManifestFault {
     match name {
-        "BadField" => ManifestFault::BadField(number),
-        "TwoDefaults" => ManifestFault::TwoDefaults(argument),
-        "DoubleName" => ManifestFault::DoubleName(argument),
-        "LongSet" => ManifestFault::LongSet(argument),
-        "TooMany" => ManifestFault::TooMany(number),
-        "LostName" => ManifestFault::LostName(argument),
-        "LostRole" => ManifestFault::LostRole(argument),
+        "BadField" => ManifestFault::BadField(byte_of(argument)),
+        "TwoDefaults" => ManifestFault::TwoDefaults(number_of(argument)),
+        "DoubleName" => ManifestFault::DoubleName(number_of(argument)),
+        "LongSet" => ManifestFault::LongSet(number_of(argument)),
+        "TooMany" => ManifestFault::TooMany(byte_of(argument)),
+        "LostName" => ManifestFault::LostName(number_of(argument)),
+        "LostRole" => ManifestFault::LostRole(number_of(argument)),
         _ => ManifestFault::NotJson,
     }
 }
@@ -89,7 +103,7 @@ fn fault_of(name: &str, argument: usize) -> ManifestFault {
 /// Appends the numbers of a fault, and what it says: its name, and its argument.
 pub fn put_fault(out: &mut String, row: &str) -> Result<(), AllocError> {
     let (name, argument) = split_word(row);
-    let fault = fault_of(name, number_of(argument));
+    let fault = fault_of(name, argument);
     put_error(out, &ManifestError::Fault(fault))
 }
 

@@ -3,15 +3,16 @@
 use plain_data::List;
 use serde_json::Value;
 use std::alloc::{AllocError, Global};
+use std::fmt::Write;
+
+/// What stands before a mark, and what behind it; all stands before one that isn't there.
+pub fn split_at(text: &str, mark: char) -> (&str, &str) {
+    text.split_once(mark).unwrap_or((text, ""))
+}
 
 /// The first word of a text, and what stands behind the space after it.
 pub fn split_word(text: &str) -> (&str, &str) {
-    text.split_once(' ').unwrap_or((text, ""))
-}
-
-/// What stands before a bar, and what behind it.
-pub fn split_bar(row: &str) -> (&str, &str) {
-    row.split_once('|').unwrap_or((row, ""))
+    split_at(text, ' ')
 }
 
 /// The JSON value that a text states, if it states one.
@@ -22,6 +23,11 @@ pub fn json_of(alloc: Global, text: &str) -> Option<Value> {
 /// The number that a word is, or 0 where it is none.
 pub fn number_of(word: &str) -> usize {
     word.parse::<usize>().unwrap_or(0)
+}
+
+/// The number below 256 that a word is, or 0 where it is none.
+pub fn byte_of(word: &str) -> u8 {
+    u8::try_from(number_of(word)).unwrap_or(0)
 }
 
 /// The number that the first word of a text is, and what stands behind the space after it.
@@ -43,7 +49,7 @@ pub fn numbers_of(alloc: Global, numbers: &str) -> Result<List<u64>, AllocError>
 fn put_enclosed(bytes: &mut Vec<u8>, enclosed: &str) -> Result<(), AllocError> {
     let (word, text) = split_word(enclosed);
     if word == "byte" {
-        return bytes.extend_from_slice(&[u8::try_from(number_of(text)).unwrap_or(b'?')]);
+        return bytes.extend_from_slice(&[byte_of(text)]);
     }
     for _ in 0..number_of(word) {
         bytes.extend_from_slice(text.as_bytes())?;
@@ -60,4 +66,17 @@ pub fn bytes_of(alloc: Global, text: &str) -> Result<Vec<u8>, AllocError> {
         bytes.extend_from_slice(rest.as_bytes())?;
     }
     Ok(bytes)
+}
+
+/// Appends bytes as a text in quotes, or what hinders them from being one.
+pub fn put_bytes(out: &mut String, bytes: &[u8]) -> Result<(), AllocError> {
+    match str::from_utf8(bytes) {
+        Ok(text) => put_text(out, text),
+        Err(error) => write!(out, "{error}"),
+    }
+}
+
+/// Appends a text in quotes.
+pub fn put_text(out: &mut String, text: &str) -> Result<(), AllocError> {
+    write!(out, "{text:?}")
 }

@@ -2,17 +2,21 @@
 
 ghost use Rattle.std.specs.Prelude.{◌≢◌, All, IsTrue};
 
-use crate::notation::{json_of, split_bar};
+use crate::notation::{json_of, put_text, split_at};
 use plain_data::{List, Name};
-use powerbox_match::{Choices, Descriptor, Query, TagValue, descriptor_from, matches, query_from};
+use powerbox_match::{
+    Choices, Descriptor, Query, ShapeFault, TagValue, descriptor_from, matches, query_from,
+};
 use std::alloc::{AllocError, Global};
 use std::fmt::Write;
+use std::slice;
 
 // Appends the names of fields.
 fn put_names(out: &mut String, fields: &[(Name, TagValue)]) -> Result<(), AllocError> {
     out.push_str("fields")?;
     for field in fields {
-        write!(out, " {:?}", field.0.as_str())?;
+        out.push(' ')?;
+        put_text(out, field.0.as_str())?;
     }
     Ok(())
 }
@@ -22,7 +26,7 @@ fn put_value(out: &mut String, value: &TagValue) -> Result<(), AllocError> {
     match value {
         TagValue::Any => out.push_str("anything"),
         TagValue::Number(number) => write!(out, "{number}"),
-        TagValue::Text(text) => write!(out, "{:?}", text.as_str()),
+        TagValue::Text(text) => put_text(out, text.as_str()),
         TagValue::Fields(fields) => put_names(out, fields),
         TagValue::Items(items) => write!(out, "{} items", items.len()),
     }
@@ -47,29 +51,29 @@ pub fn put_descriptors(out: &mut String, descriptors: &[Descriptor]) -> Result<(
     Ok(())
 }
 
+// The query that a text states; one that is no JSON is no list of descriptors either.
+fn query_of(alloc: Global, text: &str) -> Result<Query, ShapeFault> {
+    match json_of(alloc, text) {
+        Some(value) => query_from(alloc, &value),
+        None => Err(ShapeFault::BadShape(0)),
+    }
+}
+
 /// Appends what the copy of a query states.
 pub fn read_query(alloc: Global, out: &mut String, text: &str) -> Result<(), AllocError> {
-    let Some(value) = json_of(alloc, text) else {
-        return out.push_str("no JSON");
-    };
-    match query_from(alloc, &value) {
+    match query_of(alloc, text) {
         Ok(query) => put_descriptors(out, query.clone()?.as_slice()),
         Err(fault) => write!(out, "{fault:?}"),
     }
 }
 
-fn query_of(alloc: Global, text: &str) -> Option<Query> {
-    let value = json_of(alloc, text)?;
-    query_from(alloc, &value).ok()
-}
-
 /// Appends how well a query matches what is offered.
 pub fn match_query(alloc: Global, out: &mut String, row: &str) -> Result<(), AllocError> {
-    let (wanted, given) = split_bar(row);
-    let Some(wanted) = query_of(alloc, wanted) else {
+    let (wanted, given) = split_at(row, '|');
+    let Ok(wanted) = query_of(alloc, wanted) else {
         return out.push_str("no query");
     };
-    let Some(given) = query_of(alloc, given) else {
+    let Ok(given) = query_of(alloc, given) else {
         return out.push_str("no offers");
     };
     write!(out, "{:?}", matches(&wanted, given.as_slice()))
@@ -87,7 +91,7 @@ pub fn match_copy(alloc: Global, out: &mut String, text: &str) -> Result<(), All
     };
     let mut copies = List::empty(alloc);
     copies.push(descriptor.clone()?)?;
-    write!(out, "{:?}", matches(&copies, &[descriptor]))
+    write!(out, "{:?}", matches(&copies, slice::from_ref(&descriptor)))
 }
 
 // Whether no choice has a number.
@@ -115,15 +119,15 @@ fn add_offer(
 
 /// Appends the choices of a query among offers with the numbers 1, 2 ...
 pub fn order_choices(alloc: Global, out: &mut String, row: &str) -> Result<(), AllocError> {
-    let (wanted, offers) = split_bar(row);
-    let Some(wanted) = query_of(alloc, wanted) else {
+    let (wanted, offers) = split_at(row, '|');
+    let Ok(wanted) = query_of(alloc, wanted) else {
         return out.push_str("no query");
     };
     let mut choices = Choices::new(alloc);
     let mut number = 0u32;
     for text in offers.split('|') {
         number = number.saturating_add(1);
-        if let Some(offer) = query_of(alloc, text) {
+        if let Ok(offer) = query_of(alloc, text) {
             add_offer(&mut choices, &wanted, number, &offer)?;
         }
     }

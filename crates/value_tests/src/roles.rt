@@ -1,6 +1,6 @@
 //! Roles, and what assignments give. The roles are those of a manifest.
 
-use crate::notation::{number_of, split_number, split_word};
+use crate::notation::{byte_of, put_text, split_number, split_word};
 use crate::sets::set_of;
 use app_manifest::manifest_from;
 use perm_roles::{Assignment, Base, Role, granted, is_listed, named_role};
@@ -12,7 +12,7 @@ fn base_of(word: &str) -> Base {
     match word {
         "none" => Base::NoRole,
         "all" => Base::AllAccess,
-        _ => Base::Role(u16::try_from(number_of(word)).unwrap_or(0)),
+        _ => Base::Role(u16::from(byte_of(word))),
     }
 }
 
@@ -44,11 +44,10 @@ fn put_granted(
 
 /// Appends what an assignment gives: how many permissions there are, the base, the sets added and removed, and the manifest.
 pub fn grant(alloc: Global, out: &mut String, row: &str) -> Result<(), AllocError> {
-    let (count, row) = split_number(row);
-    let count = u8::try_from(count).unwrap_or(u8::MAX);
+    let (count, row) = split_word(row);
     let (assignment, text) = split_assignment(row);
     match manifest_from(alloc, text.as_bytes()) {
-        Ok(manifest) => put_granted(out, manifest.roles.as_slice(), count, &assignment),
+        Ok(manifest) => put_granted(out, manifest.roles.as_slice(), byte_of(count), &assignment),
         Err(error) => write!(out, "{error}"),
     }
 }
@@ -60,19 +59,20 @@ pub fn fit_assignment(out: &mut String, row: &str) -> Result<(), AllocError> {
     write!(out, "{}", assignment.fits(count))
 }
 
+// Whether the copy of a role equals it.
+fn is_copied(role: &Role) -> Result<bool, AllocError> {
+    let copy = role.clone()?;
+    Ok(copy == *role)
+}
+
 // Appends whether the role of a base is listed, its title, and whether its copy is equal.
 fn put_named(out: &mut String, roles: &[Role], base: Base) -> Result<(), AllocError> {
     write!(out, "listed {}, ", is_listed(roles, base))?;
     let Some(role) = named_role(roles, base) else {
         return out.push_str("none is named");
     };
-    let copy = role.clone()?;
-    write!(
-        out,
-        "{:?}, copy equal {}",
-        role.title.as_str(),
-        copy == *role
-    )
+    put_text(out, role.title.as_str())?;
+    write!(out, ", copy equal {}", is_copied(role)?)
 }
 
 /// Appends what a base names: the base, and the manifest.

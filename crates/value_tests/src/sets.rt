@@ -1,16 +1,16 @@
 //! Sets of positions.
 
-use crate::notation::{number_of, split_number, split_word};
+use crate::notation::{byte_of, number_of, split_at, split_number, split_word};
 use perm_roles::PermSet;
 use std::alloc::{AllocError, Global};
 use std::fmt::Write;
 
 /// The set of a word: `all:3` has the positions below 3, and a number is the word of its set.
 pub fn set_of(word: &str) -> PermSet {
-    match word.split_once(':') {
-        Some((_, count)) => PermSet::all(u8::try_from(number_of(count)).unwrap_or(0).min(64)),
-        None if word == "none" => PermSet::empty(),
-        None => PermSet::from_bits(number_of(word) as u64),
+    match split_at(word, ':') {
+        ("all", count) => PermSet::all(byte_of(count).min(64)),
+        ("none", _) => PermSet::empty(),
+        _ => PermSet::from_bits(number_of(word) as u64),
     }
 }
 
@@ -37,9 +37,9 @@ fn flags_of(alloc: Global, digits: &str) -> Result<Vec<bool>, AllocError> {
 
 /// Appends the set of a list: how many permissions there are, and a digit for each place.
 pub fn list_set(alloc: Global, out: &mut String, row: &str) -> Result<(), AllocError> {
-    let (count, digits) = split_number(row);
+    let (count, digits) = split_word(row);
     let flags = flags_of(alloc, digits)?;
-    match PermSet::from_list(&flags, u8::try_from(count).unwrap_or(u8::MAX)) {
+    match PermSet::from_list(&flags, byte_of(count)) {
         Ok(set) => put_set(out, &set),
         Err(fault) => write!(out, "{fault:?}, {fault}"),
     }
@@ -50,9 +50,10 @@ pub fn pair_sets(out: &mut String, row: &str) -> Result<(), AllocError> {
     let (one, other) = split_word(row);
     let one = set_of(one);
     let other = set_of(other);
-    write!(out, "union {}, ", one.union(&other).bits())?;
-    write!(out, "meet {}, ", one.meet(&other).bits())?;
-    write!(out, "minus {}, ", one.minus(&other).bits())?;
+    let union = one.union(&other).bits();
+    let meet = one.meet(&other).bits();
+    let minus = one.minus(&other).bits();
+    write!(out, "union {union}, meet {meet}, minus {minus}, ")?;
     write!(
         out,
         "contains {}, equal {}",

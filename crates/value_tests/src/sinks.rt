@@ -1,6 +1,6 @@
 //! What sinks take, in memory and over std's writers.
 
-use crate::notation::{numbers_of, split_number, split_word};
+use crate::notation::{numbers_of, put_bytes, split_number, split_word};
 use host_base::{Fails, MemSink, ReadFailed, Sink, StdSink, WriteFailed};
 use std::alloc::{AllocError, Global};
 use std::fmt::Write;
@@ -27,8 +27,11 @@ impl io::Write for Full {
 // Puts each of the pieces between commas, and appends what comes of it.
 fn put_pieces<S: Sink>(out: &mut String, sink: &mut S, pieces: &str) -> Result<(), AllocError> {
     for piece in pieces.split(',') {
-        let put = sink.put(piece.as_bytes());
-        write!(out, "{put:?}, ")?;
+        let word = match sink.put(piece.as_bytes()) {
+            Ok(()) => "put, ",
+            Err(_) => "failed, ",
+        };
+        out.push_str(word)?;
     }
     Ok(())
 }
@@ -44,8 +47,8 @@ pub fn put_full(out: &mut String, row: &str) -> Result<(), AllocError> {
 // Puts pieces to memory.
 fn put_memory(out: &mut String, mut sink: MemSink, pieces: &str) -> Result<(), AllocError> {
     put_pieces(out, &mut sink, pieces)?;
-    let written = str::from_utf8(sink.written());
-    write!(out, "{written:?}, {} faults", sink.faults())
+    put_bytes(out, sink.written())?;
+    write!(out, ", {} faults", sink.faults())
 }
 
 /// Puts pieces to memory that fails at these calls.

@@ -1,6 +1,6 @@
 //! What sources give, in memory and over std's readers.
 
-use crate::notation::{numbers_of, split_number, split_word};
+use crate::notation::{numbers_of, put_bytes, split_number, split_word};
 use host_base::{CallCount, MemSource, Source, StdSource};
 use std::alloc::{AllocError, Global};
 use std::fmt::Write;
@@ -41,9 +41,10 @@ fn put_taken<S: Source>(
     let room = room.max(1).min(4);
     for _ in 0..calls {
         match source.take(&mut buf[..room]) {
-            Ok(taken) => write!(out, "{:?}, ", str::from_utf8(&buf[..taken]))?,
-            Err(fault) => write!(out, "{fault:?}, ")?,
+            Ok(taken) => put_bytes(out, &buf[..taken])?,
+            Err(_) => out.push_str("failed")?,
         }
+        out.push_str(", ")?;
     }
     Ok(())
 }
@@ -93,6 +94,12 @@ pub fn take_failing(alloc: Global, out: &mut String, row: &str) -> Result<(), Al
     put_memory(out, MemSource::new(bytes, numbers_of(alloc, fails)?), calls)
 }
 
+// Appends whether the next call fails, and the faults after it.
+fn put_call(out: &mut String, count: &mut CallCount) -> Result<(), AllocError> {
+    let fails = count.next_fails();
+    write!(out, "{fails} {}, ", count.faults())
+}
+
 /// Appends which calls fail and the faults after each, and the faults after one more that wasn't listed: the calls that are listed,
 /// and how many there are.
 pub fn count_calls(alloc: Global, out: &mut String, row: &str) -> Result<(), AllocError> {
@@ -100,7 +107,7 @@ pub fn count_calls(alloc: Global, out: &mut String, row: &str) -> Result<(), All
     let (calls, _) = split_number(row);
     let mut count = CallCount::new(numbers_of(alloc, fails)?);
     for _ in 0..calls {
-        write!(out, "{} {}, ", count.next_fails(), count.faults())?;
+        put_call(out, &mut count)?;
     }
     count.add_fault();
     write!(out, "{}", count.faults())
