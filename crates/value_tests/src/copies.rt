@@ -58,27 +58,23 @@ pub fn copy_bytes(alloc: Global, out: &mut String, row: &str) -> Result<(), Allo
     put_bytes(out, &bytes.into_vec())
 }
 
-/// Appends whether a copy of bytes and the bytes of a `Vec` are equal, and the first.
+/// Appends a copy of bytes, and the bytes of a `Vec`.
 pub fn own_bytes(alloc: Global, out: &mut String, slice: &[u8]) -> Result<(), AllocError> {
     let Ok(copy) = Bytes::copy_of(alloc, slice) else {
         return Err(AllocError);
     };
     let made = Bytes::new(Vec::from_slice(alloc, slice)?);
     put_bytes(out, copy.as_slice())?;
-    write!(out, ", equal {}", copy.as_slice() == made.as_slice())
+    out.push_str(", ")?;
+    put_bytes(out, made.as_slice())
 }
 
-/// Appends how long the answer of bytes is, how long its copy, and whether these are the first of the bytes.
+/// Appends how long the answer of bytes is, and the first bytes of its copy.
 pub fn keep_answer(alloc: Global, out: &mut String, bytes: &[u8]) -> Result<(), AllocError> {
     let answer = Answer::new(Vec::from_slice(alloc, bytes)?);
-    write!(out, "{} bytes, ", answer.as_slice().len())?;
+    write!(out, "{} bytes: ", answer.as_slice().len())?;
     let copy = answer.clone()?.into_vec();
-    write!(
-        out,
-        "{} in a copy, equal {}",
-        copy.len(),
-        bytes.starts_with(&copy)
-    )
+    put_bytes(out, &copy[..copy.len().min(3)])
 }
 
 // The verdict of a word on a grain.

@@ -1,6 +1,6 @@
 //! Roles, and what assignments give. The roles are those of a manifest.
 
-use crate::notation::{byte_of, put_text, split_number, split_word};
+use crate::notation::{byte_of, split_number, split_word};
 use crate::sets::set_of;
 use app_manifest::manifest_from;
 use perm_roles::{Assignment, Base, Role, granted, is_listed, named_role};
@@ -59,20 +59,14 @@ pub fn fit_assignment(out: &mut String, row: &str) -> Result<(), AllocError> {
     write!(out, "{}", assignment.fits(count))
 }
 
-// Whether the copy of a role equals it.
-fn is_copied(role: &Role) -> Result<bool, AllocError> {
-    let copy = role.clone()?;
-    Ok(copy == *role)
-}
-
-// Appends whether the role of a base is listed, its title, and whether its copy is equal.
+// Appends whether the role of a base is listed, and its copy.
 fn put_named(out: &mut String, roles: &[Role], base: Base) -> Result<(), AllocError> {
     write!(out, "listed {}, ", is_listed(roles, base))?;
     let Some(role) = named_role(roles, base) else {
         return out.push_str("none is named");
     };
-    put_text(out, role.title.as_str())?;
-    write!(out, ", copy equal {}", is_copied(role)?)
+    let copy = role.clone()?;
+    write!(out, "{copy:?}")
 }
 
 /// Appends what a base names: the base, and the manifest.
