@@ -5,3 +5,5 @@ pub mod Touched
 pub mod Digests
 pub mod Extending
 pub mod Sound
+pub mod NextTables
+pub mod AccountLaws
