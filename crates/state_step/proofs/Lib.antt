@@ -7,3 +7,7 @@ pub mod Extending
 pub mod Sound
 pub mod NextTables
 pub mod AccountLaws
+pub mod AppLaws
+pub mod GrainLaws
+pub mod GrantLaws
+pub mod SavedLaws
