@@ -11,3 +11,6 @@ pub mod AppLaws
 pub mod GrainLaws
 pub mod GrantLaws
 pub mod SavedLaws
+pub mod SessionLaws
+pub mod RunLaws
+pub mod HandleLaws
