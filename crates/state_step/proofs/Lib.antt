@@ -14,3 +14,4 @@ pub mod SavedLaws
 pub mod SessionLaws
 pub mod RunLaws
 pub mod HandleLaws
+pub mod DueEvents
