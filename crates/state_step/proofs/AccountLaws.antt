@@ -1,24 +1,21 @@
 -- An account that is added, or whose marks are set, leaves a well-formed state so.
-use Rattle.std.proofs.Common.{◌≡◌, ◌≤◌, ◌+◌, ℕ, Bool, true, List, [], ◌∷◌, ◌++◌, Option, Some, None, length, refl, sym, ap, subst, arith, length-append}
+use Rattle.std.proofs.Common.{◌≡◌, ◌≤◌, ℕ, Bool, true, List, [], ◌∷◌, ◌++◌, Option, Some, None, length, refl, ap, subst, arith, length-append}
 use Rattle.host_base.specs.declared.ids.AccountId.{AccountId}
 use Rattle.share_graph.specs.declared.event.Event.TheVariants as event
 use Rattle.share_graph.specs.declared.fault.Kind.TheVariants as kind
-use Rattle.share_graph.specs.declared.grants.Grant.{Grant}
 use Rattle.share_graph.specs.declared.rows.Account.{Account}
-use Rattle.share_graph.specs.declared.rows.Grain.{Grain}
-use Rattle.share_graph.specs.declared.rows.Saved.{Saved}
 use Rattle.share_graph.specs.declared.state.State.{State}
 use Rattle.share_graph.specs.declared.state.Tables.{Tables}
 use Rattle.share_graph.specs.Changing.{change_row}
 use Rattle.share_graph.specs.EventFits.{EventFits}
 use Rattle.share_graph.specs.Fresh.{is_handle}
-use Rattle.share_graph.specs.Kinds.{KnownDigest, IsUnused, AreApart}
+use Rattle.share_graph.specs.Kinds.{KnownDigest, IsUnused}
 use Rattle.share_graph.specs.Known.{HasAccount}
 use Rattle.share_graph.specs.Setting.{with_admin, with_enabled}
 use Rattle.share_graph.specs.WellFormed.{AreNumbered, IsWellFormed}
 use Rattle.share_graph.proofs.Apart.{logins, tokens, references, keys, run_tokens}
 use Rattle.state_step.specs.NewRows.{IsNewAccount}
-use Rattle.state_step.proofs.Digests.{Adds, adds_none, adds_pushed, apart_after}
+use Rattle.state_step.proofs.Digests.{Adds, adds_none, adds_pushed, apart_after, one_unused, none_unused}
 use Rattle.state_step.proofs.Each.{Each, AreApartBy, push_old_row, each_pushed, numbered_pushed, apart_pushed}
 use Rattle.state_step.proofs.Extending.{Extends, knows_of_grain}
 use Rattle.state_step.proofs.NextTables.{with_tables, still_sound_grant, still_sound_saved, next_tables, tables_numbered}
@@ -42,6 +39,7 @@ record AreNextAccounts (s : State) (accounts : List Account) (added : Option Kno
   adds : Adds added (logins s) (logins (with_tables s (with_accounts s.tables accounts)))
   unused : (e : KnownDigest) → added ≡ Some e → IsUnused s e.digest
 
+-- the state with them is well formed
 next_accounts : (s : State) → IsWellFormed s → (accounts : List Account) (added : Option KnownDigest) → AreNextAccounts s accounts added → IsWellFormed (with_tables s (with_accounts s.tables accounts))
 next_accounts s formed accounts added next =
     let u = with_accounts s.tables accounts in
@@ -74,6 +72,7 @@ next_accounts s formed accounts added next =
       });
     })
 
+-- a new account fits
 pub account_added_fits : (s : State) → IsWellFormed s → (account : Account) → IsNewAccount s account → EventFits s (event.AccountAdded account)
 account_added_fits s formed account new =
     let sound = sound_of s.tables formed.tables in
@@ -87,7 +86,7 @@ account_added_fits s formed account new =
         formed = each_pushed (λ k (x : Account). is_handle x.handle ≡ true) s.tables.accounts account sound.formed new.formed;
         handles = apart_pushed (λ (x : Account). x.handle) s.tables.accounts account sound.handles (λ x listed same. new.free x listed same);
         adds = adds_pushed login_of s.tables.accounts account;
-        unused = λ e is. (let same : login_of account ≡ e = cc in subst (λ (k : KnownDigest). IsUnused s k.digest) same new.unused);
+        unused = one_unused s (login_of account) new.unused;
       });
     }
 
@@ -97,6 +96,7 @@ record KeepsAccount (f : Account → Account) : Type 0 where
   handle : (x : Account) → (f x).handle ≡ x.handle
   login : (x : Account) → (f x).login ≡ x.login
 
+-- an account that is changed in its marks leaves the state well formed
 account_changed : (f : Account → Account) → KeepsAccount f → (s : State) → IsWellFormed s → (n : ℕ) → IsWellFormed (with_tables s (with_accounts s.tables (change_row f s.tables.accounts n)))
 account_changed f keeps s formed n =
     let sound = sound_of s.tables formed.tables in
@@ -111,15 +111,17 @@ account_changed f keeps s formed n =
       formed = each_touched f (λ k (x : Account). is_handle x.handle ≡ true) (λ k x is. rw (keeps.handle x) is) xs ys touched sound.formed;
       handles = apart_touched f (λ (x : Account). x.handle) keeps.handle xs ys touched sound.handles;
       adds = adds_none None (logins s) _ (map_touched f login_of (λ x. (let nums = same_num x in let digests = keeps.login x in cc)) xs ys touched);
-      unused = λ e never. cc never;
+      unused = none_unused s;
     })
 
+-- an account that is there may be made an admin, or not
 pub admin_set_fits : (s : State) → IsWellFormed s → (a : AccountId) (on : Bool) → HasAccount s.tables a → EventFits s (event.AdminSet a on)
 admin_set_fits s formed a on there = record {
   changed = there;
   formed = account_changed (with_admin on) (record { num = λ x. refl; handle = λ x. refl; login = λ x. refl }) s formed a.0;
 }
 
+-- and it may be enabled or disabled
 pub enabled_set_fits : (s : State) → IsWellFormed s → (a : AccountId) (on : Bool) → HasAccount s.tables a → EventFits s (event.EnabledSet a on)
 enabled_set_fits s formed a on there = record {
   changed = there;

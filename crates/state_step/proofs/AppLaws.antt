@@ -1,5 +1,5 @@
 -- An application that is added leaves a well-formed state so.
-use Rattle.std.proofs.Common.{◌≡◌, ◌+◌, List, [], ◌∷◌, ◌++◌, length, refl, arith, length-append}
+use Rattle.std.proofs.Common.{[], ◌∷◌, ◌++◌, refl, arith, length-append}
 use Rattle.share_graph.specs.declared.event.Event.TheVariants as event
 use Rattle.share_graph.specs.declared.rows.App.{App}
 use Rattle.share_graph.specs.declared.state.State.{State}
@@ -13,6 +13,7 @@ use Rattle.state_step.proofs.Extending.{Extends, knows_of_grain}
 use Rattle.state_step.proofs.NextTables.{still_sound_grant, still_sound_saved, next_tables, tables_numbered}
 use Rattle.state_step.proofs.Sound.{sound_of}
 
+-- a new application fits
 pub app_added_fits : (s : State) → IsWellFormed s → (app : App) → IsNewApp s app → EventFits s (event.AppAdded app)
 app_added_fits s formed app new =
     let u : Tables = record s.tables { apps = s.tables.apps ++ app ∷ [] } in

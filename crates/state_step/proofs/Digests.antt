@@ -1,5 +1,5 @@
 -- Which digests a state knows once it has a row more, or rows changed that keep theirs: each is one row's again.
-use Rattle.std.proofs.Common.{arith, ◌≡◌, ◌⊎◌, ℕ, List, [], ◌∷◌, ◌++◌, Contains, map, Option, Some, None, refl, sym, ◌∙◌, ap, subst, inl, inr}
+use Rattle.std.proofs.Common.{arith, ◌≡◌, ◌⊎◌, ℕ, List, [], ◌∷◌, ◌++◌, Contains, map, Option, Some, None, sym, ◌∙◌, ap, subst, inl, inr}
 use Rattle.std.specs.List.{filter_map, cons_option}
 use Rattle.std.proofs.lemmas.List.{map-append}
 use Rattle.std.proofs.lemmas.List.Elements.{Contains-append_left, Contains-append_right, Contains-append_cases, Contains-push_cases, filter_map-append}
@@ -13,9 +13,11 @@ use Rattle.share_graph.proofs.Apart.{logins, tokens, references, keys, run_token
 abbrev pub Adds : {X : Type 0} → Option X → List X → List X → Type 0
 Adds {X} added old new = (x : X) → Contains new x → Contains old x ⊎ (added ≡ Some x)
 
+-- nothing more, by the same list
 pub adds_none : {X : Type 0} (added : Option X) (old new : List X) → new ≡ old → Adds added old new
 adds_none {X} added old new same x listed = inl (subst (λ (xs : List X). Contains xs x) same listed)
 
+-- what a row more has
 pub adds_pushed : {X Y : Type 0} (f : X → Y) (rows : List X) (row : X) → Adds (Some (f row)) (map f rows) (map f (rows ++ row ∷ []))
 adds_pushed {X} {Y} f rows row y listed =
     elim (Contains-push_cases (map f rows) (f row) y (subst (λ (ys : List Y). Contains ys y) (map-append f rows (row ∷ [])) listed)) [
@@ -33,6 +35,7 @@ adds_option ys (Some v) y listed = elim (Contains-push_cases ys v y listed) [
   | inr new ↦ inr (ap Some new)
 ]
 
+-- what a row more has, where it has one
 pub adds_filtered : {X Y : Type 0} (f : X → Option Y) (rows : List X) (row : X) → Adds (f row) (filter_map f rows) (filter_map f (rows ++ row ∷ []))
 adds_filtered {X} {Y} f rows row y listed = adds_option (filter_map f rows) (f row) y (subst (λ (ys : List Y). Contains ys y) (filter_map-append f rows (row ∷ [])) listed)
 
@@ -83,6 +86,9 @@ apart_after added s u apart unused adds = record { one = one }
           ]
         ]
 
--- the same rows' digests, where none is added
-pub apart_again : (s u : State) → AreApart s → AddsDigest None s u → AreApart u
-apart_again s u apart adds = apart_after None s u apart (λ e never. cc never) adds
+-- the digest that is added is unused, where it is this one, and where there is none
+pub one_unused : (s : State) (new : KnownDigest) → IsUnused s new.digest → (e : KnownDigest) → Some new ≡ Some e → IsUnused s e.digest
+one_unused s new unused e is = let same : new ≡ e = cc in subst (λ (k : KnownDigest). IsUnused s k.digest) same unused
+
+pub none_unused : (s : State) (e : KnownDigest) → None ≡ Some e → IsUnused s e.digest
+none_unused s e never = cc never

@@ -14,6 +14,7 @@ use Rattle.state_step.proofs.RunLaws.{run_started_fits, run_stopped_fits}
 use Rattle.state_step.proofs.SavedLaws.{saved_added_fits, saved_dropped_fits}
 use Rattle.state_step.proofs.SessionLaws.{session_opened_fits, session_closed_fits}
 
+-- by the kind of the event
 fits_each : (s : State) (e : Event) → IsWellFormed s → IsDue s e → EventFits s e
 fits_each s (event.AccountAdded account) formed due = account_added_fits s formed account due
 fits_each s (event.AppAdded app) formed due = app_added_fits s formed app due

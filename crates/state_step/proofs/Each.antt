@@ -1,5 +1,5 @@
 -- What is so of each row by its place, and of each two rows, is so once a row is added that has it too.
-use Rattle.std.proofs.Common.{◌≡◌, ◌<◌, ◌≤◌, ◌+◌, ◌⊎◌, ℕ, zero, suc, List, [], ◌∷◌, ◌++◌, All, Contains, Some, length, take, slice_get, get_or, refl, sym, ◌∙◌, ap, subst, arith, inl, inr}
+use Rattle.std.proofs.Common.{◌≡◌, ◌<◌, ◌+◌, ◌⊎◌, ℕ, zero, suc, List, [], ◌∷◌, ◌++◌, All, Contains, Some, length, take, slice_get, get_or, refl, sym, ◌∙◌, ap, subst, arith, inl, inr}
 use Rattle.std.proofs.lemmas.List.{get_or-take, length-take}
 use Rattle.std.proofs.lemmas.Option.{slice_get_within, slice_get-get_or, get_or_from_slice_get}
 use Rattle.share_graph.specs.Rows.{row}
@@ -34,6 +34,7 @@ pub push_old_row : {X : Type 0} (xs ys : List X) (n : ℕ) (x : X) → row xs n 
 push_old_row xs ys zero x is = cc is
 push_old_row xs ys (suc k) x is = push_old xs ys k x is
 
+-- what is so of each row, and of the new one
 pub each_pushed : {X : Type 0} (P : ℕ → X → Type 0) (xs : List X) (y : X) → Each P xs → P (length xs) y → Each P (xs ++ y ∷ [])
 each_pushed {X} P xs y each here k z is = elim (push_cases xs y k z is) [
   | inl (less, there) ↦ each k z there

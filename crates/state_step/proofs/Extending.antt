@@ -1,5 +1,5 @@
 -- Tables that grow, or whose rows change in what no other row looks at: what was sound by the old ones is so by the new.
-use Rattle.std.proofs.Common.{◌≡◌, ◌+◌, ℕ, List, All, refl, sym, ◌∙◌, subst}
+use Rattle.std.proofs.Common.{◌≡◌, List, sym, ◌∙◌, subst}
 use Rattle.std.proofs.lemmas.List.Elements.{All-weaker}
 use Rattle.host_base.specs.declared.ids.AccountId.{AccountId}
 use Rattle.host_base.specs.declared.ids.AppId.{AppId}
@@ -22,7 +22,6 @@ use Rattle.share_graph.specs.declared.sessions.Root.{Root}
 use Rattle.share_graph.specs.declared.sessions.Root.TheVariants as root
 use Rattle.share_graph.specs.declared.sessions.Run.{Run}
 use Rattle.share_graph.specs.declared.sessions.Session.{Session}
-use Rattle.share_graph.specs.declared.state.State.{State}
 use Rattle.share_graph.specs.declared.state.Tables.{Tables}
 use Rattle.share_graph.specs.Fitting.{ForApp, HolderSetFits, NeedSetFits, SetsFit, IsReference}
 use Rattle.share_graph.specs.Keys.{IsBearer}
@@ -37,15 +36,6 @@ pub record Extends (t u : Tables) : Type 0 where
   pub apps : (p : AppId) (x : App) → IsApp t p x → IsApp u p x
   pub grains : (n : GrainId) (x : Grain) → IsGrain t n x → (y : Grain) × IsGrain u n y × (y.app ≡ x.app)
   pub grants : (g : GrantId) (x : Grant) → IsGrant t g x → (y : Grant) × IsGrant u g y × (y.grain ≡ x.grain) × (y.target ≡ x.target)
-
--- rows that stay as they are
-pub extends_itself : (t : Tables) → Extends t t
-extends_itself t = record {
-  accounts = λ a is. is;
-  apps = λ p x is. is;
-  grains = λ n x is. (x, is, refl);
-  grants = λ g x is. (x, is, refl, refl);
-}
 
 module _ (t u : Tables) (more : Extends t u) where
   has_app : (p : AppId) → HasApp t p → HasApp u p

@@ -1,6 +1,5 @@
 -- A grain that is added, or put into the trash or out of it, leaves a well-formed state so.
-use Rattle.std.proofs.Common.{◌≡◌, ◌≤◌, ◌+◌, ℕ, Bool, List, [], ◌∷◌, ◌++◌, length, refl, ap, sym, subst, arith, length-append}
-use Rattle.host_base.specs.declared.ids.AppId.{AppId}
+use Rattle.std.proofs.Common.{◌≡◌, ◌≤◌, ℕ, Bool, List, [], ◌∷◌, ◌++◌, length, refl, subst, arith, length-append}
 use Rattle.host_base.specs.declared.ids.GrainId.{GrainId}
 use Rattle.share_graph.specs.declared.event.Event.TheVariants as event
 use Rattle.share_graph.specs.declared.rows.Grain.{Grain}
@@ -29,6 +28,7 @@ record AreNextGrains (s : State) (grains : List Grain) : Type 0 where
   numbered : AreNumbered (λ (grain : Grain). grain.num.0) grains
   knows : Each (λ k (grain : Grain). KnowsOfGrain s.tables grain) grains
 
+-- the state with them is well formed
 next_grains : (s : State) → IsWellFormed s → (grains : List Grain) → AreNextGrains s grains → IsWellFormed (with_tables s (with_grains s.tables grains))
 next_grains s formed grains next =
     let u = with_grains s.tables grains in
@@ -55,6 +55,7 @@ next_grains s formed grains next =
       apart = record { one = formed.apart.one };
     })
 
+-- a new grain fits
 pub grain_added_fits : (s : State) → IsWellFormed s → (grain : Grain) → IsNewGrain s grain → EventFits s (event.GrainAdded grain)
 grain_added_fits s formed grain new =
     let sound = sound_of s.tables formed.tables in
@@ -69,6 +70,7 @@ grain_added_fits s formed grain new =
       });
     }
 
+-- a grain that is there may be put into the trash, or out of it
 pub trashed_set_fits : (s : State) → IsWellFormed s → (n : GrainId) (on : Bool) → HasGrain s.tables n → EventFits s (event.TrashedSet n on)
 trashed_set_fits s formed n on there =
     let sound = sound_of s.tables formed.tables in

@@ -1,5 +1,5 @@
 -- A grant that is added or revoked leaves a well-formed state so.
-use Rattle.std.proofs.Common.{◌≡◌, ◌<◌, ◌≤◌, ◌+◌, ℕ, zero, suc, List, [], ◌∷◌, ◌++◌, Option, Some, None, length, refl, ap, sym, subst, arith, length-append}
+use Rattle.std.proofs.Common.{◌≡◌, ◌<◌, ◌≤◌, ◌+◌, ℕ, zero, suc, List, [], ◌∷◌, ◌++◌, Option, Some, None, length, refl, subst, arith, length-append}
 use Rattle.std.specs.Option.{option_map}
 use Rattle.std.proofs.lemmas.List.Elements.{All-weaker}
 use Rattle.std.proofs.lemmas.Option.{slice_get_within}
@@ -16,7 +16,7 @@ use Rattle.share_graph.specs.declared.state.State.{State}
 use Rattle.share_graph.specs.declared.state.Tables.{Tables}
 use Rattle.share_graph.specs.Changing.{change_row}
 use Rattle.share_graph.specs.EventFits.{EventFits}
-use Rattle.share_graph.specs.Kinds.{KnownDigest, IsUnused, AreApart}
+use Rattle.share_graph.specs.Kinds.{KnownDigest, IsUnused}
 use Rattle.share_graph.specs.Known.{HasGrant, KnowsGiver, KnowsNeed, KnowsOfGrant}
 use Rattle.share_graph.specs.Parents.{GiverFits, GiverIsEarlier, NeedIsEarlier, NamesEarlier}
 use Rattle.share_graph.specs.Rows.{row, IsGrant}
@@ -24,7 +24,7 @@ use Rattle.share_graph.specs.Setting.{revoked}
 use Rattle.share_graph.specs.WellFormed.{AreNumbered, IsWellFormed}
 use Rattle.share_graph.proofs.Apart.{known_token, token_of, logins, tokens, references, keys, run_tokens}
 use Rattle.state_step.specs.NewRows.{IsUnusedBy, IsNewGrant}
-use Rattle.state_step.proofs.Digests.{Adds, adds_none, adds_filtered, apart_after}
+use Rattle.state_step.proofs.Digests.{Adds, adds_none, adds_filtered, apart_after, none_unused}
 use Rattle.state_step.proofs.Each.{Each, push_old_row, each_pushed, numbered_pushed}
 use Rattle.state_step.proofs.Extending.{Extends, knows_of_grain}
 use Rattle.state_step.proofs.NextTables.{with_tables, still_sound_grant, still_sound_saved, next_tables, tables_numbered}
@@ -43,6 +43,7 @@ record AreNextGrants (s : State) (grants : List Grant) (added : Option KnownDige
   adds : Adds added (tokens s) (tokens (with_tables s (with_grants s.tables grants)))
   unused : (e : KnownDigest) → added ≡ Some e → IsUnused s e.digest
 
+-- the state with them is well formed
 next_grants : (s : State) → IsWellFormed s → (grants : List Grant) (added : Option KnownDigest) → AreNextGrants s grants added → IsWellFormed (with_tables s (with_grants s.tables grants))
 next_grants s formed grants added next =
     let u = with_grants s.tables grants in
@@ -94,6 +95,7 @@ need_is_earlier t (need.PermissionsHeld (node.Grant h) set) is = there_is_earlie
 need_is_earlier t (need.PermissionsHeld (node.User n a) set) is = tt
 need_is_earlier t (need.UserIsAdmin a) is = tt
 
+-- so a new grant names earlier ones
 names_earlier : (t : Tables) (grant : Grant) → KnowsOfGrant t grant → NamesEarlier (length t.grants + 1) grant
 names_earlier t grant knows = record {
   giver = giver_is_earlier t grant.giver knows.giver;
@@ -105,6 +107,7 @@ token_unused : (s : State) (num : ℕ) (digest : Option Digest) → IsUnusedBy s
 token_unused s num None unused e is = cc is
 token_unused s num (Some d) unused e is = let same : known_token num d ≡ e = cc in subst (λ (k : KnownDigest). IsUnused s k.digest) same unused
 
+-- the state with a new grant is well formed
 pub with_new_grant : (s : State) → IsWellFormed s → (grant : Grant) → IsNewGrant s grant → IsWellFormed (with_tables s (with_grants s.tables (s.tables.grants ++ grant ∷ [])))
 with_new_grant s formed grant new =
     let sound = sound_of s.tables formed.tables in
@@ -124,6 +127,7 @@ with_new_grant s formed grant new =
       unused = token_unused s grant.num.0 grant.digest new.unused;
     })
 
+-- a new grant fits
 pub grant_added_fits : (s : State) → IsWellFormed s → (grant : Grant) → IsNewGrant s grant → EventFits s (event.GrantAdded grant)
 grant_added_fits s formed grant new = record { changed = tt; formed = with_new_grant s formed grant new }
 
@@ -144,6 +148,7 @@ revoked_sound t k grant sound =
       shares = record { token = shares.token; few_needs = shares.few_needs };
     }
 
+-- a grant that is there may be revoked
 pub grant_revoked_fits : (s : State) → IsWellFormed s → (g : GrantId) → HasGrant s.tables g → EventFits s (event.GrantRevoked g)
 grant_revoked_fits s formed g there =
     let sound = sound_of s.tables formed.tables in
@@ -159,6 +164,6 @@ grant_revoked_fits s formed g there =
         numbered = numbered_touched revoked (λ (x : Grant). x.num.0) (λ x. refl) xs ys touched formed.numbered.grants;
         sound = each_touched revoked (SoundGrant s.tables) (revoked_sound s.tables) xs ys touched sound.grants;
         adds = adds_none None (tokens s) _ (filter_map_touched revoked token_of (λ x. refl) xs ys touched);
-        unused = λ e never. cc never;
+        unused = none_unused s;
       });
     }

@@ -1,5 +1,5 @@
 -- A handle that is made, and a grant that a grain claims with the handle to it, leave a well-formed state so.
-use Rattle.std.proofs.Common.{◌≡◌, ◌==◌, ◌<◌, ◌≤◌, ◌+◌, ◌∙◌, ℕ, List, [], ◌∷◌, ◌++◌, All, Some, count_by, length, take, slice_get, refl, sym, ap, subst, arith, inl, inr}
+use Rattle.std.proofs.Common.{◌≡◌, ◌==◌, ◌≤◌, ◌+◌, ◌∙◌, ℕ, List, [], ◌∷◌, ◌++◌, Some, count_by, length, take, sym, ap, subst, arith, inl, inr}
 use Rattle.std.proofs.lemmas.List.{take-append-le}
 use Rattle.std.proofs.lemmas.List.Elements.{All-push, All-weaker}
 use Rattle.std.proofs.Math.Seq.{take-append_seam}
@@ -9,11 +9,11 @@ use Rattle.share_graph.specs.declared.grants.Grant.{Grant}
 use Rattle.share_graph.specs.declared.sessions.Handle.{Handle}
 use Rattle.share_graph.specs.declared.state.State.{State}
 use Rattle.share_graph.specs.EventFits.{EventFits}
-use Rattle.share_graph.specs.Rows.{row, IsGrant}
+use Rattle.share_graph.specs.Rows.{row}
 use Rattle.share_graph.specs.WellFormed.{IsRootedHandle, AreNumberedByRun, IsWellFormed}
 use Rattle.share_graph.proofs.Contained.{row_after}
 use Rattle.state_step.specs.NewRows.{handles_of, IsNewHandle, IsNewClaim}
-use Rattle.state_step.proofs.Each.{each_pushed, push_cases}
+use Rattle.state_step.proofs.Each.{push_cases}
 use Rattle.state_step.proofs.GrantLaws.{with_new_grant}
 use Rattle.state_step.proofs.NextTables.{with_tables}
 use Rattle.state_step.proofs.OthersStay.{last_place}
@@ -22,6 +22,7 @@ use Rattle.state_step.proofs.OthersStay.{last_place}
 abbrev before : List Handle → Handle → ℕ
 before handles handle = count_by (λ (other : Handle). other.run.0 == handle.run.0) handles
 
+-- handles are numbered by their runs where the next has the next number of its run
 numbered_by_run_pushed : (handles : List Handle) (handle : Handle) → AreNumberedByRun handles → handle.num ≡ handles_of handles handle + 1 → AreNumberedByRun (handles ++ handle ∷ [])
 numbered_by_run_pushed handles handle numbered next i x is = elim (push_cases handles handle i x is) [
   | inl (less, there) ↦ (
@@ -35,9 +36,11 @@ numbered_by_run_pushed handles handle numbered next i x is = elim (push_cases ha
 abbrev with_handle : State → Handle → State
 with_handle s handle = record s { handles = s.handles ++ handle ∷ [] }
 
+-- the handles that were there are rooted as before
 still_rooted : (s : State) (handle other : Handle) → IsRootedHandle s other → IsRootedHandle (with_handle s handle) other
 still_rooted s handle other is = record { run = is.run; grant = is.grant; is_run = is.is_run; is_grant = is.is_grant; claimed = is.claimed }
 
+-- the state with a new handle is well formed
 with_new_handle : (s : State) → IsWellFormed s → (handle : Handle) → IsNewHandle s handle → IsWellFormed (with_handle s handle)
 with_new_handle s formed handle new = record {
   tables = formed.tables;
@@ -62,6 +65,7 @@ with_new_handle s formed handle new = record {
   };
 }
 
+-- a new handle fits
 pub handle_made_fits : (s : State) → IsWellFormed s → (handle : Handle) → IsNewHandle s handle → EventFits s (event.HandleMade handle)
 handle_made_fits s formed handle new = record { changed = tt; formed = with_new_handle s formed handle new }
 
@@ -71,6 +75,7 @@ new_row grants grant g names num =
     let at : g.0 ≡ length grants + 1 = ap (λ (h : GrantId). h.0) names ∙ num in
     rw at (row_after (grants ++ grant ∷ []) (length grants) grant (last_place grants grant))
 
+-- a new claim fits
 pub claimed_fits : (s : State) → IsWellFormed s → (grant : Grant) (handle : Handle) → IsNewClaim s grant handle → EventFits s (event.Claimed grant handle)
 claimed_fits s formed grant handle new =
     let u : State = with_tables s (record s.tables { grants = s.tables.grants ++ grant ∷ [] }) in

@@ -1,5 +1,5 @@
 -- A well-formed state with other tables: what is owed for them.
-use Rattle.std.proofs.Common.{◌≡◌, ◌+◌, ℕ, List}
+use Rattle.std.proofs.Common.{ℕ}
 use Rattle.share_graph.specs.declared.grants.Grant.{Grant}
 use Rattle.share_graph.specs.declared.rows.Account.{Account}
 use Rattle.share_graph.specs.declared.rows.App.{App}
@@ -9,7 +9,7 @@ use Rattle.share_graph.specs.declared.state.State.{State}
 use Rattle.share_graph.specs.declared.state.Tables.{Tables}
 use Rattle.share_graph.specs.Kinds.{AreApart}
 use Rattle.share_graph.specs.WellFormed.{AreNumbered, IsNumbered, IsWithinLimits, IsWellFormed}
-use Rattle.state_step.proofs.Extending.{Extends, knows_of_grain, knows_of_grant, knows_of_saved, has_parent, sets_fit, is_reference, rooted}
+use Rattle.state_step.proofs.Extending.{Extends, knows_of_grant, knows_of_saved, has_parent, sets_fit, is_reference, rooted}
 use Rattle.state_step.proofs.Sound.{SoundGrant, IsSoundSaved, IsSound, checked_of}
 
 -- the state with these tables

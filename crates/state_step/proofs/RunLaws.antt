@@ -1,17 +1,15 @@
 -- A run that is started or stopped leaves a well-formed state so.
-use Rattle.std.proofs.Common.{◌≡◌, ◌∙◌, ℕ, Bool, true, false, List, [], ◌∷◌, ◌++◌, All, Contains, Option, Some, None, slice_get, refl, sym, ap, subst, inl, inr}
+use Rattle.std.proofs.Common.{◌≡◌, ◌∙◌, List, [], ◌∷◌, ◌++◌, All, Contains, Option, Some, None, refl, sym, ap, subst, inl, inr}
 use Rattle.std.proofs.lemmas.Bool.{false≢true}
 use Rattle.std.proofs.lemmas.List.Elements.{All-push, Contains-append_left}
 use Rattle.host_base.specs.declared.ids.GrainId.{GrainId}
 use Rattle.host_base.specs.declared.ids.RunId.{RunId}
 use Rattle.share_graph.specs.declared.event.Event.TheVariants as event
 use Rattle.share_graph.specs.declared.fault.Kind.TheVariants as kind
-use Rattle.share_graph.specs.declared.grants.Target.{Target}
 use Rattle.share_graph.specs.declared.grants.Target.TheVariants as target
 use Rattle.share_graph.specs.declared.sessions.Handle.{Handle}
 use Rattle.share_graph.specs.declared.sessions.Run.{Run}
 use Rattle.share_graph.specs.declared.state.State.{State}
-use Rattle.share_graph.specs.declared.state.Tables.{Tables}
 use Rattle.share_graph.specs.Changing.{change_row}
 use Rattle.share_graph.specs.EventFits.{EventFits}
 use Rattle.share_graph.specs.Keys.{IsNoneOf, IsLiveRun}
@@ -23,7 +21,7 @@ use Rattle.share_graph.specs.WellFormed.{IsRootedHandle, AreNumbered, HaveOneLiv
 use Rattle.share_graph.proofs.Apart.{logins, tokens, references, keys, run_tokens}
 use Rattle.share_graph.proofs.Contained.{contains_at}
 use Rattle.state_step.specs.NewRows.{IsNewRun}
-use Rattle.state_step.proofs.Digests.{Adds, adds_none, adds_pushed, apart_after}
+use Rattle.state_step.proofs.Digests.{Adds, adds_none, adds_pushed, apart_after, one_unused, none_unused}
 use Rattle.state_step.proofs.Each.{push_cases, all_from_each, each_from_all, numbered_pushed}
 use Rattle.state_step.proofs.Touched.{IsSameOr, AreTouched, change_row_touches, touched_from, touched_listed, same_key, each_touched, numbered_touched, map_touched}
 
@@ -55,6 +53,7 @@ still_rooted s runs there handle is =
       claimed = is.claimed ∙ ap (λ (n : GrainId). target.Grain n) (sym grain);
     }
 
+-- the state with them is well formed
 next_runs : (s : State) → IsWellFormed s → (runs : List Run) (added : Option KnownDigest) → AreNextRuns s runs added → IsWellFormed (with_runs s runs)
 next_runs s formed runs added next = record {
   tables = formed.tables;
@@ -102,12 +101,14 @@ was_live : (n : GrainId) (x y : Run) → IsSameOr stopped x y → IsLiveRun n y 
 was_live n x y (inl same) live = same
 was_live n x y (inr changed) live = absurd (false≢true (sym live.1 ∙ sym (ap (λ (r : Run). r.stopped) changed)))
 
+-- so a grain has one live run at the most where some are stopped
 one_live_touched : (runs more : List Run) → AreTouched stopped runs more → HaveOneLiveRun runs → HaveOneLiveRun more
 one_live_touched runs more touched one n i j a b at there live also =
     let (x, was, from) = touched_from stopped runs more touched i a at in
     let (y, were, of) = touched_from stopped runs more touched j b there in
     one n i j x y was were (subst (IsLiveRun n) (sym (was_live n x a from live)) live) (subst (IsLiveRun n) (sym (was_live n y b of also)) also)
 
+-- a new run fits
 pub run_started_fits : (s : State) → IsWellFormed s → (run : Run) → IsNewRun s run → EventFits s (event.RunStarted run)
 run_started_fits s formed run new = record {
   changed = tt;
@@ -117,10 +118,11 @@ run_started_fits s formed run new = record {
     live = one_live_pushed s.runs run formed.live new.alone;
     grains = All-push (λ (x : Run). HasGrain s.tables x.grain) s.runs run formed.rooted.runs new.grain;
     adds = adds_pushed run_token_of s.runs run;
-    unused = λ e is. (let same : run_token_of run ≡ e = cc in subst (λ (k : KnownDigest). IsUnused s k.digest) same new.unused);
+    unused = one_unused s (run_token_of run) new.unused;
   });
 }
 
+-- a run that is there may be stopped
 pub run_stopped_fits : (s : State) → IsWellFormed s → (r : RunId) → (run : Run) × IsRun s r run → EventFits s (event.RunStopped r)
 run_stopped_fits s formed r there =
     let xs = s.runs in
@@ -136,6 +138,6 @@ run_stopped_fits s formed r there =
         grains = all_from_each (λ (x : Run). HasGrain s.tables x.grain) ys
             (each_touched stopped (λ k (x : Run). HasGrain s.tables x.grain) (λ k x is. is) xs ys touched (each_from_all (λ (x : Run). HasGrain s.tables x.grain) xs formed.rooted.runs));
         adds = adds_none None (run_tokens s) _ (map_touched stopped run_token_of (λ x. refl) xs ys touched);
-        unused = λ e never. cc never;
+        unused = none_unused s;
       });
     }

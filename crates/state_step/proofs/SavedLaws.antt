@@ -1,5 +1,5 @@
 -- A saved reference that is added or dropped leaves a well-formed state so.
-use Rattle.std.proofs.Common.{◌≡◌, ◌≤◌, ◌+◌, ℕ, List, [], ◌∷◌, ◌++◌, Option, Some, None, length, refl, subst, arith, length-append}
+use Rattle.std.proofs.Common.{◌≡◌, ◌≤◌, ℕ, List, [], ◌∷◌, ◌++◌, Option, Some, None, length, refl, subst, arith, length-append}
 use Rattle.host_base.specs.declared.ids.SavedId.{SavedId}
 use Rattle.share_graph.specs.declared.event.Event.TheVariants as event
 use Rattle.share_graph.specs.declared.fault.Kind.TheVariants as kind
@@ -14,7 +14,7 @@ use Rattle.share_graph.specs.Setting.{dropped}
 use Rattle.share_graph.specs.WellFormed.{AreNumbered, IsWellFormed}
 use Rattle.share_graph.proofs.Apart.{logins, tokens, references, keys, run_tokens}
 use Rattle.state_step.specs.NewRows.{IsNewReference}
-use Rattle.state_step.proofs.Digests.{Adds, adds_none, adds_pushed, apart_after}
+use Rattle.state_step.proofs.Digests.{Adds, adds_none, adds_pushed, apart_after, one_unused, none_unused}
 use Rattle.state_step.proofs.Each.{Each, each_pushed, numbered_pushed}
 use Rattle.state_step.proofs.Extending.{Extends, knows_of_grain}
 use Rattle.state_step.proofs.NextTables.{with_tables, still_sound_grant, still_sound_saved, next_tables, tables_numbered}
@@ -36,6 +36,7 @@ record AreNextSaved (s : State) (saved : List Saved) (added : Option KnownDigest
   adds : Adds added (references s) (references (with_tables s (with_saved s.tables saved)))
   unused : (e : KnownDigest) → added ≡ Some e → IsUnused s e.digest
 
+-- the state with them is well formed
 next_saved : (s : State) → IsWellFormed s → (saved : List Saved) (added : Option KnownDigest) → AreNextSaved s saved added → IsWellFormed (with_tables s (with_saved s.tables saved))
 next_saved s formed saved added next =
     let u = with_saved s.tables saved in
@@ -68,6 +69,7 @@ next_saved s formed saved added next =
       });
     })
 
+-- a new saved reference fits
 pub saved_added_fits : (s : State) → IsWellFormed s → (saved : Saved) → IsNewReference s saved → EventFits s (event.SavedAdded saved)
 saved_added_fits s formed saved new =
     let sound = sound_of s.tables formed.tables in
@@ -79,7 +81,7 @@ saved_added_fits s formed saved new =
         numbered = numbered_pushed (λ (row : Saved). row.num.0) s.tables.saved saved formed.numbered.saved new.num;
         sound = each_pushed (λ k (row : Saved). IsSoundSaved s.tables row) s.tables.saved saved sound.saved (record { knows = new.knows; reference = new.reference });
         adds = adds_pushed reference_of s.tables.saved saved;
-        unused = λ e is. (let same : reference_of saved ≡ e = cc in subst (λ (k : KnownDigest). IsUnused s k.digest) same new.unused);
+        unused = one_unused s (reference_of saved) new.unused;
       });
     }
 
@@ -87,6 +89,7 @@ saved_added_fits s formed saved new =
 dropped_sound : (t : Tables) (saved : Saved) → IsSoundSaved t saved → IsSoundSaved t (dropped saved)
 dropped_sound t saved sound = let knows = sound.knows in record { knows = record { holder = knows.holder; grant = knows.grant }; reference = sound.reference }
 
+-- a saved reference that is there may be dropped
 pub saved_dropped_fits : (s : State) → IsWellFormed s → (v : SavedId) → (saved : Saved) × IsSaved s.tables v saved → EventFits s (event.SavedDropped v)
 saved_dropped_fits s formed v there =
     let sound = sound_of s.tables formed.tables in
@@ -100,6 +103,6 @@ saved_dropped_fits s formed v there =
         numbered = numbered_touched dropped (λ (row : Saved). row.num.0) (λ x. refl) xs ys touched formed.numbered.saved;
         sound = each_touched dropped (λ k (row : Saved). IsSoundSaved s.tables row) (λ k row. dropped_sound s.tables row) xs ys touched sound.saved;
         adds = adds_none None (references s) _ (map_touched dropped reference_of (λ x. refl) xs ys touched);
-        unused = λ e never. cc never;
+        unused = none_unused s;
       });
     }

@@ -1,5 +1,5 @@
 -- A session that is opened or closed leaves a well-formed state so.
-use Rattle.std.proofs.Common.{◌≡◌, ◌∙◌, ℕ, Bool, true, false, List, [], ◌∷◌, ◌++◌, All, Option, Some, None, count_by, nat_lt, if◌then◌else◌, refl, subst}
+use Rattle.std.proofs.Common.{◌≡◌, Bool, true, false, List, [], ◌∷◌, ◌++◌, All, Option, Some, None, count_by, nat_lt, if◌then◌else◌, refl, subst}
 use Rattle.std.proofs.lemmas.List.Elements.{All-push}
 use Rattle.host_base.specs.declared.ids.SessionId.{SessionId}
 use Rattle.share_graph.specs.declared.event.Event.TheVariants as event
@@ -7,7 +7,6 @@ use Rattle.share_graph.specs.declared.fault.Kind.TheVariants as kind
 use Rattle.share_graph.specs.declared.sessions.Root.{Root}
 use Rattle.share_graph.specs.declared.sessions.Session.{Session}
 use Rattle.share_graph.specs.declared.state.State.{State}
-use Rattle.share_graph.specs.declared.state.Tables.{Tables}
 use Rattle.share_graph.specs.Changing.{change_row}
 use Rattle.share_graph.specs.EventFits.{EventFits}
 use Rattle.share_graph.specs.History.{is_open_of, close_first}
@@ -17,7 +16,7 @@ use Rattle.share_graph.specs.Setting.{closed}
 use Rattle.share_graph.specs.WellFormed.{IsRootedSession, AreNumbered, IsWellFormed}
 use Rattle.share_graph.proofs.Apart.{logins, tokens, references, keys, run_tokens}
 use Rattle.state_step.specs.NewRows.{IsNewSession}
-use Rattle.state_step.proofs.Digests.{Adds, adds_none, adds_pushed, apart_after}
+use Rattle.state_step.proofs.Digests.{Adds, adds_none, adds_pushed, apart_after, one_unused, none_unused}
 use Rattle.state_step.proofs.Each.{all_from_each, each_from_all, numbered_pushed}
 use Rattle.state_step.proofs.Touched.{AreTouched, change_row_touches, first_touches, each_touched, numbered_touched, map_touched}
 
@@ -35,6 +34,7 @@ record AreNextSessions (s : State) (sessions : List Session) (added : Option Kno
   adds : Adds added (keys s) (keys (with_sessions s sessions))
   unused : (e : KnownDigest) → added ≡ Some e → IsUnused s e.digest
 
+-- the state with them is well formed
 next_sessions : (s : State) → IsWellFormed s → (sessions : List Session) (added : Option KnownDigest) → AreNextSessions s sessions added → IsWellFormed (with_sessions s sessions)
 next_sessions s formed sessions added next = record {
   tables = formed.tables;
@@ -75,6 +75,7 @@ closed_next s sessions more added touched next = record {
   unused = next.unused;
 }
 
+-- where the first open session of a root is closed, each other stays
 close_first_touches : (root : Root) (sessions : List Session) → AreTouched closed sessions (close_first root sessions)
 close_first_touches root [] = tt
 close_first_touches root (x ∷ sessions) = first_touches closed (is_open_of root x) x sessions (close_first root sessions) (close_first_touches root sessions)
@@ -83,23 +84,27 @@ module _ (s : State) (formed : IsWellFormed s) (session : Session) (new : IsNewS
   abbrev grown : List Session
   grown = s.sessions ++ session ∷ []
 
+  -- the sessions with a new one may come next
   next_grown : AreNextSessions s grown (Some (key_of session))
   next_grown = record {
     numbered = numbered_pushed (λ (x : Session). x.num.0) s.sessions session formed.numbered.sessions new.num;
     rooted = All-push (IsRootedSession s.tables) s.sessions session formed.rooted.sessions new.rooted;
     adds = adds_pushed key_of s.sessions session;
-    unused = λ e is. (let same : key_of session ≡ e = cc in subst (λ (k : KnownDigest). IsUnused s k.digest) same new.unused);
+    unused = one_unused s (key_of session) new.unused;
   }
 
+  -- whether or not the first one is then closed
   opened_by : (test : Bool) → IsWellFormed (with_sessions s (if test then close_first session.root grown else grown))
   opened_by true =
       next_sessions s formed (close_first session.root grown) (Some (key_of session))
       (closed_next s grown (close_first session.root grown) (Some (key_of session)) (close_first_touches session.root grown) next_grown)
   opened_by false = next_sessions s formed grown (Some (key_of session)) next_grown
 
+  -- a new session fits
   pub session_opened_fits : EventFits s (event.SessionOpened session)
   session_opened_fits = record { changed = tt; formed = opened_by (nat_lt 32 (count_by (is_open_of session.root) grown)) }
 
+-- a session that is there may be closed
 pub session_closed_fits : (s : State) → IsWellFormed s → (n : SessionId) → (session : Session) × IsSession s n session → EventFits s (event.SessionClosed n)
 session_closed_fits s formed n there = record {
   changed = there;
@@ -107,6 +112,6 @@ session_closed_fits s formed n there = record {
     numbered = formed.numbered.sessions;
     rooted = formed.rooted.sessions;
     adds = adds_none None (keys s) (keys s) refl;
-    unused = λ e never. cc never;
+    unused = none_unused s;
   }));
 }

@@ -1,5 +1,5 @@
 -- Tables without a fault, told without their digests: where each digest is one row's, no row has another's.
-use Rattle.std.proofs.Common.{◌≡◌, ◌<◌, ◌+◌, ◌⊎◌, ℕ, true, List, All, Contains, Option, Some, None, slice_get, length, refl, sym, ◌∙◌, ap, subst, inl, inr, arith}
+use Rattle.std.proofs.Common.{◌≡◌, ◌<◌, ◌+◌, ◌⊎◌, ℕ, true, List, Option, Some, None, slice_get, refl, sym, inl, inr, arith}
 use Rattle.host_base.specs.declared.digest.Digest.{Digest}
 use Rattle.share_graph.specs.declared.fault.Kind.{Kind}
 use Rattle.share_graph.specs.declared.fault.Kind.TheVariants as kind
@@ -10,7 +10,7 @@ use Rattle.share_graph.specs.declared.rows.Grain.{Grain}
 use Rattle.share_graph.specs.declared.rows.Saved.{Saved}
 use Rattle.share_graph.specs.declared.state.State.{State}
 use Rattle.share_graph.specs.declared.state.Tables.{Tables}
-use Rattle.share_graph.specs.Checked.{HandleFits, AccountFault, SavedFault, GrantFault, IsChecked}
+use Rattle.share_graph.specs.Checked.{HandleFits, AccountFault, SavedFault, IsChecked}
 use Rattle.share_graph.specs.Coherent.{IsCoherentGrant}
 use Rattle.share_graph.specs.Fitting.{IsSoundManifest, IsReference}
 use Rattle.share_graph.specs.Fresh.{IsFreshLogin, IsFreshToken, IsFreshReference, IsFreshHandle, is_handle}
@@ -51,6 +51,7 @@ sound_saved t k saved (inr (knows, inl (e, never))) = absurd (cc e)
 sound_saved t k saved (inr (knows, inr (fresh, inl (e, never)))) = absurd (cc e)
 sound_saved t k saved (inr (knows, inr (fresh, inr (reference, done)))) = record { knows = knows; reference = reference }
 
+-- no two accounts have one handle
 handles_apart : (t : Tables) → IsChecked t → AreApartBy (λ (account : Account). account.handle) t.accounts
 handles_apart t checked i j x y at there same =
     let sides : (i ≡ j) ⊎ (i < j) ⊎ (j < i) = grind arith in
@@ -60,6 +61,7 @@ handles_apart t checked i j x y at there same =
       | inr (inr less) ↦ absurd (before_none (λ (other : Account). other.handle ≡ x.handle) t.accounts i (handle_fits t i x (checked.accounts i x at)).fresh j y less there (sym same))
     ]
 
+-- tables without a fault are sound
 pub sound_of : (t : Tables) → IsChecked t → IsSound t
 sound_of t checked =
     let fits = coherent t checked in
@@ -86,11 +88,13 @@ module _ (s : State) (apart : AreApart s) (numbered : IsNumbered s) where
       let second = by_place j y there in
       omega arith
 
+  -- no earlier account has an account's login
   fresh_login : (k : ℕ) (account : Account) → slice_get s.tables.accounts k ≡ Some account → IsFreshLogin s.tables k account
   fresh_login k account is = none_before (λ (other : Account). other.login ≡ account.login) s.tables.accounts k
       (λ j other less there same. earlier_row (λ (row : Account). row.num.0) s.tables.accounts numbered.accounts account.login kind.Account j k other account less there is
       (rw (← same) (login_known s other (contains_at s.tables.accounts j other there))) (login_known s account (contains_at s.tables.accounts k account is)))
 
+  -- no account and no earlier grant has a grant's token
   fresh_token : (k : ℕ) (grant : Grant) → slice_get s.tables.grants k ≡ Some grant → (digest : Option Digest) → grant.digest ≡ digest → IsFreshToken s.tables k digest
   fresh_token k grant is None has = tt
   fresh_token k grant is (Some d) has =
@@ -103,6 +107,7 @@ module _ (s : State) (apart : AreApart s) (numbered : IsNumbered s) where
             (token_known s other d (contains_at s.tables.grants j other there) same) known);
       }
 
+  -- no account, no grant and no earlier reference has a reference's token
   fresh_reference : (k : ℕ) (saved : Saved) → slice_get s.tables.saved k ≡ Some saved → IsFreshReference s.tables k saved
   fresh_reference k saved is =
       let known = reference_known s saved (contains_at s.tables.saved k saved is) in
@@ -116,10 +121,12 @@ module _ (s : State) (apart : AreApart s) (numbered : IsNumbered s) where
             (rw (← same) (reference_known s other (contains_at s.tables.saved j other there))) known);
       }
 
+  -- no earlier account has an account's handle
   fresh_handle : (sound : IsSound s.tables) (k : ℕ) (account : Account) → slice_get s.tables.accounts k ≡ Some account → IsFreshHandle s.tables k account
   fresh_handle sound k account is = none_before (λ (other : Account). other.handle ≡ account.handle) s.tables.accounts k
       (λ j other less there same. (let one = sound.handles j k other account there is same in omega arith))
 
+  -- sound tables have no fault
   pub checked_of : IsSound s.tables → IsChecked s.tables
   checked_of sound = record {
     accounts = λ k account is. inr (fresh_login k account is, inr (record { formed = sound.formed k account is; fresh = fresh_handle sound k account is }, refl));

@@ -1,5 +1,5 @@
 -- Lists of which some rows are changed: what the change keeps is kept of the list.
-use Rattle.std.proofs.Common.{◌≡◌, ◌⊎◌, ℕ, Bool, true, false, zero, suc, List, [], ◌∷◌, Contains, map, Option, Some, None, if◌then◌else◌, length, slice_get, refl, sym, ◌∙◌, ap, subst, inl, inr}
+use Rattle.std.proofs.Common.{◌≡◌, ◌⊎◌, ℕ, Bool, true, false, zero, suc, List, [], ◌∷◌, Contains, map, Option, Some, if◌then◌else◌, length, slice_get, refl, sym, ◌∙◌, ap, subst, inl, inr}
 use Rattle.std.specs.List.{AllZip, filter_map, cons_option}
 use Rattle.std.proofs.lemmas.List.Elements.{length_all_zip}
 use Rattle.share_graph.specs.Changing.{change, change_row}
@@ -52,16 +52,19 @@ module _ {X : Type 0} (f : X → X) where
   touched_to (w ∷ xs) (z ∷ ys) touched zero x is = (let same : w ≡ x = cc in (z, refl, subst (λ (v : X). IsSameOr f v z) same touched.0))
   touched_to (w ∷ xs) (z ∷ ys) touched (suc k) x is = touched_to xs ys touched.1 k x is
 
+  -- the row of a number is there again
   pub touched_row : (xs ys : List X) → AreTouched f xs ys → (n : ℕ) (x : X) → row xs n ≡ Some x → (y : X) × (row ys n ≡ Some y) × IsSameOr f x y
   touched_row xs ys touched zero x is = cc is
   touched_row xs ys touched (suc k) x is = touched_to xs ys touched k x is
 
+  -- a row that is listed is listed again
   pub touched_listed : (xs ys : List X) → AreTouched f xs ys → (x : X) → Contains xs x → (y : X) × Contains ys y × IsSameOr f x y
   touched_listed xs ys touched x listed =
       let (k, there) = place_of xs x listed in
       let (y, again, same) = touched_to xs ys touched k x there in
       (y, contains_at ys k y again, same)
 
+  -- there are as many
   pub length_touched : (xs ys : List X) → AreTouched f xs ys → length xs ≡ length ys
   length_touched xs ys touched = length_all_zip (IsSameOr f) xs ys touched
 
@@ -79,17 +82,20 @@ module _ {X : Type 0} (f : X → X) where
         | inr e ↦ subst (P k) e (keeps k x (each k x there))
       ]
 
+  -- numbers
   pub numbered_touched : (num : X → ℕ) → ((x : X) → num (f x) ≡ num x) → (xs ys : List X) → AreTouched f xs ys → AreNumbered num xs → AreNumbered num ys
   numbered_touched num keeps xs ys touched numbered k y is =
       let (x, there, same) = touched_from xs ys touched k y is in
       same_key num keeps x y same ∙ numbered k x there
 
+  -- rows that are apart by a key
   pub apart_touched : {K : Type 0} (key : X → K) → ((x : X) → key (f x) ≡ key x) → (xs ys : List X) → AreTouched f xs ys → AreApartBy key xs → AreApartBy key ys
   apart_touched key keeps xs ys touched apart i j a b at there same =
       let (x, was, from) = touched_from xs ys touched i a at in
       let (y, was', from') = touched_from xs ys touched j b there in
       apart i j x y was was' (sym (same_key key keeps x a from) ∙ same ∙ same_key key keeps y b from')
 
+  -- keys of all rows
   pub map_touched : {K : Type 0} (key : X → K) → ((x : X) → key (f x) ≡ key x) → (xs ys : List X) → AreTouched f xs ys → map key ys ≡ map key xs
   map_touched key keeps [] [] touched = refl
   map_touched key keeps [] (y ∷ ys) touched = absurd touched
@@ -97,6 +103,7 @@ module _ {X : Type 0} (f : X → X) where
   map_touched {K} key keeps (x ∷ xs) (y ∷ ys) touched =
       ap (λ (k : K). k ∷ map key ys) (same_key key keeps x y touched.0) ∙ ap (λ (ks : List K). key x ∷ ks) (map_touched key keeps xs ys touched.1)
 
+  -- keys of the rows that have one
   pub filter_map_touched : {K : Type 0} (key : X → Option K) → ((x : X) → key (f x) ≡ key x) → (xs ys : List X) → AreTouched f xs ys → filter_map key ys ≡ filter_map key xs
   filter_map_touched key keeps [] [] touched = refl
   filter_map_touched key keeps [] (y ∷ ys) touched = absurd touched

@@ -1,4 +1,4 @@
-use Rattle.std.proofs.Common.{◌≡◌, ◌∷◌, ◌++◌, [], ap, sym, subst, ◌∙◌}
+use Rattle.std.proofs.Common.{◌≡◌, ap, sym, subst, ◌∙◌}
 use Rattle.share_graph.specs.declared.state.State.{State}
 use Rattle.share_graph.specs.History as history
 use Rattle.share_graph.specs.WellFormed.{IsWellFormed}
