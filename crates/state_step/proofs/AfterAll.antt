@@ -1,10 +1,7 @@
 -- What follows from the step of an event.
-use Rattle.std.proofs.Common.{◌≡◌, ◌<◌, List, [], ◌∷◌, ◌++◌, refl, subst, sym}
-use Rattle.host_base.specs.declared.ids.GrantId.{GrantId}
+use Rattle.std.proofs.Common.{◌≡◌, List, [], ◌∷◌, ◌++◌, refl, subst, sym}
 use Rattle.share_graph.specs.declared.event.Event.{Event}
-use Rattle.share_graph.specs.declared.event.Event.TheVariants as event
 use Rattle.share_graph.specs.declared.state.State.{State}
-use Rattle.share_graph.specs.declared.state.Tables.{Tables}
 use Rattle.share_graph.specs.History as history
 use Rattle.share_graph.specs.Revoking.{TakesExactly}
 use Rattle.share_graph.proofs.RevokingLaw.{revoking_law}

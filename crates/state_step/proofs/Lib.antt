@@ -1,2 +1,17 @@
 pub mod AfterAll
 pub mod OthersStay
+pub mod Each
+pub mod Touched
+pub mod Digests
+pub mod Extending
+pub mod Sound
+pub mod NextTables
+pub mod AccountLaws
+pub mod AppLaws
+pub mod GrainLaws
+pub mod GrantLaws
+pub mod SavedLaws
+pub mod SessionLaws
+pub mod RunLaws
+pub mod HandleLaws
+pub mod DueEvents

@@ -25,7 +25,8 @@ pub push_other : {X : Type 0} (xs : List X) (y : X) (n : ℕ) → n ≢ length x
 push_other xs y zero other = refl
 push_other xs y (suc k) other = place_other xs y k (λ e. other (let next : suc k ≡ length xs + 1 = omega (arith, e) in next))
 
-last_place : {X : Type 0} (xs : List X) (y : X) → slice_get (xs ++ y ∷ []) (length xs) ≡ Some y
+-- the row that is added stands last
+pub last_place : {X : Type 0} (xs : List X) (y : X) → slice_get (xs ++ y ∷ []) (length xs) ≡ Some y
 last_place [] y = refl
 last_place (x ∷ xs) y = last_place xs y
 

@@ -1,11 +1,4 @@
 -- Which events fit a well-formed state: the laws that whoever makes events cites.
-use Rattle.host_base.specs.declared.ids.AccountId.{AccountId}
-use Rattle.std.specs.Prelude.{Bool}
-use Rattle.host_base.specs.declared.ids.GrainId.{GrainId}
-use Rattle.host_base.specs.declared.ids.GrantId.{GrantId}
-use Rattle.host_base.specs.declared.ids.RunId.{RunId}
-use Rattle.host_base.specs.declared.ids.SavedId.{SavedId}
-use Rattle.host_base.specs.declared.ids.SessionId.{SessionId}
 use Rattle.share_graph.specs.declared.event.Event.{Event}
 use Rattle.share_graph.specs.declared.event.Event.TheVariants as event
 use Rattle.share_graph.specs.declared.state.State.{State}

@@ -7,7 +7,7 @@ use Rattle.share_graph.specs.declared.facts.Fact.{Fact}
 use Rattle.share_graph.specs.declared.facts.Fact.TheVariants as fact
 use Rattle.share_graph.specs.declared.facts.Node.{Node}
 use Rattle.share_graph.specs.declared.state.Tables.{Tables}
-use Rattle.share_graph.specs.Derivation.{Holds, HoldsWithout, Derivation, Uses}
+use Rattle.share_graph.specs.Derivation.{Holds, Derivation, Uses}
 use Rattle.share_graph.specs.Revoking.{TakesExactly}
 
 -- THE LAW OF REVOKING for an event: where it revokes a grant, a fact holds afterwards exactly where it had a derivation before

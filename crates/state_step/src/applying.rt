@@ -2,6 +2,8 @@ ghost use Rattle.std.specs.Prelude.{◌≡◌, ◌∷◌, ◌++◌, [], length, 
 ghost use Rattle.share_graph.specs.declared.event.Event.{Event};
 ghost use Rattle.share_graph.specs.declared.state.State.{State};
 ghost use Rattle.share_graph.specs.History as history;
+ghost use Rattle.share_graph.specs.WellFormed.{IsWellFormed};
+ghost use Rattle.state_step.specs.Fits.{IsDue};
 ghost use Rattle.state_step.specs.Staging.{event_of, HasRoomFor};
 ghost use Rattle.state_step.specs.Losing.{RevokesExactly, ShutsOut, LeavesTheRest};
 
@@ -77,7 +79,7 @@ pub fn copy_of_event(event: &Event) -> Result<Event, Memory>
 ///
 /// A state that is the replay of a history is then that of the history with this event. Where the event revokes a grant, a fact is
 /// held afterwards exactly where it had a derivation that doesn't use the grant: whoever came in through the grant alone is shut
-/// out, and what another derivation gives is held on.
+/// out, and what another derivation gives is held on. A well-formed state stays well formed where what is owed for the event holds.
 pub fn after(state: &mut State, event: &Event) -> Result<(), Memory>
     ensures step { IfOk result (λ _. state.new ≡ history.after state.old event.now) }
     ensures same { OnErr result (state.new ≡ state.old) }
@@ -86,6 +88,7 @@ pub fn after(state: &mut State, event: &Event) -> Result<(), Memory>
     ensures revoked { IfOk result (λ _. RevokesExactly state.old.tables event.now state.new.tables) }
     ensures shut_out { IfOk result (λ _. ShutsOut state.old.tables event.now state.new.tables) }
     ensures left { IfOk result (λ _. LeavesTheRest state.old.tables event.now state.new.tables) }
+    ensures formed { IsWellFormed state.old → IsDue state.old event.now → IfOk result (λ _. IsWellFormed state.new) }
 {
     let staged = prepare(state, copy_of_event(event)?)?;
     apply(state, staged);

@@ -1,8 +1,10 @@
-use Rattle.std.proofs.Common.{◌≡◌, ◌∷◌, ◌++◌, [], ap, sym, subst, ◌∙◌}
+use Rattle.std.proofs.Common.{◌≡◌, ap, sym, subst, ◌∙◌}
 use Rattle.share_graph.specs.declared.state.State.{State}
 use Rattle.share_graph.specs.History as history
+use Rattle.share_graph.specs.WellFormed.{IsWellFormed}
 use Rattle.state_step.specs.Losing.{RevokesExactly, ShutsOut, LeavesTheRest}
 use Rattle.state_step.proofs.AfterAll.{replay_appended, revokes_exactly, shuts_out, leaves_the_rest}
+use Rattle.state_step.proofs.DueEvents.{due_fits}
 use Rattle.state_step.proofs.applying.after.Goals as goal
 use Rattle.state_step.proofs.applying.after.Goals.{After-apply}
 
@@ -27,3 +29,7 @@ returns-clause-shut_out c =
 pub returns-clause-left : goal.returns-clause-left
 returns-clause-left c =
     subst (λ (s : State). LeavesTheRest c.args.state.now.tables c.args.event.now s.tables) (sym (stepped c)) (leaves_the_rest c.args.state.now c.args.event.now)
+
+pub returns-clause-formed : goal.returns-clause-formed
+returns-clause-formed c formed due =
+    subst (λ (s : State). IsWellFormed s) (sym (stepped c)) (due_fits c.args.state.now c.args.event.now formed due).formed
