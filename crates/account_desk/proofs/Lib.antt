@@ -1,1 +1,5 @@
-
+pub mod AdminsLeft
+pub mod HandleOne
+pub mod OneRows
+pub mod FitRows
+pub mod Stopping

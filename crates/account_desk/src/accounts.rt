@@ -77,6 +77,7 @@ pub fn add_account_ready(
 }
 
 /// Adds an account, whose login has the digest; it is enabled and no admin. The reply shows its number.
+#[tactic(auto, using(crate::proofs::OneRows::add_account_one, crate::proofs::FitRows::add_account_fits))]
 pub fn add_account(
     state: &State,
     solved: &Solved,

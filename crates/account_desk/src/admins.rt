@@ -97,6 +97,7 @@ fn check_set_enabled(state: &State, caller: &Caller, num: AccountId, on: bool) -
 }
 
 /// Makes an account an admin, or none. An enabled admin is always left.
+#[tactic(auto, using(crate::proofs::OneRows::set_admin_one, crate::proofs::FitRows::set_admin_fits))]
 pub fn set_admin(
     state: &State,
     solved: &Solved,
@@ -118,6 +119,7 @@ pub fn set_admin(
 }
 
 /// Enables an account, or disables it. An enabled admin is always left.
+#[tactic(auto, using(crate::proofs::OneRows::set_enabled_one, crate::proofs::FitRows::set_enabled_fits))]
 pub fn set_enabled(
     state: &State,
     solved: &Solved,

@@ -31,6 +31,7 @@ fn copy_of_manifest(manifest: &Manifest) -> Result<Manifest, Memory>
 }
 
 /// Adds an application with a manifest, of which a copy is kept. The reply shows its number.
+#[tactic(auto, using(crate::proofs::OneRows::add_app_one, crate::proofs::FitRows::add_app_fits))]
 pub fn add_app(
     state: &State,
     solved: &Solved,

@@ -28,6 +28,7 @@ fn check_new_grain(
 }
 
 /// Makes a grain of an application, owned by the caller. The reply shows its number.
+#[tactic(auto, using(crate::proofs::OneRows::new_grain_one, crate::proofs::FitRows::new_grain_fits))]
 pub fn new_grain(
     state: &State,
     solved: &Solved,
@@ -92,6 +93,7 @@ fn set_trashed(
 }
 
 /// Puts a grain into the trash. Its run goes on.
+#[tactic(auto, using(crate::proofs::OneRows::trash_one, crate::proofs::FitRows::trash_fits))]
 pub fn trash(
     state: &State,
     solved: &Solved,
@@ -108,6 +110,7 @@ pub fn trash(
 }
 
 /// Takes a grain out of the trash.
+#[tactic(auto, using(crate::proofs::OneRows::trash_one, crate::proofs::FitRows::trash_fits))]
 pub fn untrash(
     state: &State,
     solved: &Solved,

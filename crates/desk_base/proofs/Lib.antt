@@ -1,3 +1,4 @@
 pub mod Words
 pub mod OneWord
 pub mod FitForms
+pub mod Room
