@@ -7,14 +7,19 @@ use host_base::{Answer, Fails, GrainId, RunId};
 use plain_data::List;
 use std::alloc::Global;
 
-// The calls that fail, from 1.
+// The number of a call, from 1.
+fn call(text: &str) -> Result<u64, Fault> {
+    match text.parse::<u64>() {
+        Ok(call) => Ok(call),
+        Err(_) => Err(Fault::Unreadable),
+    }
+}
+
+// The calls that fail.
 fn failing(alloc: Global, text: &str) -> Result<Fails, Fault> {
     let mut fails = Fails::empty(alloc);
     for word in text.split_whitespace() {
-        let Ok(call) = word.parse::<u64>() else {
-            return Err(Fault::Unreadable);
-        };
-        fails.push(call)?;
+        fails.push(call(word)?)?;
     }
     Ok(fails)
 }
@@ -82,26 +87,52 @@ pub fn echo_of(alloc: Global, text: &[u8]) -> Result<Vec<u8>, Fault> {
     }
 }
 
+// A link that echoes, but at those calls.
+fn echo_link(alloc: Global, fails: &str) -> Result<EchoLink, Fault> {
+    Ok(EchoLink::new(alloc, failing(alloc, fails)?))
+}
+
+// Writes what a link that echoes gives for words, and what was asked of it.
+fn put_echoes(
+    alloc: Global,
+    shown: &mut String,
+    link: &mut EchoLink,
+    words: &str,
+) -> Result<(), Fault> {
+    put_backs(alloc, shown, link, words)?;
+    put_asks(shown, link.asked(), link.faults())
+}
+
 /// Shows what a link that echoes gives and what was asked of it, and the same of a further one, as `2 | hi ho hi | hi` where the
 /// second call fails.
 pub fn echoed(alloc: Global, line: &str) -> Result<String, Fault> {
     let (fails, scripts) = line.split_once(" | ").ok_or(Fault::Unreadable)?;
     let (words, further) = scripts.split_once(" | ").ok_or(Fault::Unreadable)?;
     let mut shown = String::new(alloc);
-    let mut link = EchoLink::new(alloc, failing(alloc, fails)?);
-    put_backs(alloc, &mut shown, &mut link, words)?;
-    put_asks(&mut shown, link.asked(), link.faults())?;
-    shown.push_str(" | ")?;
+    let mut link = echo_link(alloc, fails)?;
+    put_echoes(alloc, &mut shown, &mut link, words)?;
     let mut other = link.another(alloc)?;
-    put_backs(alloc, &mut shown, &mut other, further)?;
-    put_asks(&mut shown, other.asked(), other.faults())?;
+    shown.push_str(" | ")?;
+    put_echoes(alloc, &mut shown, &mut other, further)?;
     Ok(shown)
 }
 
-// A link that gives words at calls of which some fail, as `2 | one three`.
+// Writes what a link that gives answers gives for words, and what was asked of it.
+fn put_answers(
+    alloc: Global,
+    shown: &mut String,
+    link: &mut CannedLink,
+    words: &str,
+) -> Result<(), Fault> {
+    put_backs(alloc, shown, link, words)?;
+    put_asks(shown, link.asked(), link.faults())
+}
+
+// A link that gives words, but at those calls, as `2 | one three`.
 fn canned_link(alloc: Global, line: &str) -> Result<CannedLink, Fault> {
     let (fails, words) = line.split_once(" | ").ok_or(Fault::Unreadable)?;
-    Ok(CannedLink::new(alloc, answers(alloc, words)?, failing(alloc, fails)?))
+    let (answers, fails) = (answers(alloc, words)?, failing(alloc, fails)?);
+    Ok(CannedLink::new(alloc, answers, fails))
 }
 
 /// Shows the same of a link that gives answers, as `2 | one three || a b c d | e e e`.
@@ -110,11 +141,9 @@ pub fn canned(alloc: Global, line: &str) -> Result<String, Fault> {
     let (words, further) = scripts.split_once(" | ").ok_or(Fault::Unreadable)?;
     let mut shown = String::new(alloc);
     let mut link = canned_link(alloc, made)?;
-    put_backs(alloc, &mut shown, &mut link, words)?;
-    put_asks(&mut shown, link.asked(), link.faults())?;
-    shown.push_str(" | ")?;
+    put_answers(alloc, &mut shown, &mut link, words)?;
     let mut other = link.another(alloc)?;
-    put_backs(alloc, &mut shown, &mut other, further)?;
-    put_asks(&mut shown, other.asked(), other.faults())?;
+    shown.push_str(" | ")?;
+    put_answers(alloc, &mut shown, &mut other, further)?;
     Ok(shown)
 }

@@ -14,7 +14,10 @@ use std::alloc::{AllocError, Global};
 
 // A name, where a text is one.
 fn name(alloc: Global, text: &str) -> Result<Name, Fault> {
-    Name::from_str(alloc, text)?.ok_or(Fault::Unreadable)
+    match Name::from_str(alloc, text)? {
+        Some(name) => Ok(name),
+        None => Err(Fault::Unreadable),
+    }
 }
 
 // A number, where a text is one.
