@@ -40,7 +40,9 @@ fn served(alloc: Global, text: &str) -> Result<String, Memory> {
     let ended = ended(alloc, sent)?;
     let (end, from, places) = (ended.end, ended.from, ended.places.as_slice());
     let (served, forwarded) = (ended.served, ended.forwarded);
-    Ok(format!(in alloc; "{end:?} from {from} at {places:?}, {served} served, {forwarded} forwarded")?)
+    Ok(format!(in alloc;
+        "{end:?} from {from} at {places:?}, {served} served, {forwarded} forwarded"
+    )?)
 }
 
 // The name of an account.
