@@ -1,110 +1,149 @@
 //! The links in memory.
 
-use grain_supervise::{Ask, AskFault, CannedLink, EchoLink, Link, LongAnswer, whole_answer};
+use crate::fault::Fault;
+use crate::notation::shown as shown_bytes;
+use grain_supervise::{Ask, AskFault, CannedLink, EchoLink, Link};
 use host_base::{Answer, Fails, GrainId, RunId};
 use plain_data::List;
 use std::alloc::Global;
-use std::test::Fail;
 
-/// What comes back from grain 3, or `failed`.
-fn heard<L: Link>(alloc: Global, link: &mut L, text: &str) -> Result<Vec<u8>, Fail> {
-    match link.ask(alloc, RunId(2), GrainId(3), text.as_bytes()) {
-        Ok(answer) => Ok(answer.into_vec()),
-        Err(AskFault::LinkFailed) => Ok(Vec::from_slice(alloc, b"failed")?),
-        Err(fault) => Err(fault)?,
+// The number of a call, from 1.
+fn call(text: &str) -> Result<u64, Fault> {
+    match text.parse::<u64>() {
+        Ok(call) => Ok(call),
+        Err(_) => Err(Fault::Unreadable),
     }
 }
 
-/// What was asked, each text with `:` and how many bytes came back, or `-`.
-fn told(alloc: Global, asks: &[Ask]) -> Result<String, Fail> {
-    let mut told = String::new(alloc);
-    for ask in asks {
-        told.push_str(str::from_utf8(ask.text.as_slice())?)?;
-        match &ask.back {
-            Some(answer) => {
-                let length = answer.as_slice().len();
-                told.push_str(format!(in alloc; ":{length} ")?.as_str())?;
-            }
-            None => told.push_str("- ")?,
-        }
-    }
-    Ok(told)
-}
-
-fn failing_at(alloc: Global, call: u64) -> Result<Fails, Fail> {
+// The calls that fail.
+fn failing(alloc: Global, text: &str) -> Result<Fails, Fault> {
     let mut fails = Fails::empty(alloc);
-    fails.push(call)?;
+    for word in text.split_whitespace() {
+        fails.push(call(word)?)?;
+    }
     Ok(fails)
 }
 
-fn canned(alloc: Global) -> Result<CannedLink, Fail> {
+// The answers that words are.
+fn answers(alloc: Global, text: &str) -> Result<List<Answer>, Fault> {
     let mut answers = List::empty(alloc);
-    for text in ["one", "three"] {
-        answers.push(Answer::new(Vec::from_slice(alloc, text.as_bytes())?))?;
+    for word in text.split_whitespace() {
+        let bytes = Vec::from_slice(alloc, word.as_bytes())?;
+        answers.push(Answer::new(bytes))?;
     }
-    Ok(CannedLink::new(alloc, answers, failing_at(alloc, 2)?))
+    Ok(answers)
 }
 
-#[test]
-fn a_link_echoes(rt: HostRuntime) -> Result<(), Fail> {
-    let alloc = rt.alloc();
-    let mut link = EchoLink::new(alloc, failing_at(alloc, 2)?);
-    let echo = "HTTP/1.1 200 OK\r\nContent-Type: text/plain\r\nContent-Length: 2\r\n\r\nhi";
-    for (text, wanted) in [("hi", echo), ("ho", "failed"), ("hi", echo)] {
-        let back = heard(alloc, &mut link, text)?;
-        assert_eq!(rt; back.as_slice(), wanted.as_bytes(), "{text}");
+// Writes what comes back of a text.
+fn put_back<L: Link>(
+    alloc: Global,
+    shown: &mut String,
+    link: &mut L,
+    text: &str,
+) -> Result<(), Fault> {
+    match link.ask(alloc, RunId(2), GrainId(3), text.as_bytes()) {
+        Ok(answer) => {
+            let back = shown_bytes(alloc, answer.as_slice())?;
+            write!(shown, "{back}; ")?;
+        }
+        Err(AskFault::Memory) => return Err(Fault::Memory),
+        Err(fault) => write!(shown, "{fault}; ")?,
     }
-    let asked = told(alloc, link.asked())?;
-    assert_eq!(rt; (asked.as_str(), link.faults()), ("hi:66 ho- hi:66 ", 1));
-    let other = link.another(alloc)?;
-    assert_eq!(rt; (other.asked().len(), other.faults()), (0, 0));
     Ok(())
 }
 
-#[test]
-fn a_link_gives_its_answers(rt: HostRuntime) -> Result<(), Fail> {
-    let alloc = rt.alloc();
-    let mut link = canned(alloc)?;
-    for (text, wanted) in [
-        ("a", "one"),
-        ("b", "failed"),
-        ("c", "three"),
-        ("d", "failed"),
-    ] {
-        let back = heard(alloc, &mut link, text)?;
-        assert_eq!(rt; back.as_slice(), wanted.as_bytes(), "{text}");
+// Writes what comes back of each word.
+fn put_backs<L: Link>(
+    alloc: Global,
+    shown: &mut String,
+    link: &mut L,
+    words: &str,
+) -> Result<(), Fault> {
+    for word in words.split_whitespace() {
+        put_back(alloc, shown, link, word)?;
     }
-    let asked = told(alloc, link.asked())?;
-    assert_eq!(rt; (asked.as_str(), link.faults()), ("a:3 b- c:5 d- ", 2));
+    Ok(())
+}
+
+// Writes what was asked, each text with how many bytes came back or with `-`, and how many faults there were.
+fn put_asks(shown: &mut String, asks: &[Ask], faults: u64) -> Result<(), Fault> {
+    for ask in asks {
+        let text = str::from_utf8(ask.text.as_slice()).unwrap_or("?");
+        match &ask.back {
+            Some(answer) => write!(shown, "{text}:{} ", answer.as_slice().len())?,
+            None => write!(shown, "{text}- ")?,
+        }
+    }
+    write!(shown, "faults: {faults}")?;
+    Ok(())
+}
+
+/// The answer of a grain that echoes.
+pub fn echo_of(alloc: Global, text: &[u8]) -> Result<Vec<u8>, Fault> {
+    let mut link = EchoLink::new(alloc, Fails::empty(alloc));
+    match link.ask(alloc, RunId(1), GrainId(1), text) {
+        Ok(answer) => Ok(answer.into_vec()),
+        Err(_) => Err(Fault::Memory),
+    }
+}
+
+// A link that echoes, but at those calls.
+fn echo_link(alloc: Global, fails: &str) -> Result<EchoLink, Fault> {
+    Ok(EchoLink::new(alloc, failing(alloc, fails)?))
+}
+
+// Writes what a link that echoes gives for words, and what was asked of it.
+fn put_echoes(
+    alloc: Global,
+    shown: &mut String,
+    link: &mut EchoLink,
+    words: &str,
+) -> Result<(), Fault> {
+    put_backs(alloc, shown, link, words)?;
+    put_asks(shown, link.asked(), link.faults())
+}
+
+/// Shows what a link that echoes gives and what was asked of it, and the same of a further one, as `2 | hi ho hi | hi` where the
+/// second call fails.
+pub fn echoed(alloc: Global, line: &str) -> Result<String, Fault> {
+    let (fails, scripts) = line.split_once(" | ").ok_or(Fault::Unreadable)?;
+    let (words, further) = scripts.split_once(" | ").ok_or(Fault::Unreadable)?;
+    let mut shown = String::new(alloc);
+    let mut link = echo_link(alloc, fails)?;
+    put_echoes(alloc, &mut shown, &mut link, words)?;
     let mut other = link.another(alloc)?;
-    for wanted in ["one", "three", "failed"] {
-        let back = heard(alloc, &mut other, "e")?;
-        assert_eq!(rt; back.as_slice(), wanted.as_bytes());
-    }
-    Ok(())
+    shown.push_str(" | ")?;
+    put_echoes(alloc, &mut shown, &mut other, further)?;
+    Ok(shown)
 }
 
-#[test]
-fn long_answers_are_refused(rt: HostRuntime) -> Result<(), Fail> {
-    let alloc = rt.alloc();
-    for (length, whole) in [
-        (0, Ok(())),
-        (4_194_304, Ok(())),
-        (4_194_305, Err(LongAnswer)),
-        (4_194_306, Err(LongAnswer)),
-    ] {
-        let answer = Answer::new(vec![in alloc; b'a'; length]?);
-        assert_eq!(rt; whole_answer(&answer), whole, "{length}");
-    }
-    Ok(())
+// Writes what a link that gives answers gives for words, and what was asked of it.
+fn put_answers(
+    alloc: Global,
+    shown: &mut String,
+    link: &mut CannedLink,
+    words: &str,
+) -> Result<(), Fault> {
+    put_backs(alloc, shown, link, words)?;
+    put_asks(shown, link.asked(), link.faults())
 }
 
-#[test]
-fn faults_are_shown(rt: HostRuntime) -> Result<(), Fail> {
-    let alloc = rt.alloc();
-    let failed = format!(in alloc; "{}", AskFault::LinkFailed)?;
-    assert_eq!(rt; failed.as_str(), "the link to the grain failed");
-    let long = format!(in alloc; "{LongAnswer}")?;
-    assert_eq!(rt; long.as_str(), "the answer is too long");
-    Ok(())
+// A link that gives words, but at those calls, as `2 | one three`.
+fn canned_link(alloc: Global, line: &str) -> Result<CannedLink, Fault> {
+    let (fails, words) = line.split_once(" | ").ok_or(Fault::Unreadable)?;
+    let (answers, fails) = (answers(alloc, words)?, failing(alloc, fails)?);
+    Ok(CannedLink::new(alloc, answers, fails))
+}
+
+/// Shows the same of a link that gives answers, as `2 | one three || a b c d | e e e`.
+pub fn canned(alloc: Global, line: &str) -> Result<String, Fault> {
+    let (made, scripts) = line.split_once(" || ").ok_or(Fault::Unreadable)?;
+    let (words, further) = scripts.split_once(" | ").ok_or(Fault::Unreadable)?;
+    let mut shown = String::new(alloc);
+    let mut link = canned_link(alloc, made)?;
+    put_answers(alloc, &mut shown, &mut link, words)?;
+    let mut other = link.another(alloc)?;
+    shown.push_str(" | ")?;
+    put_answers(alloc, &mut shown, &mut other, further)?;
+    Ok(shown)
 }

@@ -1,0 +1,99 @@
+//! Plays worked rows of one connection and of the small book, one a line of the input: what a connection on which a text comes hands
+//! back, and rows of the book.
+#![tactic(auto)]
+
+use cloud_serve::{ConnEnd, SoloDesk, serve_conn};
+use grain_supervise::EchoLink;
+use host_base::{AccountId, Fails, GrainId, MemSink, MemSource, Memory};
+use least_access::solve;
+use share_graph::{State, account, grain, live_run};
+use small_book::small_book;
+use std::alloc::{AllocError, Global};
+use std::io;
+
+// The bytes of a text in which `\r` and `\n` stand for the bytes that they name.
+fn bytes_of(alloc: Global, text: &str) -> Result<Vec<u8>, AllocError> {
+    let text = text.replace(alloc, "\\r", "\r")?;
+    let text = text.replace(alloc, "\\n", "\n")?;
+    Vec::from_slice(alloc, text.as_bytes())
+}
+
+// A server of the small book.
+fn desk(alloc: Global) -> Result<SoloDesk, Memory> {
+    let book = small_book(alloc)?;
+    let solved = solve(alloc, &book.tables)?;
+    Ok(SoloDesk::new(book, solved))
+}
+
+// The end of a connection on which these bytes come.
+fn ended(alloc: Global, sent: Vec<u8>) -> Result<ConnEnd, Memory> {
+    let mut desk = desk(alloc)?;
+    let mut input = MemSource::new(sent, Fails::empty(alloc));
+    let mut out = MemSink::new(alloc, Fails::empty(alloc));
+    let mut link = EchoLink::new(alloc, Fails::empty(alloc));
+    Ok(serve_conn(alloc, &mut input, &mut out, &mut desk, &mut link))
+}
+
+// Shows the end of a connection on which a text comes.
+fn served(alloc: Global, text: &str) -> Result<String, Memory> {
+    let sent = bytes_of(alloc, text)?;
+    let ended = ended(alloc, sent)?;
+    let (end, from, places) = (ended.end, ended.from, ended.places.as_slice());
+    let (served, forwarded) = (ended.served, ended.forwarded);
+    Ok(format!(in alloc;
+        "{end:?} from {from} at {places:?}, {served} served, {forwarded} forwarded"
+    )?)
+}
+
+// The name of an account.
+fn name_of(book: &State, num: u32) -> Option<&str> {
+    let row = account(&book.tables, AccountId(num))?;
+    Some(row.name.as_str())
+}
+
+// The owner of a grain.
+fn owner_of(book: &State, num: u32) -> Option<u32> {
+    let row = grain(&book.tables, GrainId(num))?;
+    Some(row.owner.0)
+}
+
+// The live run of a grain.
+fn run_of(book: &State, num: u32) -> Option<u64> {
+    let row = live_run(book, GrainId(num))?;
+    Some(row.num.0)
+}
+
+// Shows a row of the small book.
+fn found(alloc: Global, word: &str, number: &str) -> Result<String, Memory> {
+    let Ok(num) = number.parse::<u32>() else {
+        return Ok(String::from_str(alloc, "no number")?);
+    };
+    let book = small_book(alloc)?;
+    match word {
+        "account" => Ok(format!(in alloc; "{:?}", name_of(&book, num))?),
+        "owner" => Ok(format!(in alloc; "{:?}", owner_of(&book, num))?),
+        "run" => Ok(format!(in alloc; "{:?}", run_of(&book, num))?),
+        _ => Ok(String::from_str(alloc, "no such word")?),
+    }
+}
+
+// What a line of the input gives.
+fn played(alloc: Global, word: &str, rest: &str) -> Result<String, Memory> {
+    match word {
+        "serve" => served(alloc, rest),
+        _ => found(alloc, word, rest),
+    }
+}
+
+fn main(rt: HostRuntime) -> io::Result<()> {
+    let alloc = rt.alloc();
+    for line in rt.lines(alloc) {
+        let line = line?;
+        let (word, rest) = line.split_once(' ').unwrap_or((line.as_str(), ""));
+        match played(alloc, word, rest) {
+            Ok(text) => println!(rt; "{line}\n    {text}")?,
+            Err(fault) => println!(rt; "{line}\n    {fault}")?,
+        }
+    }
+    Ok(())
+}
