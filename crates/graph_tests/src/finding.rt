@@ -1,135 +1,143 @@
-//! Rows by number and by digest, and questions about them.
+//! Questions about rows, by number and by digest, and about nodes.
 
-use crate::fixtures::{ADA, BEN, digest, small_state};
-use host_base::{AccountId, AppId, GrainId, GrantId, RunId, SavedId, SessionId};
+use crate::fault::NoAnswer;
+use host_base::{AccountId, AppId, Digest, GrainId, GrantId, RunId, SavedId, SessionId};
 use share_graph::{
-    Kind, Node, Target, account, app, app_of, by_bearer_token, by_grant_token, by_login,
-    by_run_token, by_saved_token, by_session_key, clash, grain, grant, handle, has_account,
-    has_grain, has_grant, is_admin, is_bearer, is_enabled, is_kept, is_node, is_own_node, live_run,
-    may_receive, node_of, run, saved, session, source_of,
+    Kind, Node, State, Tables, Target, account, app, app_of, by_bearer_token, by_grant_token,
+    by_login, by_run_token, by_saved_token, by_session_key, clash, grain, grant, handle,
+    has_account, has_grain, has_grant, is_admin, is_bearer, is_enabled, is_kept, is_node,
+    is_own_node, live_run, may_receive, node_of, run, saved, session, source_of,
 };
-use std::test::Fail;
+use state_text::{AsNode, Words};
+use std::alloc::Global;
 
-#[test]
-fn rows_are_found_by_their_numbers(rt: HostRuntime) -> Result<(), Fail> {
-    let state = small_state(rt.alloc())?;
+/// The numbers of the rows that are found by a number.
+pub(crate) fn by_number(alloc: Global, state: &State, num: u32) -> Result<String, NoAnswer> {
     let tables = &state.tables;
-    for (num, found) in [
-        (0, [None; 7]),
-        (1, [Some(1); 7]),
-        (2, [Some(2), None, Some(2), Some(2), None, Some(2), Some(2)]),
-        (5, [None; 7]),
-    ] {
-        let rows = [
-            account(tables, AccountId(num)).map(|row| u64::from(row.num.0)),
-            app(tables, AppId(num)).map(|row| u64::from(row.num.0)),
-            grain(tables, GrainId(num)).map(|row| u64::from(row.num.0)),
-            grant(tables, GrantId(num)).map(|row| u64::from(row.num.0)),
-            saved(tables, SavedId(num)).map(|row| u64::from(row.num.0)),
-            session(&state, SessionId(num)).map(|row| u64::from(row.num.0)),
-            run(&state, RunId(u64::from(num))).map(|row| row.num.0),
-        ];
-        assert_eq!(rt; rows, found);
-    }
-    for (run, num, found) in [(2, 1, true), (1, 1, false), (2, 2, false)] {
-        assert_eq!(rt; handle(&state, RunId(run), num).is_some(), found);
-    }
-    for (num, found) in [(1, None), (2, Some(RunId(2)))] {
-        assert_eq!(rt; live_run(&state, GrainId(num)).map(|row| row.num), found);
-    }
-    Ok(())
+    let account = account(tables, AccountId(num)).map(|row| row.num.0);
+    let app = app(tables, AppId(num)).map(|row| row.num.0);
+    let grain = grain(tables, GrainId(num)).map(|row| row.num.0);
+    let grant = grant(tables, GrantId(num)).map(|row| row.num.0);
+    let saved = saved(tables, SavedId(num)).map(|row| row.num.0);
+    let session = session(state, SessionId(num)).map(|row| row.num.0);
+    let run = run(state, RunId(u64::from(num))).map(|row| row.num.0);
+    Ok(format!(in alloc;
+        "account {account:?}, app {app:?}, grain {grain:?}, grant {grant:?}, saved {saved:?}, session {session:?}, run {run:?}"
+    )?)
 }
 
-#[test]
-fn rows_are_found_by_their_digests(rt: HostRuntime) -> Result<(), Fail> {
-    let state = small_state(rt.alloc())?;
+/// The row that has a digest, and the numbers of those that are found by it.
+pub(crate) fn by_digest(alloc: Global, state: &State, digest: &Digest) -> Result<String, NoAnswer> {
     let tables = &state.tables;
-    for (byte, found) in [
-        (2, Some((Kind::Account, 2))),
-        (8, Some((Kind::Grant, 1))),
-        (11, Some((Kind::Grant, 3))),
-        (30, Some((Kind::Saved, 1))),
-        (41, Some((Kind::Session, 2))),
-        (20, Some((Kind::Run, 1))),
-        (99, None),
-    ] {
-        let digest = digest(byte);
-        let of = |kind: Kind| found.filter(|row| row.0 == kind).map(|row| row.1);
-        assert_eq!(rt; clash(&state, &digest), found);
-        assert_eq!(rt;
-            by_login(tables, &digest).map(|row| u64::from(row.num.0)),
-            of(Kind::Account)
-        );
-        assert_eq!(rt;
-            by_grant_token(tables, &digest).map(|row| u64::from(row.num.0)),
-            of(Kind::Grant)
-        );
-        assert_eq!(rt;
-            by_saved_token(tables, &digest).map(|row| u64::from(row.num.0)),
-            of(Kind::Saved)
-        );
-        assert_eq!(rt;
-            by_session_key(&state, &digest).map(|row| u64::from(row.num.0)),
-            of(Kind::Session)
-        );
-        assert_eq!(rt;
-            by_run_token(&state, &digest).map(|row| row.num.0),
-            of(Kind::Run)
-        );
-        assert_eq!(rt; by_bearer_token(tables, &digest).is_some(), byte == 8);
-    }
-    Ok(())
+    let clash = clash(state, digest);
+    let account = by_login(tables, digest).map(|row| row.num.0);
+    let grant = by_grant_token(tables, digest).map(|row| row.num.0);
+    let bearer = by_bearer_token(tables, digest).map(|row| row.num.0);
+    let saved = by_saved_token(tables, digest).map(|row| row.num.0);
+    let session = by_session_key(state, digest).map(|row| row.num.0);
+    let run = by_run_token(state, digest).map(|row| row.num.0);
+    Ok(format!(in alloc;
+        "{clash:?}: account {account:?}, grant {grant:?}, bearer {bearer:?}, saved {saved:?}, session {session:?}, run {run:?}"
+    )?)
 }
 
-#[test]
-fn rows_are_there(rt: HostRuntime) -> Result<(), Fail> {
-    let state = small_state(rt.alloc())?;
-    let tables = &state.tables;
-    for (num, account, grain, own, kept) in [
-        (1, true, true, true, true),
-        (2, true, true, false, false),
-        (3, false, false, true, false),
-        (4, false, false, true, false),
-    ] {
-        assert_eq!(rt; has_account(tables, AccountId(num)), account);
-        assert_eq!(rt; is_enabled(tables, AccountId(num)), account);
-        assert_eq!(rt; is_admin(tables, AccountId(num)), num == 1);
-        assert_eq!(rt; has_grain(tables, GrainId(num)), grain);
-        assert_eq!(rt; app_of(tables, GrainId(num)).is_some(), grain);
-        assert_eq!(rt; is_kept(tables, GrainId(num)), kept);
-        assert_eq!(rt; is_own_node(tables, GrantId(num)), own);
-    }
-    assert!(rt; has_grant(tables, GrantId(4)) && !has_grant(tables, GrantId(5)));
-    Ok(())
+/// The live run of a grain.
+pub(crate) fn run_of(
+    alloc: Global,
+    state: &State,
+    words: &mut Words<'_>,
+) -> Result<String, NoAnswer> {
+    let num = GrainId(words.number_after("grain")?);
+    let run = live_run(state, num).map(|row| row.num);
+    Ok(format!(in alloc; "{run:?}")?)
 }
 
-#[test]
-fn nodes_hold_and_give(rt: HostRuntime) -> Result<(), Fail> {
-    let state = small_state(rt.alloc())?;
-    let tables = &state.tables;
-    let on_first = |num| Node::User(GrainId(1), num);
-    for (num, node, source) in [
-        (1, Node::Grant(GrantId(1)), on_first(ADA)),
-        (2, on_first(BEN), on_first(ADA)),
-        (3, Node::Grant(GrantId(3)), Node::Grant(GrantId(1))),
+/// The handle of a run.
+pub(crate) fn handle_of(
+    alloc: Global,
+    state: &State,
+    words: &mut Words<'_>,
+) -> Result<String, NoAnswer> {
+    let num = words.number()?;
+    words.expect_word("run")?;
+    let run = RunId(words.long_number()?);
+    let found = handle(state, run, num);
+    Ok(format!(in alloc; "{found:?}")?)
+}
+
+/// What is said of an account.
+pub(crate) fn account_facts(alloc: Global, tables: &Tables, num: u32) -> Result<String, NoAnswer> {
+    let num = AccountId(num);
+    let there = has_account(tables, num);
+    let enabled = is_enabled(tables, num);
+    let admin = is_admin(tables, num);
+    Ok(format!(in alloc; "there {there}, enabled {enabled}, admin {admin}")?)
+}
+
+/// What is said of a grain.
+pub(crate) fn grain_facts(alloc: Global, tables: &Tables, num: u32) -> Result<String, NoAnswer> {
+    let num = GrainId(num);
+    let there = has_grain(tables, num);
+    let kept = is_kept(tables, num);
+    let app = app_of(tables, num).map(|row| row.num);
+    Ok(format!(in alloc; "there {there}, kept {kept}, of {app:?}")?)
+}
+
+// What was a grant given from, in a few words.
+fn source(alloc: Global, from: Option<Node>) -> Result<String, NoAnswer> {
+    match from {
+        Some(node) => Ok(format!(in alloc; "{}", AsNode(node))?),
+        None => Ok(String::from_str(alloc, "the site")?),
+    }
+}
+
+/// What is said of a grant.
+pub(crate) fn grant_facts(alloc: Global, tables: &Tables, num: u32) -> Result<String, NoAnswer> {
+    let num = GrantId(num);
+    let there = has_grant(tables, num);
+    let own = is_own_node(tables, num);
+    let Some(row) = grant(tables, num) else {
+        return Ok(format!(in alloc; "there {there}, own node {own}")?);
+    };
+    let node = AsNode(node_of(num, row));
+    let source = source(alloc, source_of(row))?;
+    Ok(format!(in alloc; "there {there}, own node {own}, at {node}, from {source}")?)
+}
+
+/// Whether a node can hold facts.
+pub(crate) fn node_facts(alloc: Global, tables: &Tables, node: Node) -> Result<String, NoAnswer> {
+    Ok(format!(in alloc; "there {}", is_node(tables, node))?)
+}
+
+/// What is said of a target.
+pub(crate) fn target_facts(
+    alloc: Global,
+    tables: &Tables,
+    target: Target,
+) -> Result<String, NoAnswer> {
+    let bearer = is_bearer(target);
+    let receives = may_receive(tables, target);
+    Ok(format!(in alloc; "bearer {bearer}, receives {receives}")?)
+}
+
+/// The numbers of the kinds.
+pub(crate) fn kinds(alloc: Global) -> Result<String, NoAnswer> {
+    let mut text = String::new(alloc);
+    let mut between = "";
+    for kind in [
+        Kind::Account,
+        Kind::App,
+        Kind::Grain,
+        Kind::Grant,
+        Kind::Saved,
+        Kind::Session,
+        Kind::Handle,
+        Kind::Run,
+        Kind::Entry,
     ] {
-        let row = grant(tables, GrantId(num)).ok_or("no grant")?;
-        assert_eq!(rt; node_of(GrantId(num), row), node);
-        assert_eq!(rt; source_of(row), Some(source));
-        assert!(rt; is_node(tables, node));
+        let part = format!(in alloc; "{between}{kind:?} {}", kind.number())?;
+        text.push_str(part.as_str())?;
+        between = ", ";
     }
-    assert!(rt; !is_node(tables, Node::Grant(GrantId(2))));
-    let link = Target::Bearer { for_sharing: false };
-    for (target, bearer, receives) in [
-        (link, true, true),
-        (Target::User(BEN), false, true),
-        (Target::User(AccountId(3)), false, false),
-    ] {
-        assert_eq!(rt; is_bearer(target), bearer);
-        assert_eq!(rt; may_receive(tables, target), receives);
-    }
-    for (kind, num) in [(Kind::Account, 1), (Kind::Grant, 4), (Kind::Entry, 9)] {
-        assert_eq!(rt; kind.number(), num);
-    }
-    Ok(())
+    Ok(text)
 }
