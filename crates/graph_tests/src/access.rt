@@ -51,13 +51,12 @@ pub(crate) fn is_met(alloc: Global, tables: &Tables, need: &Need) -> Result<Stri
 
 // The key that words state.
 fn key(words: &mut Words<'_>) -> Result<Key, NoAnswer> {
-    match words.word()? {
-        "session" => Ok(Key::Session(words.digest()?)),
-        "bearer" => Ok(Key::Bearer(words.digest()?)),
+    match words.word() {
+        "session" => Ok(Key::Session(words.digest())),
+        "bearer" => Ok(Key::Bearer(words.digest())),
         "handle" => {
-            let num = words.number()?;
-            words.expect_word("run")?;
-            Ok(Key::Handle(words.digest()?, num))
+            let num = words.number();
+            Ok(Key::Handle(words.digest_after("run"), num))
         }
         _ => Err(NoAnswer::Unread),
     }

@@ -27,7 +27,7 @@ fn about_forms(
         "within" => within_limits(alloc, state),
         "text" => text(alloc, state),
         "again" => again(alloc, state),
-        "same" => same(alloc, state, shelf.state_of(words.word()?)?),
+        "same" => same(alloc, state, shelf.state_of(words.word())?),
         "kinds" => kinds(alloc),
         _ => Err(NoAnswer::Unread),
     }
@@ -41,15 +41,15 @@ fn about_rows(
     words: &mut Words<'_>,
 ) -> Result<String, NoAnswer> {
     match asked {
-        "number" => by_number(alloc, state, words.number()?),
-        "digest" => by_digest(alloc, state, &words.digest()?),
-        "account" => account_facts(alloc, &state.tables, words.number()?),
-        "grain" => grain_facts(alloc, &state.tables, words.number()?),
-        "grant" => grant_facts(alloc, &state.tables, words.number()?),
+        "number" => by_number(alloc, state, words.number()),
+        "digest" => by_digest(alloc, state, &words.digest()),
+        "account" => account_facts(alloc, &state.tables, words.number()),
+        "grain" => grain_facts(alloc, &state.tables, words.number()),
+        "grant" => grant_facts(alloc, &state.tables, words.number()),
         "run" => run_of(alloc, state, words),
         "handle" => handle_of(alloc, state, words),
-        "node" => node_facts(alloc, &state.tables, words.node()?),
-        "target" => target_facts(alloc, &state.tables, words.target()?),
+        "node" => node_facts(alloc, &state.tables, words.node()),
+        "target" => target_facts(alloc, &state.tables, words.target()),
         _ => Err(NoAnswer::Unread),
     }
 }
@@ -62,10 +62,10 @@ fn about_access(
     words: &mut Words<'_>,
 ) -> Result<String, NoAnswer> {
     match asked {
-        "way" => way(alloc, &state.tables, words.number()?),
-        "access" => access_at(alloc, &state.tables, words.node()?),
-        "missing" => missing_at(alloc, &state.tables, words.node()?),
-        "met" => is_met(alloc, &state.tables, &words.need()?),
+        "way" => way(alloc, &state.tables, words.number()),
+        "access" => access_at(alloc, &state.tables, words.node()),
+        "missing" => missing_at(alloc, &state.tables, words.node()),
+        "met" => is_met(alloc, &state.tables, &words.need()),
         "verdict" => verdict_on(alloc, state, words),
         _ => Err(NoAnswer::Unread),
     }
@@ -95,7 +95,7 @@ pub(crate) fn answer(
     shelf: &Shelf,
     words: &mut Words<'_>,
 ) -> Result<String, NoAnswer> {
-    let asked = words.word()?;
+    let asked = words.word();
     let text = answer_to(alloc, shelf, asked, words)?;
     words.end()?;
     Ok(text)

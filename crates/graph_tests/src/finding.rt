@@ -47,7 +47,7 @@ pub(crate) fn run_of(
     state: &State,
     words: &mut Words<'_>,
 ) -> Result<String, NoAnswer> {
-    let num = GrainId(words.number_after("grain")?);
+    let num = GrainId(words.number_after("grain"));
     let run = live_run(state, num).map(|row| row.num);
     Ok(format!(in alloc; "{run:?}")?)
 }
@@ -58,9 +58,8 @@ pub(crate) fn handle_of(
     state: &State,
     words: &mut Words<'_>,
 ) -> Result<String, NoAnswer> {
-    let num = words.number()?;
-    words.expect_word("run")?;
-    let run = RunId(words.long_number()?);
+    let num = words.number();
+    let run = RunId(words.long_number_after("run"));
     let found = handle(state, run, num);
     Ok(format!(in alloc; "{found:?}")?)
 }

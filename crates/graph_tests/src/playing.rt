@@ -20,9 +20,9 @@ pub(crate) enum Played {
 
 // Begins a state with no rows, or like one of another name.
 fn begin(alloc: Global, shelf: &mut Shelf, words: &mut Words<'_>) -> Result<(), Unread> {
-    let name = words.word()?;
+    let name = words.word();
     let state = if words.skip("like") {
-        copy_of(shelf.state_of(words.word()?)?)?
+        copy_of(shelf.state_of(words.word())?)?
     } else {
         empty_state(alloc)
     };
@@ -49,7 +49,7 @@ pub(crate) fn play(alloc: Global, shelf: &mut Shelf, line: &str) -> Result<Playe
         return Ok(Played::Begun);
     }
     if words.skip("in") {
-        shelf.open(words.word()?)?;
+        shelf.open(words.word())?;
         words.end()?;
         return Ok(Played::Begun);
     }

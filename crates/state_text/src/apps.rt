@@ -1,40 +1,31 @@
-//! Rows of applications.
+//! Rows of applications. Whether words state one is told by their `end`.
 
-use crate::fault::Unread;
 use crate::offers::offers;
-use crate::words::{Words, name_of};
+use crate::words::Words;
 use app_manifest::{Manifest, PermissionDef, Permissions, Roles};
 use host_base::AppId;
-use perm_roles::{PermSet, Role};
+use perm_roles::Role;
 use plain_data::List;
 use share_graph::App;
-use std::alloc::Global;
+use std::alloc::{AllocError, Global};
 
-// The text after a word, or another where the word isn't next.
-fn text_after<'a>(words: &mut Words<'a>, word: &str, other: &'a str) -> Result<&'a str, Unread> {
-    if words.skip(word) {
-        words.text()
-    } else {
-        Ok(other)
-    }
-}
-
-fn permission(alloc: Global, words: &mut Words<'_>) -> Result<PermissionDef, Unread> {
-    let name = words.text()?;
-    let title = text_after(words, "titled", name)?;
-    let description = text_after(words, "described", "")?;
-    let obsolete = words.skip("obsolete");
+fn permission(alloc: Global, words: &mut Words<'_>) -> Result<PermissionDef, AllocError> {
+    let name = words.text();
+    let title = words.text_or("titled", name);
+    let description = words.text_or("described", "");
+    let name = words.name_of(alloc, name)?;
+    let title = words.name_of(alloc, title)?;
     Ok(PermissionDef {
-        name: name_of(alloc, name)?,
-        title: name_of(alloc, title)?,
-        description: name_of(alloc, description)?,
-        obsolete,
+        name,
+        title,
+        description: words.name_of(alloc, description)?,
+        obsolete: words.skip("obsolete"),
     })
 }
 
-fn permissions(alloc: Global, words: &mut Words<'_>) -> Result<Permissions, Unread> {
+fn permissions(alloc: Global, words: &mut Words<'_>) -> Result<Permissions, AllocError> {
     let mut list = List::empty(alloc);
-    for _ in 0..words.bound() {
+    for _ in 0..words.rest().len() {
         if !words.skip("permission") {
             break;
         }
@@ -43,28 +34,23 @@ fn permissions(alloc: Global, words: &mut Words<'_>) -> Result<Permissions, Unre
     Ok(list)
 }
 
-fn role(alloc: Global, words: &mut Words<'_>) -> Result<Role, Unread> {
-    let title = words.text()?;
-    let perms = if words.skip("has") {
-        words.set()?
-    } else {
-        PermSet::empty()
-    };
-    let verb = text_after(words, "verb", "")?;
-    let default = words.skip("default");
-    let obsolete = words.skip("obsolete");
+fn role(alloc: Global, words: &mut Words<'_>) -> Result<Role, AllocError> {
+    let title = words.text();
+    let perms = words.set_or_none("has");
+    let verb = words.text_or("verb", "");
+    let title = words.name_of(alloc, title)?;
     Ok(Role {
-        title: name_of(alloc, title)?,
-        verb: name_of(alloc, verb)?,
+        title,
+        verb: words.name_of(alloc, verb)?,
         perms,
-        default,
-        obsolete,
+        default: words.skip("default"),
+        obsolete: words.skip("obsolete"),
     })
 }
 
-fn roles(alloc: Global, words: &mut Words<'_>) -> Result<Roles, Unread> {
+fn roles(alloc: Global, words: &mut Words<'_>) -> Result<Roles, AllocError> {
     let mut list = List::empty(alloc);
-    for _ in 0..words.bound() {
+    for _ in 0..words.rest().len() {
         if !words.skip("role") {
             break;
         }
@@ -73,24 +59,25 @@ fn roles(alloc: Global, words: &mut Words<'_>) -> Result<Roles, Unread> {
     Ok(list)
 }
 
-/// The application that words state, at a place from 1.
-pub(crate) fn app(alloc: Global, words: &mut Words<'_>, place: u32) -> Result<App, Unread> {
-    let title = words.text()?;
-    let version = if words.skip("version") {
-        words.number()?
-    } else {
-        1
-    };
-    let title = name_of(alloc, title)?;
+// The manifest that words state, without what the application offers.
+fn manifest(alloc: Global, words: &mut Words<'_>) -> Result<Manifest, AllocError> {
+    let title = words.text();
+    let title = words.name_of(alloc, title)?;
+    let version = words.number_or("version", 1);
     let permissions = permissions(alloc, words)?;
-    let roles = roles(alloc, words)?;
-    let num = AppId(words.number_as(place)?);
-    let manifest = Manifest {
+    Ok(Manifest {
         title,
         version,
         permissions,
-        roles,
-        match_requests: offers(alloc, words)?,
-    };
+        roles: roles(alloc, words)?,
+        match_requests: List::empty(alloc),
+    })
+}
+
+/// The application that words state, at a place from 1.
+pub(crate) fn app(alloc: Global, words: &mut Words<'_>, place: u32) -> Result<App, AllocError> {
+    let mut manifest = manifest(alloc, words)?;
+    let num = AppId(words.number_or("as", place));
+    manifest.match_requests = offers(alloc, words)?;
     Ok(App { num, manifest })
 }

@@ -1,133 +1,126 @@
-//! Rows of grants.
+//! Rows of grants. Whether words state one is told by their `end`.
 
-use crate::fault::Unread;
 use crate::words::Words;
 use host_base::{AccountId, Digest, GrainId, GrantId};
-use perm_roles::{Assignment, Base, PermSet};
+use perm_roles::{Assignment, Base};
 use plain_data::List;
 use share_graph::{Giver, Grant, Need, Needs, Target};
-use std::alloc::Global;
+use std::alloc::{AllocError, Global};
 
 impl<'a> Words<'a> {
     /// What a grant is given from.
-    pub fn giver(&mut self) -> Result<Giver, Unread> {
-        match self.word()? {
-            "account" => Ok(Giver::Account(AccountId(self.number()?))),
-            "grant" => Ok(Giver::Grant(GrantId(self.number()?))),
-            "site" => {
-                let by = AccountId(self.number_after("by")?);
-                self.expect_word("tag")?;
-                let tag = self.long_number()?;
-                let item = self.number_after("item")?;
-                Ok(Giver::Site { by, tag, item })
-            }
-            _ => Err(Unread::Form),
+    pub fn giver(&mut self) -> Giver {
+        match self.word() {
+            "account" => Giver::Account(AccountId(self.number())),
+            "grant" => Giver::Grant(GrantId(self.number())),
+            "site" => Giver::Site {
+                by: AccountId(self.number_after("by")),
+                tag: self.long_number_after("tag"),
+                item: self.number_after("item"),
+            },
+            _ => self.fails_as(Giver::Grant(GrantId(0))),
         }
     }
 
     /// Whom a grant goes to.
-    pub fn target(&mut self) -> Result<Target, Unread> {
-        match self.word()? {
-            "bearer" => {
-                let for_sharing = self.skip("sharing");
-                Ok(Target::Bearer { for_sharing })
-            }
-            "account" => Ok(Target::User(AccountId(self.number()?))),
-            "claim" => Ok(Target::Claim(GrainId(self.number()?))),
-            "grain" => Ok(Target::Grain(GrainId(self.number()?))),
-            _ => Err(Unread::Form),
+    pub fn target(&mut self) -> Target {
+        match self.word() {
+            "bearer" => Target::Bearer {
+                for_sharing: self.skip("sharing"),
+            },
+            "account" => Target::User(AccountId(self.number())),
+            "claim" => Target::Claim(GrainId(self.number())),
+            "grain" => Target::Grain(GrainId(self.number())),
+            _ => self.fails_as(Target::Grain(GrainId(0))),
         }
     }
 
     /// A need of a grant.
-    pub fn need(&mut self) -> Result<Need, Unread> {
+    pub fn need(&mut self) -> Need {
         if self.skip("valid") {
-            return Ok(Need::TokenValid(GrantId(self.number()?)));
+            return Need::TokenValid(GrantId(self.number()));
         }
         if self.skip("admin") {
-            return Ok(Need::UserIsAdmin(AccountId(self.number()?)));
+            return Need::UserIsAdmin(AccountId(self.number()));
         }
-        let holder = self.node()?;
-        self.expect_word("with")?;
-        let set = self.set()?;
-        Ok(Need::PermissionsHeld { holder, set })
-    }
-
-    fn base(&mut self) -> Result<Base, Unread> {
-        match self.word()? {
-            "all" => Ok(Base::AllAccess),
-            "default" => Ok(Base::NoRole),
-            "role" => {
-                let number = self.number()?;
-                let number = u16::try_from(number).or(Err(Unread::Form))?;
-                Ok(Base::Role(number))
-            }
-            _ => Err(Unread::Form),
+        let holder = self.node();
+        self.expect_word("with");
+        Need::PermissionsHeld {
+            holder,
+            set: self.set(),
         }
     }
 
-    // The set after a word, or an empty one where the word isn't next.
-    fn set_after(&mut self, word: &str) -> Result<PermSet, Unread> {
-        if self.skip(word) {
-            self.set()
+    // The place of a role.
+    fn role(&mut self) -> Base {
+        match u16::try_from(self.number()) {
+            Ok(number) => Base::Role(number),
+            Err(_) => self.fails_as(Base::NoRole),
+        }
+    }
+
+    fn base(&mut self) -> Base {
+        match self.word() {
+            "all" => Base::AllAccess,
+            "default" => Base::NoRole,
+            "role" => self.role(),
+            _ => self.fails_as(Base::NoRole),
+        }
+    }
+
+    fn base_or_all(&mut self) -> Base {
+        if self.skip("gives") {
+            self.base()
         } else {
-            Ok(PermSet::empty())
+            Base::AllAccess
         }
     }
 
     /// What a grant gives.
-    pub fn assignment(&mut self) -> Result<Assignment, Unread> {
-        let base = if self.skip("gives") {
-            self.base()?
-        } else {
-            Base::AllAccess
-        };
-        let add = self.set_after("add")?;
-        let remove = self.set_after("remove")?;
-        Ok(Assignment { base, add, remove })
+    pub fn assignment(&mut self) -> Assignment {
+        Assignment {
+            base: self.base_or_all(),
+            add: self.set_or_none("add"),
+            remove: self.set_or_none("remove"),
+        }
     }
 }
 
-fn needs(alloc: Global, words: &mut Words<'_>) -> Result<Needs, Unread> {
+fn needs(alloc: Global, words: &mut Words<'_>) -> Result<Needs, AllocError> {
     let mut list = List::empty(alloc);
-    for _ in 0..words.bound() {
+    for _ in 0..words.rest().len() {
         if !words.skip("needs") {
             break;
         }
-        list.push(words.need()?)?;
+        list.push(words.need())?;
     }
     Ok(list)
 }
 
-fn token(words: &mut Words<'_>) -> Result<Option<Digest>, Unread> {
+fn token(words: &mut Words<'_>) -> Option<Digest> {
     if words.skip("digest") {
-        Ok(Some(words.digest()?))
+        Some(words.digest())
     } else {
-        Ok(None)
+        None
     }
 }
 
 /// The grant that words state, at a place from 1.
-pub(crate) fn grant(alloc: Global, words: &mut Words<'_>, place: u32) -> Result<Grant, Unread> {
-    let grain = GrainId(words.number_after("on")?);
-    words.expect_word("from")?;
-    let giver = words.giver()?;
-    words.expect_word("to")?;
-    let target = words.target()?;
-    let assignment = words.assignment()?;
-    let needs = needs(alloc, words)?;
-    let digest = token(words)?;
-    let revoked = words.skip("revoked");
-    let num = GrantId(words.number_as(place)?);
-    words.end()?;
+pub(crate) fn grant(alloc: Global, words: &mut Words<'_>, place: u32) -> Result<Grant, AllocError> {
+    let grain = GrainId(words.number_after("on"));
+    words.expect_word("from");
+    let giver = words.giver();
+    words.expect_word("to");
+    let target = words.target();
+    let assignment = words.assignment();
     Ok(Grant {
-        num,
         grain,
         giver,
         target,
         assignment,
-        needs,
-        digest,
-        revoked,
+        needs: needs(alloc, words)?,
+        digest: token(words),
+        revoked: words.skip("revoked"),
+        num: GrantId(words.number_or("as", place)),
     })
 }

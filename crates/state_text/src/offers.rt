@@ -1,27 +1,30 @@
 //! What applications offer in the powerbox, in JSON.
 
-use crate::fault::Unread;
 use crate::words::Words;
 use app_manifest::Descriptors;
 use plain_data::{List, Name};
 use powerbox_match::{Descriptor, Quality, ShapeFault, Tag, TagValue, query_from};
 use serde_json::Value;
-use std::alloc::Global;
+use std::alloc::{AllocError, Global};
 use std::fmt::{self, Formatter, Write};
 
-/// The descriptors that words state, after which none is left.
-pub(crate) fn offers(alloc: Global, words: &mut Words<'_>) -> Result<Descriptors, Unread> {
+/// The descriptors that the last words state.
+pub(crate) fn offers(alloc: Global, words: &mut Words<'_>) -> Result<Descriptors, AllocError> {
     if !words.skip("offers") {
-        words.end()?;
         return Ok(List::empty(alloc));
     }
-    let Ok(value) = Value::from_str(alloc, words.rest()) else {
-        return Err(Unread::Form);
-    };
-    match query_from(alloc, &value) {
-        Ok(query) => Ok(query),
-        Err(ShapeFault::Memory) => Err(Unread::Memory),
-        Err(_) => Err(Unread::Form),
+    match offers_of(alloc, words.take_rest()) {
+        Ok(descriptors) => Ok(descriptors),
+        Err(ShapeFault::Memory) => Err(AllocError),
+        Err(_) => Ok(words.fails_as(List::empty(alloc))),
+    }
+}
+
+// The descriptors that a JSON text states.
+fn offers_of(alloc: Global, text: &str) -> Result<Descriptors, ShapeFault> {
+    match Value::from_str(alloc, text) {
+        Ok(value) => query_from(alloc, &value),
+        Err(_) => Err(ShapeFault::BadShape(0)),
     }
 }
 
@@ -47,37 +50,43 @@ fn put_value<W: Write>(f: &mut Formatter<W>, value: &TagValue) -> fmt::Result {
     }
 }
 
+// Writes what stands before an item of a list at a place.
+fn put_comma<W: Write>(f: &mut Formatter<W>, place: usize) -> fmt::Result {
+    if place == 0 {
+        Ok(())
+    } else {
+        f.write_char(',')
+    }
+}
+
 #[cycle(putting)]
 fn put_fields<W: Write>(f: &mut Formatter<W>, fields: &Vec<(Name, TagValue)>) -> fmt::Result {
-    let mut between = "{";
-    for field in fields {
-        f.write_str(between)?;
+    f.write_char('{')?;
+    for (place, field) in fields.iter().enumerate() {
+        put_comma(f, place)?;
         put_text(f, field.0.as_str())?;
         f.write_char(':')?;
         put_value(f, &field.1)?;
-        between = ",";
     }
-    f.write_str(if fields.is_empty() { "{}" } else { "}" })
+    f.write_char('}')
 }
 
 #[cycle(putting)]
 fn put_items<W: Write>(f: &mut Formatter<W>, items: &Vec<TagValue>) -> fmt::Result {
-    let mut between = "[";
-    for item in items {
-        f.write_str(between)?;
+    f.write_char('[')?;
+    for (place, item) in items.iter().enumerate() {
+        put_comma(f, place)?;
         put_value(f, item)?;
-        between = ",";
     }
-    f.write_str(if items.is_empty() { "[]" } else { "]" })
+    f.write_char(']')
 }
 
 fn put_tags<W: Write>(f: &mut Formatter<W>, tags: &[Tag]) -> fmt::Result {
-    let mut between = "";
-    for tag in tags {
-        write!(f, "{between}{{\"id\":{},\"value\":", tag.id())?;
+    for (place, tag) in tags.iter().enumerate() {
+        put_comma(f, place)?;
+        write!(f, "{{\"id\":{},\"value\":", tag.id())?;
         put_value(f, tag.value())?;
         f.write_char('}')?;
-        between = ",";
     }
     Ok(())
 }
@@ -98,11 +107,13 @@ fn put_descriptor<W: Write>(f: &mut Formatter<W>, descriptor: &Descriptor) -> fm
 
 /// Writes what an application offers, after its row, where it offers something.
 pub(crate) fn put_offers<W: Write>(f: &mut Formatter<W>, offers: &[Descriptor]) -> fmt::Result {
-    let mut between = " offers [";
-    for descriptor in offers {
-        f.write_str(between)?;
-        put_descriptor(f, descriptor)?;
-        between = ",";
+    if offers.is_empty() {
+        return Ok(());
     }
-    f.write_str(if offers.is_empty() { "" } else { "]" })
+    f.write_str(" offers [")?;
+    for (place, descriptor) in offers.iter().enumerate() {
+        put_comma(f, place)?;
+        put_descriptor(f, descriptor)?;
+    }
+    f.write_char(']')
 }

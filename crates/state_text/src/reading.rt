@@ -33,54 +33,74 @@ fn number_after(count: usize) -> u32 {
     }
 }
 
-// Adds the row of a table that words state after its kind.
-fn add_to_tables(
-    alloc: Global,
-    tables: &mut Tables,
-    kind: &str,
-    words: &mut Words<'_>,
-) -> Result<(), Unread> {
-    match kind {
-        "account" => {
-            let place = number_after(tables.accounts.as_slice().len());
-            tables.accounts.push(account(alloc, words, place)?)?;
-        }
-        "app" => {
-            let place = number_after(tables.apps.as_slice().len());
-            tables.apps.push(app(alloc, words, place)?)?;
-        }
-        "grain" => {
-            let place = number_after(tables.grains.as_slice().len());
-            tables.grains.push(grain(alloc, words, place)?)?;
-        }
-        "grant" => {
-            let place = number_after(tables.grants.as_slice().len());
-            tables.grants.push(grant(alloc, words, place)?)?;
-        }
-        "saved" => {
-            let place = number_after(tables.saved.as_slice().len());
-            tables.saved.push(saved(alloc, words, place)?)?;
-        }
-        _ => return Err(Unread::Form),
-    }
-    Ok(())
+// Adds the account that words state, and likewise the row of each other table.
+fn add_account(alloc: Global, tables: &mut Tables, words: &mut Words<'_>) -> Result<(), Unread> {
+    let place = number_after(tables.accounts.as_slice().len());
+    let row = account(alloc, words, place)?;
+    words.end()?;
+    Ok(tables.accounts.push(row)?)
+}
+
+fn add_app(alloc: Global, tables: &mut Tables, words: &mut Words<'_>) -> Result<(), Unread> {
+    let place = number_after(tables.apps.as_slice().len());
+    let row = app(alloc, words, place)?;
+    words.end()?;
+    Ok(tables.apps.push(row)?)
+}
+
+fn add_grain(alloc: Global, tables: &mut Tables, words: &mut Words<'_>) -> Result<(), Unread> {
+    let place = number_after(tables.grains.as_slice().len());
+    let row = grain(alloc, words, place)?;
+    words.end()?;
+    Ok(tables.grains.push(row)?)
+}
+
+fn add_grant(alloc: Global, tables: &mut Tables, words: &mut Words<'_>) -> Result<(), Unread> {
+    let place = number_after(tables.grants.as_slice().len());
+    let row = grant(alloc, words, place)?;
+    words.end()?;
+    Ok(tables.grants.push(row)?)
+}
+
+fn add_saved(alloc: Global, tables: &mut Tables, words: &mut Words<'_>) -> Result<(), Unread> {
+    let place = number_after(tables.saved.as_slice().len());
+    let row = saved(alloc, words, place)?;
+    words.end()?;
+    Ok(tables.saved.push(row)?)
+}
+
+fn add_session(state: &mut State, words: &mut Words<'_>) -> Result<(), Unread> {
+    let row = session(words, number_after(state.sessions.as_slice().len()));
+    words.end()?;
+    Ok(state.sessions.push(row)?)
+}
+
+fn add_run(state: &mut State, words: &mut Words<'_>) -> Result<(), Unread> {
+    let place = number_after(state.runs.as_slice().len());
+    let row = run(words, u64::from(place));
+    words.end()?;
+    Ok(state.runs.push(row)?)
+}
+
+fn add_handle(state: &mut State, words: &mut Words<'_>) -> Result<(), Unread> {
+    let row = handle(words);
+    words.end()?;
+    Ok(state.handles.push(row)?)
 }
 
 // Adds the row that words state.
 fn add(alloc: Global, state: &mut State, mut words: Words<'_>) -> Result<(), Unread> {
-    match words.word()? {
-        "session" => {
-            let place = number_after(state.sessions.as_slice().len());
-            state.sessions.push(session(&mut words, place)?)?;
-        }
-        "run" => {
-            let place = number_after(state.runs.as_slice().len());
-            state.runs.push(run(&mut words, u64::from(place))?)?;
-        }
-        "handle" => state.handles.push(handle(&mut words)?)?,
-        kind => return add_to_tables(alloc, &mut state.tables, kind, &mut words),
+    match words.word() {
+        "account" => add_account(alloc, &mut state.tables, &mut words),
+        "app" => add_app(alloc, &mut state.tables, &mut words),
+        "grain" => add_grain(alloc, &mut state.tables, &mut words),
+        "grant" => add_grant(alloc, &mut state.tables, &mut words),
+        "saved" => add_saved(alloc, &mut state.tables, &mut words),
+        "session" => add_session(state, &mut words),
+        "run" => add_run(state, &mut words),
+        "handle" => add_handle(state, &mut words),
+        _ => Err(Unread::Form),
     }
-    Ok(())
 }
 
 /// Whether a line states no row: an empty line, or one that begins with `#`.
@@ -94,11 +114,8 @@ pub fn read_row(alloc: Global, state: &mut State, line: &str) -> Result<(), Unre
         return Ok(());
     }
     let mut words = Words::new(line);
-    let times = if words.skip("times") {
-        words.number()?
-    } else {
-        1
-    };
+    let times = words.number_or("times", 1);
+    words.so_far()?;
     for _ in 0..times {
         add(alloc, state, words)?;
     }

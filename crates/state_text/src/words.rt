@@ -6,23 +6,23 @@ use host_base::{AccountId, Digest, GrainId, GrantId};
 use perm_roles::PermSet;
 use plain_data::Name;
 use share_graph::Node;
-use std::alloc::Global;
+use std::alloc::{AllocError, Global};
 
-/// What is left of a line.
+/// What is left of a line, and whether each part that was asked of it was there. Something stands in for one that wasn't, until `end`
+/// tells of it.
 #[derive(Clone, Copy)]
 pub struct Words<'a> {
     rest: &'a str,
+    failed: bool,
 }
 
 impl<'a> Words<'a> {
     /// The words of a line.
     pub fn new(line: &'a str) -> Self {
-        Words { rest: line.trim() }
-    }
-
-    /// Whether no word is left.
-    pub fn is_empty(&self) -> bool {
-        self.rest.is_empty()
+        Words {
+            rest: line.trim(),
+            failed: false,
+        }
     }
 
     /// All that is left.
@@ -30,117 +30,194 @@ impl<'a> Words<'a> {
         self.rest
     }
 
-    /// More than the number of words that are left.
-    pub fn bound(&self) -> usize {
-        self.rest.len()
+    /// Goes past all that is left.
+    pub fn take_rest(&mut self) -> &'a str {
+        let rest = self.rest;
+        self.rest = "";
+        rest
     }
 
-    /// The next word.
-    pub fn word(&mut self) -> Result<&'a str, Unread> {
-        if self.rest.is_empty() {
-            return Err(Unread::Form);
+    /// Nothing, where each part was there.
+    pub fn so_far(&self) -> Result<(), Unread> {
+        if self.failed {
+            Err(Unread::Form)
+        } else {
+            Ok(())
         }
+    }
+
+    /// Nothing, where each part was there and no word is left.
+    pub fn end(&self) -> Result<(), Unread> {
+        if self.rest.is_empty() {
+            self.so_far()
+        } else {
+            Err(Unread::Form)
+        }
+    }
+
+    /// Remembers that a part wasn't there, and gives what stands in for it.
+    pub fn fails_as<T>(&mut self, other: T) -> T {
+        self.failed = true;
+        other
+    }
+
+    /// The next word, or an empty one where none is left.
+    pub fn word(&mut self) -> &'a str {
         let (word, rest) = self.rest.split_once(' ').unwrap_or((self.rest, ""));
         self.rest = rest.trim_start();
-        Ok(word)
+        word
     }
 
     /// Goes past a word, where it is the next one.
     pub fn skip(&mut self, wanted: &str) -> bool {
         let mut after = *self;
-        match after.word() {
-            Ok(word) if word == wanted => {
-                *self = after;
-                true
-            }
-            _ => false,
+        if after.word() == wanted {
+            *self = after;
+            true
+        } else {
+            false
         }
     }
 
     /// Goes past a word, which has to be the next one.
-    pub fn expect_word(&mut self, wanted: &str) -> Result<(), Unread> {
-        if self.skip(wanted) {
-            Ok(())
-        } else {
-            Err(Unread::Form)
-        }
-    }
-
-    /// Nothing, where no word is left.
-    pub fn end(&self) -> Result<(), Unread> {
-        if self.is_empty() {
-            Ok(())
-        } else {
-            Err(Unread::Form)
+    pub fn expect_word(&mut self, wanted: &str) {
+        if !self.skip(wanted) {
+            self.failed = true;
         }
     }
 
     /// A text as it is written: a word, or what stands in quotes.
-    pub fn text(&mut self) -> Result<&'a str, Unread> {
-        let Some(quoted) = self.rest.strip_prefix('"') else {
-            return self.word();
-        };
-        let Some((text, rest)) = quoted.split_once('"') else {
-            return Err(Unread::Form);
-        };
-        self.rest = rest.trim_start();
-        Ok(text)
+    pub fn text(&mut self) -> &'a str {
+        match self.rest.strip_prefix('"') {
+            Some(quoted) => self.quoted(quoted),
+            None if self.rest.is_empty() => self.fails_as(""),
+            None => self.word(),
+        }
     }
 
-    /// A number, as it is next.
-    pub fn long_number(&mut self) -> Result<u64, Unread> {
-        self.word()?.parse::<u64>().or(Err(Unread::Form))
+    // The text up to a quote.
+    fn quoted(&mut self, quoted: &'a str) -> &'a str {
+        match quoted.split_once('"') {
+            Some((text, rest)) => {
+                self.rest = rest.trim_start();
+                text
+            }
+            None => self.fails_as(""),
+        }
+    }
+
+    /// The text after a word, or another where the word isn't next.
+    pub fn text_or(&mut self, word: &str, other: &'a str) -> &'a str {
+        if self.skip(word) { self.text() } else { other }
+    }
+
+    /// The name that a text is.
+    pub(crate) fn name_of(&mut self, alloc: Global, written: &str) -> Result<Name, AllocError> {
+        match Name::new(unescaped(alloc, written)?) {
+            Some(name) => Ok(name),
+            None => {
+                self.failed = true;
+                Name::from_plain(alloc, "")
+            }
+        }
+    }
+
+    /// A number of 64 bits.
+    pub fn long_number(&mut self) -> u64 {
+        match self.word().parse::<u64>() {
+            Ok(number) => number,
+            Err(_) => self.fails_as(0),
+        }
+    }
+
+    /// The number of 64 bits after a word.
+    pub fn long_number_after(&mut self, word: &str) -> u64 {
+        self.expect_word(word);
+        self.long_number()
+    }
+
+    /// The number of 64 bits after a word, or another where the word isn't next.
+    pub fn long_number_or(&mut self, word: &str, other: u64) -> u64 {
+        if self.skip(word) {
+            self.long_number()
+        } else {
+            other
+        }
     }
 
     /// A number of 32 bits.
-    pub fn number(&mut self) -> Result<u32, Unread> {
-        self.word()?.parse::<u32>().or(Err(Unread::Form))
+    pub fn number(&mut self) -> u32 {
+        match self.word().parse::<u32>() {
+            Ok(number) => number,
+            Err(_) => self.fails_as(0),
+        }
     }
 
     /// The number after a word.
-    pub fn number_after(&mut self, word: &str) -> Result<u32, Unread> {
-        self.expect_word(word)?;
+    pub fn number_after(&mut self, word: &str) -> u32 {
+        self.expect_word(word);
         self.number()
     }
 
-    /// The number that a row has otherwise than by its place, or that one.
-    pub fn number_as(&mut self, place: u32) -> Result<u32, Unread> {
-        if self.skip("as") {
+    /// The number after a word, or another where the word isn't next.
+    pub fn number_or(&mut self, word: &str, other: u32) -> u32 {
+        if self.skip(word) {
             self.number()
         } else {
-            Ok(place)
+            other
         }
     }
 
     /// A digest.
-    pub fn digest(&mut self) -> Result<Digest, Unread> {
-        digest_of(self.word()?).ok_or(Unread::Form)
+    pub fn digest(&mut self) -> Digest {
+        match digest_of(self.word()) {
+            Some(digest) => digest,
+            None => self.fails_as(Digest([0; 32])),
+        }
+    }
+
+    /// The digest after a word.
+    pub fn digest_after(&mut self, word: &str) -> Digest {
+        self.expect_word(word);
+        self.digest()
     }
 
     /// A set of positions.
-    pub fn set(&mut self) -> Result<PermSet, Unread> {
-        set_of(self.word()?).ok_or(Unread::Form)
+    pub fn set(&mut self) -> PermSet {
+        match set_of(self.word()) {
+            Some(set) => set,
+            None => self.fails_as(PermSet::empty()),
+        }
+    }
+
+    /// The set after a word, or an empty one where the word isn't next.
+    pub fn set_or_none(&mut self, word: &str) -> PermSet {
+        if self.skip(word) {
+            self.set()
+        } else {
+            PermSet::empty()
+        }
     }
 
     /// A node that can hold facts.
-    pub fn node(&mut self) -> Result<Node, Unread> {
-        match self.word()? {
+    pub fn node(&mut self) -> Node {
+        match self.word() {
             "account" => {
-                let account = self.number()?;
-                self.expect_word("on")?;
-                let grain = self.number_after("grain")?;
-                Ok(Node::User(GrainId(grain), AccountId(account)))
+                let account = AccountId(self.number());
+                self.expect_word("on");
+                Node::User(GrainId(self.number_after("grain")), account)
             }
-            "grant" => Ok(Node::Grant(GrantId(self.number()?))),
-            _ => Err(Unread::Form),
+            "grant" => Node::Grant(GrantId(self.number())),
+            _ => self.fails_as(Node::Grant(GrantId(0))),
         }
     }
 }
 
 // The digest that a word is.
 fn digest_of(word: &str) -> Option<Digest> {
-    if let Ok([byte]) = <[u8; 1] as FromHex>::from_hex(word) {
-        return Some(Digest([byte; 32]));
+    if word.len() == 2 {
+        let byte = <[u8; 1] as FromHex>::from_hex(word).ok()?;
+        return Some(Digest([byte[0]; 32]));
     }
     let bytes = <[u8; 32] as FromHex>::from_hex(word).ok()?;
     Some(Digest(bytes))
@@ -169,7 +246,7 @@ fn set_of(word: &str) -> Option<PermSet> {
 }
 
 // The text that is written so, without backslashes.
-fn unescaped(alloc: Global, written: &str) -> Result<String, Unread> {
+fn unescaped(alloc: Global, written: &str) -> Result<String, AllocError> {
     let mut text = String::new(alloc);
     let mut escaped = false;
     for letter in written.chars() {
@@ -186,12 +263,4 @@ fn unescaped(alloc: Global, written: &str) -> Result<String, Unread> {
         escaped = false;
     }
     Ok(text)
-}
-
-/// The name that is written so.
-pub(crate) fn name_of(alloc: Global, written: &str) -> Result<Name, Unread> {
-    match Name::new(unescaped(alloc, written)?) {
-        Some(name) => Ok(name),
-        None => Err(Unread::Form),
-    }
 }
