@@ -3,13 +3,13 @@
 use crate::access::{access_at, is_met, missing_at, verdict_on};
 use crate::fault::NoAnswer;
 use crate::finding::{
-    account_facts, by_digest, by_number, grain_facts, grant_facts, handle_of, kinds, node_facts,
-    run_of, target_facts,
+    account_facts, clash_with, grain_facts, grant_facts, handle_of, kinds, node_facts, row_by,
+    row_of, run_of, target_facts,
 };
 use crate::forming::{again, fault, formed, same, text, within_limits};
 use crate::shelf::Shelf;
 use crate::ways::way;
-use share_graph::State;
+use share_graph::{State, Tables};
 use state_text::Words;
 use std::alloc::Global;
 
@@ -28,12 +28,11 @@ fn about_forms(
         "text" => text(alloc, state),
         "again" => again(alloc, state),
         "same" => same(alloc, state, shelf.state_of(words.word())?),
-        "kinds" => kinds(alloc),
-        _ => Err(NoAnswer::Unread),
+        _ => kinds(alloc),
     }
 }
 
-// The answer to a question about rows.
+// The answer to a question for a row.
 fn about_rows(
     alloc: Global,
     state: &State,
@@ -41,16 +40,27 @@ fn about_rows(
     words: &mut Words<'_>,
 ) -> Result<String, NoAnswer> {
     match asked {
-        "number" => by_number(alloc, state, words.number()),
-        "digest" => by_digest(alloc, state, &words.digest()),
-        "account" => account_facts(alloc, &state.tables, words.number()),
-        "grain" => grain_facts(alloc, &state.tables, words.number()),
-        "grant" => grant_facts(alloc, &state.tables, words.number()),
-        "run" => run_of(alloc, state, words),
-        "handle" => handle_of(alloc, state, words),
-        "node" => node_facts(alloc, &state.tables, words.node()),
-        "target" => target_facts(alloc, &state.tables, words.target()),
-        _ => Err(NoAnswer::Unread),
+        "row" => row_of(alloc, state, words.word(), words.number()),
+        "by" => row_by(alloc, state, words.word(), &words.digest()),
+        "clash" => clash_with(alloc, state, &words.digest()),
+        "live" => run_of(alloc, state, words.number()),
+        _ => handle_of(alloc, state, words),
+    }
+}
+
+// The answer to a question whether something is so.
+fn about_facts(
+    alloc: Global,
+    tables: &Tables,
+    asked: &str,
+    words: &mut Words<'_>,
+) -> Result<String, NoAnswer> {
+    match asked {
+        "account" => account_facts(alloc, tables, words.number()),
+        "grain" => grain_facts(alloc, tables, words.number()),
+        "grant" => grant_facts(alloc, tables, words.number()),
+        "node" => node_facts(alloc, tables, words.node()),
+        _ => target_facts(alloc, tables, words.target()),
     }
 }
 
@@ -66,8 +76,7 @@ fn about_access(
         "access" => access_at(alloc, &state.tables, words.node()),
         "missing" => missing_at(alloc, &state.tables, words.node()),
         "met" => is_met(alloc, &state.tables, &words.need()),
-        "verdict" => verdict_on(alloc, state, words),
-        _ => Err(NoAnswer::Unread),
+        _ => verdict_on(alloc, state, words),
     }
 }
 
@@ -82,10 +91,16 @@ fn answer_to(
         "fault" | "formed" | "within" | "text" | "again" | "same" | "kinds" => {
             about_forms(alloc, shelf, asked, words)
         }
+        "row" | "by" | "clash" | "live" | "handle" => {
+            about_rows(alloc, shelf.state()?, asked, words)
+        }
+        "account" | "grain" | "grant" | "node" | "target" => {
+            about_facts(alloc, &shelf.state()?.tables, asked, words)
+        }
         "way" | "access" | "missing" | "met" | "verdict" => {
             about_access(alloc, shelf.state()?, asked, words)
         }
-        _ => about_rows(alloc, shelf.state()?, asked, words),
+        _ => Err(NoAnswer::Unread),
     }
 }
 

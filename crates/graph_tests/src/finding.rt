@@ -8,48 +8,68 @@ use share_graph::{
     has_account, has_grain, has_grant, is_admin, is_bearer, is_enabled, is_kept, is_node,
     is_own_node, live_run, may_receive, node_of, run, saved, session, source_of,
 };
-use state_text::{AsNode, Words};
+use state_text::{AsLine, AsNode, Line, Words};
 use std::alloc::Global;
 
-/// The numbers of the rows that are found by a number.
-pub(crate) fn by_number(alloc: Global, state: &State, num: u32) -> Result<String, NoAnswer> {
-    let tables = &state.tables;
-    let account = account(tables, AccountId(num)).map(|row| row.num.0);
-    let app = app(tables, AppId(num)).map(|row| row.num.0);
-    let grain = grain(tables, GrainId(num)).map(|row| row.num.0);
-    let grant = grant(tables, GrantId(num)).map(|row| row.num.0);
-    let saved = saved(tables, SavedId(num)).map(|row| row.num.0);
-    let session = session(state, SessionId(num)).map(|row| row.num.0);
-    let run = run(state, RunId(u64::from(num))).map(|row| row.num.0);
-    Ok(format!(in alloc;
-        "account {account:?}, app {app:?}, grain {grain:?}, grant {grant:?}, saved {saved:?}, session {session:?}, run {run:?}"
-    )?)
+// The line of a row, where one was found.
+fn line_of<R: Line>(alloc: Global, row: Option<&R>) -> Result<String, NoAnswer> {
+    match row {
+        Some(row) => Ok(format!(in alloc; "{}", AsLine(row))?),
+        None => Ok(String::from_str(alloc, "none")?),
+    }
 }
 
-/// The row that has a digest, and the numbers of those that are found by it.
-pub(crate) fn by_digest(alloc: Global, state: &State, digest: &Digest) -> Result<String, NoAnswer> {
+/// The row of a number.
+pub(crate) fn row_of(
+    alloc: Global,
+    state: &State,
+    kind: &str,
+    num: u32,
+) -> Result<String, NoAnswer> {
     let tables = &state.tables;
-    let clash = clash(state, digest);
-    let account = by_login(tables, digest).map(|row| row.num.0);
-    let grant = by_grant_token(tables, digest).map(|row| row.num.0);
-    let bearer = by_bearer_token(tables, digest).map(|row| row.num.0);
-    let saved = by_saved_token(tables, digest).map(|row| row.num.0);
-    let session = by_session_key(state, digest).map(|row| row.num.0);
-    let run = by_run_token(state, digest).map(|row| row.num.0);
-    Ok(format!(in alloc;
-        "{clash:?}: account {account:?}, grant {grant:?}, bearer {bearer:?}, saved {saved:?}, session {session:?}, run {run:?}"
-    )?)
+    match kind {
+        "account" => line_of(alloc, account(tables, AccountId(num))),
+        "app" => line_of(alloc, app(tables, AppId(num))),
+        "grain" => line_of(alloc, grain(tables, GrainId(num))),
+        "grant" => line_of(alloc, grant(tables, GrantId(num))),
+        "saved" => line_of(alloc, saved(tables, SavedId(num))),
+        "session" => line_of(alloc, session(state, SessionId(num))),
+        "run" => line_of(alloc, run(state, RunId(u64::from(num)))),
+        _ => Err(NoAnswer::Unread),
+    }
+}
+
+/// The row of a digest.
+pub(crate) fn row_by(
+    alloc: Global,
+    state: &State,
+    finder: &str,
+    digest: &Digest,
+) -> Result<String, NoAnswer> {
+    let tables = &state.tables;
+    match finder {
+        "login" => line_of(alloc, by_login(tables, digest)),
+        "token" => line_of(alloc, by_grant_token(tables, digest)),
+        "bearer" => line_of(alloc, by_bearer_token(tables, digest)),
+        "reference" => line_of(alloc, by_saved_token(tables, digest)),
+        "key" => line_of(alloc, by_session_key(state, digest)),
+        "run" => line_of(alloc, by_run_token(state, digest)),
+        _ => Err(NoAnswer::Unread),
+    }
+}
+
+/// The kind and the number of the row that has a digest.
+pub(crate) fn clash_with(
+    alloc: Global,
+    state: &State,
+    digest: &Digest,
+) -> Result<String, NoAnswer> {
+    Ok(format!(in alloc; "{:?}", clash(state, digest))?)
 }
 
 /// The live run of a grain.
-pub(crate) fn run_of(
-    alloc: Global,
-    state: &State,
-    words: &mut Words<'_>,
-) -> Result<String, NoAnswer> {
-    let num = GrainId(words.number_after("grain"));
-    let run = live_run(state, num).map(|row| row.num);
-    Ok(format!(in alloc; "{run:?}")?)
+pub(crate) fn run_of(alloc: Global, state: &State, num: u32) -> Result<String, NoAnswer> {
+    line_of(alloc, live_run(state, GrainId(num)))
 }
 
 /// The handle of a run.
@@ -60,8 +80,7 @@ pub(crate) fn handle_of(
 ) -> Result<String, NoAnswer> {
     let num = words.number();
     let run = RunId(words.long_number_after("run"));
-    let found = handle(state, run, num);
-    Ok(format!(in alloc; "{found:?}")?)
+    line_of(alloc, handle(state, run, num))
 }
 
 /// What is said of an account.
@@ -78,8 +97,8 @@ pub(crate) fn grain_facts(alloc: Global, tables: &Tables, num: u32) -> Result<St
     let num = GrainId(num);
     let there = has_grain(tables, num);
     let kept = is_kept(tables, num);
-    let app = app_of(tables, num).map(|row| row.num);
-    Ok(format!(in alloc; "there {there}, kept {kept}, of {app:?}")?)
+    let has_app = app_of(tables, num).is_some();
+    Ok(format!(in alloc; "there {there}, kept {kept}, of an app {has_app}")?)
 }
 
 // What was a grant given from, in a few words.

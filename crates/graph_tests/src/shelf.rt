@@ -50,15 +50,16 @@ impl Shelf {
 
     /// The state of a name.
     pub(crate) fn state_of(&self, name: &str) -> Result<&State, Unread> {
-        match self.states.iter().find(|named| named.name.as_str() == name) {
-            Some(named) => Ok(&named.state),
-            None => Err(Unread::Form),
-        }
+        self.state_at(self.place_of(name).ok_or(Unread::Form)?)
     }
 
     /// The state that is open.
     pub(crate) fn state(&self) -> Result<&State, Unread> {
-        match self.states.get(self.open) {
+        self.state_at(self.open)
+    }
+
+    fn state_at(&self, place: usize) -> Result<&State, Unread> {
+        match self.states.get(place) {
             Some(named) => Ok(&named.state),
             None => Err(Unread::Form),
         }
