@@ -8,7 +8,7 @@ use crate::fault::NoAnswer;
 use host_base::Key;
 use least_access::{Solved, solve};
 use session_table::verdict;
-use share_graph::{Need, Node, State, Tables, is_node};
+use share_graph::{State, Tables, is_node};
 use state_text::{AsSet, Words};
 use std::alloc::Global;
 use table_check::{check_tables, is_well_formed, is_within_limits};
@@ -26,15 +26,25 @@ fn solved(alloc: Global, tables: &Tables) -> Result<Solved, NoAnswer>
 }
 
 /// What a node holds.
-pub(crate) fn access_at(alloc: Global, tables: &Tables, node: Node) -> Result<String, NoAnswer> {
-    match solved(alloc, tables)?.access(node) {
+pub(crate) fn access_at(
+    alloc: Global,
+    tables: &Tables,
+    words: &mut Words<'_>,
+) -> Result<String, NoAnswer> {
+    let solved = solved(alloc, tables)?;
+    match solved.access(words.node()) {
         Some(set) => Ok(format!(in alloc; "{}", AsSet(&set))?),
         None => Ok(String::from_str(alloc, "no entry")?),
     }
 }
 
 /// The first step that is missing at a node.
-pub(crate) fn missing_at(alloc: Global, tables: &Tables, node: Node) -> Result<String, NoAnswer> {
+pub(crate) fn missing_at(
+    alloc: Global,
+    tables: &Tables,
+    words: &mut Words<'_>,
+) -> Result<String, NoAnswer> {
+    let node = words.node();
     let solved = solved(alloc, tables)?;
     if !is_node(tables, node) {
         return Err(NoAnswer::NoRow);
@@ -44,8 +54,13 @@ pub(crate) fn missing_at(alloc: Global, tables: &Tables, node: Node) -> Result<S
 }
 
 /// Whether a need is met.
-pub(crate) fn is_met(alloc: Global, tables: &Tables, need: &Need) -> Result<String, NoAnswer> {
-    let met = solved(alloc, tables)?.met(tables, need);
+pub(crate) fn is_met(
+    alloc: Global,
+    tables: &Tables,
+    words: &mut Words<'_>,
+) -> Result<String, NoAnswer> {
+    let solved = solved(alloc, tables)?;
+    let met = solved.met(tables, &words.need());
     Ok(format!(in alloc; "{met}")?)
 }
 

@@ -40,10 +40,10 @@ fn about_rows(
     words: &mut Words<'_>,
 ) -> Result<String, NoAnswer> {
     match asked {
-        "row" => row_of(alloc, state, words.word(), words.number()),
-        "by" => row_by(alloc, state, words.word(), &words.digest()),
-        "clash" => clash_with(alloc, state, &words.digest()),
-        "live" => run_of(alloc, state, words.number()),
+        "row" => row_of(alloc, state, words),
+        "by" => row_by(alloc, state, words),
+        "clash" => clash_with(alloc, state, words),
+        "live" => run_of(alloc, state, words),
         _ => handle_of(alloc, state, words),
     }
 }
@@ -56,11 +56,11 @@ fn about_facts(
     words: &mut Words<'_>,
 ) -> Result<String, NoAnswer> {
     match asked {
-        "account" => account_facts(alloc, tables, words.number()),
-        "grain" => grain_facts(alloc, tables, words.number()),
-        "grant" => grant_facts(alloc, tables, words.number()),
-        "node" => node_facts(alloc, tables, words.node()),
-        _ => target_facts(alloc, tables, words.target()),
+        "account" => account_facts(alloc, tables, words),
+        "grain" => grain_facts(alloc, tables, words),
+        "grant" => grant_facts(alloc, tables, words),
+        "node" => node_facts(alloc, tables, words),
+        _ => target_facts(alloc, tables, words),
     }
 }
 
@@ -72,10 +72,10 @@ fn about_access(
     words: &mut Words<'_>,
 ) -> Result<String, NoAnswer> {
     match asked {
-        "way" => way(alloc, &state.tables, words.number()),
-        "access" => access_at(alloc, &state.tables, words.node()),
-        "missing" => missing_at(alloc, &state.tables, words.node()),
-        "met" => is_met(alloc, &state.tables, &words.need()),
+        "way" => way(alloc, &state.tables, words),
+        "access" => access_at(alloc, &state.tables, words),
+        "missing" => missing_at(alloc, &state.tables, words),
+        "met" => is_met(alloc, &state.tables, words),
         _ => verdict_on(alloc, state, words),
     }
 }
@@ -111,7 +111,7 @@ pub(crate) fn answer(
     words: &mut Words<'_>,
 ) -> Result<String, NoAnswer> {
     let asked = words.word();
-    let text = answer_to(alloc, shelf, asked, words)?;
+    let answered = answer_to(alloc, shelf, asked, words);
     words.end()?;
-    Ok(text)
+    answered
 }

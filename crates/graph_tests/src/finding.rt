@@ -1,12 +1,12 @@
 //! Questions about rows, by number and by digest, and about nodes.
 
 use crate::fault::NoAnswer;
-use host_base::{AccountId, AppId, Digest, GrainId, GrantId, RunId, SavedId, SessionId};
+use host_base::{AccountId, AppId, GrainId, GrantId, RunId, SavedId, SessionId};
 use share_graph::{
-    Kind, Node, State, Tables, Target, account, app, app_of, by_bearer_token, by_grant_token,
-    by_login, by_run_token, by_saved_token, by_session_key, clash, grain, grant, handle,
-    has_account, has_grain, has_grant, is_admin, is_bearer, is_enabled, is_kept, is_node,
-    is_own_node, live_run, may_receive, node_of, run, saved, session, source_of,
+    Kind, Node, State, Tables, account, app, app_of, by_bearer_token, by_grant_token, by_login,
+    by_run_token, by_saved_token, by_session_key, clash, grain, grant, handle, has_account,
+    has_grain, has_grant, is_admin, is_bearer, is_enabled, is_kept, is_node, is_own_node, live_run,
+    may_receive, node_of, run, saved, session, source_of,
 };
 use state_text::{AsLine, AsNode, Line, Words};
 use std::alloc::Global;
@@ -23,10 +23,11 @@ fn line_of<R: Line>(alloc: Global, row: Option<&R>) -> Result<String, NoAnswer> 
 pub(crate) fn row_of(
     alloc: Global,
     state: &State,
-    kind: &str,
-    num: u32,
+    words: &mut Words<'_>,
 ) -> Result<String, NoAnswer> {
     let tables = &state.tables;
+    let kind = words.word();
+    let num = words.number();
     match kind {
         "account" => line_of(alloc, account(tables, AccountId(num))),
         "app" => line_of(alloc, app(tables, AppId(num))),
@@ -43,10 +44,11 @@ pub(crate) fn row_of(
 pub(crate) fn row_by(
     alloc: Global,
     state: &State,
-    finder: &str,
-    digest: &Digest,
+    words: &mut Words<'_>,
 ) -> Result<String, NoAnswer> {
     let tables = &state.tables;
+    let finder = words.word();
+    let digest = &words.digest();
     match finder {
         "login" => line_of(alloc, by_login(tables, digest)),
         "token" => line_of(alloc, by_grant_token(tables, digest)),
@@ -62,14 +64,19 @@ pub(crate) fn row_by(
 pub(crate) fn clash_with(
     alloc: Global,
     state: &State,
-    digest: &Digest,
+    words: &mut Words<'_>,
 ) -> Result<String, NoAnswer> {
-    Ok(format!(in alloc; "{:?}", clash(state, digest))?)
+    let found = clash(state, &words.digest());
+    Ok(format!(in alloc; "{found:?}")?)
 }
 
 /// The live run of a grain.
-pub(crate) fn run_of(alloc: Global, state: &State, num: u32) -> Result<String, NoAnswer> {
-    line_of(alloc, live_run(state, GrainId(num)))
+pub(crate) fn run_of(
+    alloc: Global,
+    state: &State,
+    words: &mut Words<'_>,
+) -> Result<String, NoAnswer> {
+    line_of(alloc, live_run(state, GrainId(words.number())))
 }
 
 /// The handle of a run.
@@ -84,8 +91,12 @@ pub(crate) fn handle_of(
 }
 
 /// What is said of an account.
-pub(crate) fn account_facts(alloc: Global, tables: &Tables, num: u32) -> Result<String, NoAnswer> {
-    let num = AccountId(num);
+pub(crate) fn account_facts(
+    alloc: Global,
+    tables: &Tables,
+    words: &mut Words<'_>,
+) -> Result<String, NoAnswer> {
+    let num = AccountId(words.number());
     let there = has_account(tables, num);
     let enabled = is_enabled(tables, num);
     let admin = is_admin(tables, num);
@@ -93,8 +104,12 @@ pub(crate) fn account_facts(alloc: Global, tables: &Tables, num: u32) -> Result<
 }
 
 /// What is said of a grain.
-pub(crate) fn grain_facts(alloc: Global, tables: &Tables, num: u32) -> Result<String, NoAnswer> {
-    let num = GrainId(num);
+pub(crate) fn grain_facts(
+    alloc: Global,
+    tables: &Tables,
+    words: &mut Words<'_>,
+) -> Result<String, NoAnswer> {
+    let num = GrainId(words.number());
     let there = has_grain(tables, num);
     let kept = is_kept(tables, num);
     let has_app = app_of(tables, num).is_some();
@@ -110,8 +125,12 @@ fn source(alloc: Global, from: Option<Node>) -> Result<String, NoAnswer> {
 }
 
 /// What is said of a grant.
-pub(crate) fn grant_facts(alloc: Global, tables: &Tables, num: u32) -> Result<String, NoAnswer> {
-    let num = GrantId(num);
+pub(crate) fn grant_facts(
+    alloc: Global,
+    tables: &Tables,
+    words: &mut Words<'_>,
+) -> Result<String, NoAnswer> {
+    let num = GrantId(words.number());
     let there = has_grant(tables, num);
     let own = is_own_node(tables, num);
     let Some(row) = grant(tables, num) else {
@@ -123,16 +142,22 @@ pub(crate) fn grant_facts(alloc: Global, tables: &Tables, num: u32) -> Result<St
 }
 
 /// Whether a node can hold facts.
-pub(crate) fn node_facts(alloc: Global, tables: &Tables, node: Node) -> Result<String, NoAnswer> {
-    Ok(format!(in alloc; "there {}", is_node(tables, node))?)
+pub(crate) fn node_facts(
+    alloc: Global,
+    tables: &Tables,
+    words: &mut Words<'_>,
+) -> Result<String, NoAnswer> {
+    let there = is_node(tables, words.node());
+    Ok(format!(in alloc; "there {there}")?)
 }
 
 /// What is said of a target.
 pub(crate) fn target_facts(
     alloc: Global,
     tables: &Tables,
-    target: Target,
+    words: &mut Words<'_>,
 ) -> Result<String, NoAnswer> {
+    let target = words.target();
     let bearer = is_bearer(target);
     let receives = may_receive(tables, target);
     Ok(format!(in alloc; "bearer {bearer}, receives {receives}")?)
