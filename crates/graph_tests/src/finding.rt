@@ -1,135 +1,186 @@
-//! Rows by number and by digest, and questions about them.
+//! Questions about rows, by number and by digest, and about nodes.
 
-use crate::fixtures::{ADA, BEN, digest, small_state};
+use crate::fault::NoAnswer;
 use host_base::{AccountId, AppId, GrainId, GrantId, RunId, SavedId, SessionId};
 use share_graph::{
-    Kind, Node, Target, account, app, app_of, by_bearer_token, by_grant_token, by_login,
+    Kind, Node, State, Tables, account, app, app_of, by_bearer_token, by_grant_token, by_login,
     by_run_token, by_saved_token, by_session_key, clash, grain, grant, handle, has_account,
     has_grain, has_grant, is_admin, is_bearer, is_enabled, is_kept, is_node, is_own_node, live_run,
     may_receive, node_of, run, saved, session, source_of,
 };
-use std::test::Fail;
+use state_text::{AsLine, AsNode, Line, Words};
+use std::alloc::Global;
 
-#[test]
-fn rows_are_found_by_their_numbers(rt: HostRuntime) -> Result<(), Fail> {
-    let state = small_state(rt.alloc())?;
-    let tables = &state.tables;
-    for (num, found) in [
-        (0, [None; 7]),
-        (1, [Some(1); 7]),
-        (2, [Some(2), None, Some(2), Some(2), None, Some(2), Some(2)]),
-        (5, [None; 7]),
-    ] {
-        let rows = [
-            account(tables, AccountId(num)).map(|row| u64::from(row.num.0)),
-            app(tables, AppId(num)).map(|row| u64::from(row.num.0)),
-            grain(tables, GrainId(num)).map(|row| u64::from(row.num.0)),
-            grant(tables, GrantId(num)).map(|row| u64::from(row.num.0)),
-            saved(tables, SavedId(num)).map(|row| u64::from(row.num.0)),
-            session(&state, SessionId(num)).map(|row| u64::from(row.num.0)),
-            run(&state, RunId(u64::from(num))).map(|row| row.num.0),
-        ];
-        assert_eq!(rt; rows, found);
+// The line of a row, where one was found.
+fn line_of<R: Line>(alloc: Global, row: Option<&R>) -> Result<String, NoAnswer> {
+    match row {
+        Some(row) => Ok(format!(in alloc; "{}", AsLine(row))?),
+        None => Ok(String::from_str(alloc, "none")?),
     }
-    for (run, num, found) in [(2, 1, true), (1, 1, false), (2, 2, false)] {
-        assert_eq!(rt; handle(&state, RunId(run), num).is_some(), found);
-    }
-    for (num, found) in [(1, None), (2, Some(RunId(2)))] {
-        assert_eq!(rt; live_run(&state, GrainId(num)).map(|row| row.num), found);
-    }
-    Ok(())
 }
 
-#[test]
-fn rows_are_found_by_their_digests(rt: HostRuntime) -> Result<(), Fail> {
-    let state = small_state(rt.alloc())?;
+/// The row of a number.
+pub(crate) fn row_of(
+    alloc: Global,
+    state: &State,
+    words: &mut Words<'_>,
+) -> Result<String, NoAnswer> {
     let tables = &state.tables;
-    for (byte, found) in [
-        (2, Some((Kind::Account, 2))),
-        (8, Some((Kind::Grant, 1))),
-        (11, Some((Kind::Grant, 3))),
-        (30, Some((Kind::Saved, 1))),
-        (41, Some((Kind::Session, 2))),
-        (20, Some((Kind::Run, 1))),
-        (99, None),
-    ] {
-        let digest = digest(byte);
-        let of = |kind: Kind| found.filter(|row| row.0 == kind).map(|row| row.1);
-        assert_eq!(rt; clash(&state, &digest), found);
-        assert_eq!(rt;
-            by_login(tables, &digest).map(|row| u64::from(row.num.0)),
-            of(Kind::Account)
-        );
-        assert_eq!(rt;
-            by_grant_token(tables, &digest).map(|row| u64::from(row.num.0)),
-            of(Kind::Grant)
-        );
-        assert_eq!(rt;
-            by_saved_token(tables, &digest).map(|row| u64::from(row.num.0)),
-            of(Kind::Saved)
-        );
-        assert_eq!(rt;
-            by_session_key(&state, &digest).map(|row| u64::from(row.num.0)),
-            of(Kind::Session)
-        );
-        assert_eq!(rt;
-            by_run_token(&state, &digest).map(|row| row.num.0),
-            of(Kind::Run)
-        );
-        assert_eq!(rt; by_bearer_token(tables, &digest).is_some(), byte == 8);
+    let kind = words.word();
+    let num = words.number();
+    match kind {
+        "account" => line_of(alloc, account(tables, AccountId(num))),
+        "app" => line_of(alloc, app(tables, AppId(num))),
+        "grain" => line_of(alloc, grain(tables, GrainId(num))),
+        "grant" => line_of(alloc, grant(tables, GrantId(num))),
+        "saved" => line_of(alloc, saved(tables, SavedId(num))),
+        "session" => line_of(alloc, session(state, SessionId(num))),
+        "run" => line_of(alloc, run(state, RunId(u64::from(num)))),
+        _ => Err(NoAnswer::Unread),
     }
-    Ok(())
 }
 
-#[test]
-fn rows_are_there(rt: HostRuntime) -> Result<(), Fail> {
-    let state = small_state(rt.alloc())?;
+/// The row of a digest.
+pub(crate) fn row_by(
+    alloc: Global,
+    state: &State,
+    words: &mut Words<'_>,
+) -> Result<String, NoAnswer> {
     let tables = &state.tables;
-    for (num, account, grain, own, kept) in [
-        (1, true, true, true, true),
-        (2, true, true, false, false),
-        (3, false, false, true, false),
-        (4, false, false, true, false),
-    ] {
-        assert_eq!(rt; has_account(tables, AccountId(num)), account);
-        assert_eq!(rt; is_enabled(tables, AccountId(num)), account);
-        assert_eq!(rt; is_admin(tables, AccountId(num)), num == 1);
-        assert_eq!(rt; has_grain(tables, GrainId(num)), grain);
-        assert_eq!(rt; app_of(tables, GrainId(num)).is_some(), grain);
-        assert_eq!(rt; is_kept(tables, GrainId(num)), kept);
-        assert_eq!(rt; is_own_node(tables, GrantId(num)), own);
+    let finder = words.word();
+    let digest = &words.digest();
+    match finder {
+        "login" => line_of(alloc, by_login(tables, digest)),
+        "token" => line_of(alloc, by_grant_token(tables, digest)),
+        "bearer" => line_of(alloc, by_bearer_token(tables, digest)),
+        "reference" => line_of(alloc, by_saved_token(tables, digest)),
+        "key" => line_of(alloc, by_session_key(state, digest)),
+        "run" => line_of(alloc, by_run_token(state, digest)),
+        _ => Err(NoAnswer::Unread),
     }
-    assert!(rt; has_grant(tables, GrantId(4)) && !has_grant(tables, GrantId(5)));
-    Ok(())
 }
 
-#[test]
-fn nodes_hold_and_give(rt: HostRuntime) -> Result<(), Fail> {
-    let state = small_state(rt.alloc())?;
-    let tables = &state.tables;
-    let on_first = |num| Node::User(GrainId(1), num);
-    for (num, node, source) in [
-        (1, Node::Grant(GrantId(1)), on_first(ADA)),
-        (2, on_first(BEN), on_first(ADA)),
-        (3, Node::Grant(GrantId(3)), Node::Grant(GrantId(1))),
+/// The kind and the number of the row that has a digest.
+pub(crate) fn clash_with(
+    alloc: Global,
+    state: &State,
+    words: &mut Words<'_>,
+) -> Result<String, NoAnswer> {
+    let found = clash(state, &words.digest());
+    Ok(format!(in alloc; "{found:?}")?)
+}
+
+/// The live run of a grain.
+pub(crate) fn run_of(
+    alloc: Global,
+    state: &State,
+    words: &mut Words<'_>,
+) -> Result<String, NoAnswer> {
+    line_of(alloc, live_run(state, GrainId(words.number())))
+}
+
+/// The handle of a run.
+pub(crate) fn handle_of(
+    alloc: Global,
+    state: &State,
+    words: &mut Words<'_>,
+) -> Result<String, NoAnswer> {
+    let num = words.number();
+    let run = RunId(words.long_number_after("run"));
+    line_of(alloc, handle(state, run, num))
+}
+
+/// What is said of an account.
+pub(crate) fn account_facts(
+    alloc: Global,
+    tables: &Tables,
+    words: &mut Words<'_>,
+) -> Result<String, NoAnswer> {
+    let num = AccountId(words.number());
+    let there = has_account(tables, num);
+    let enabled = is_enabled(tables, num);
+    let admin = is_admin(tables, num);
+    Ok(format!(in alloc; "there {there}, enabled {enabled}, admin {admin}")?)
+}
+
+/// What is said of a grain.
+pub(crate) fn grain_facts(
+    alloc: Global,
+    tables: &Tables,
+    words: &mut Words<'_>,
+) -> Result<String, NoAnswer> {
+    let num = GrainId(words.number());
+    let there = has_grain(tables, num);
+    let kept = is_kept(tables, num);
+    let has_app = app_of(tables, num).is_some();
+    Ok(format!(in alloc; "there {there}, kept {kept}, of an app {has_app}")?)
+}
+
+// What was a grant given from, in a few words.
+fn source(alloc: Global, from: Option<Node>) -> Result<String, NoAnswer> {
+    match from {
+        Some(node) => Ok(format!(in alloc; "{}", AsNode(node))?),
+        None => Ok(String::from_str(alloc, "the site")?),
+    }
+}
+
+/// What is said of a grant.
+pub(crate) fn grant_facts(
+    alloc: Global,
+    tables: &Tables,
+    words: &mut Words<'_>,
+) -> Result<String, NoAnswer> {
+    let num = GrantId(words.number());
+    let there = has_grant(tables, num);
+    let own = is_own_node(tables, num);
+    let Some(row) = grant(tables, num) else {
+        return Ok(format!(in alloc; "there {there}, own node {own}")?);
+    };
+    let node = AsNode(node_of(num, row));
+    let source = source(alloc, source_of(row))?;
+    Ok(format!(in alloc; "there {there}, own node {own}, at {node}, from {source}")?)
+}
+
+/// Whether a node can hold facts.
+pub(crate) fn node_facts(
+    alloc: Global,
+    tables: &Tables,
+    words: &mut Words<'_>,
+) -> Result<String, NoAnswer> {
+    let there = is_node(tables, words.node());
+    Ok(format!(in alloc; "there {there}")?)
+}
+
+/// What is said of a target.
+pub(crate) fn target_facts(
+    alloc: Global,
+    tables: &Tables,
+    words: &mut Words<'_>,
+) -> Result<String, NoAnswer> {
+    let target = words.target();
+    let bearer = is_bearer(target);
+    let receives = may_receive(tables, target);
+    Ok(format!(in alloc; "bearer {bearer}, receives {receives}")?)
+}
+
+/// The numbers of the kinds.
+pub(crate) fn kinds(alloc: Global) -> Result<String, NoAnswer> {
+    let mut text = String::new(alloc);
+    let mut between = "";
+    for kind in [
+        Kind::Account,
+        Kind::App,
+        Kind::Grain,
+        Kind::Grant,
+        Kind::Saved,
+        Kind::Session,
+        Kind::Handle,
+        Kind::Run,
+        Kind::Entry,
     ] {
-        let row = grant(tables, GrantId(num)).ok_or("no grant")?;
-        assert_eq!(rt; node_of(GrantId(num), row), node);
-        assert_eq!(rt; source_of(row), Some(source));
-        assert!(rt; is_node(tables, node));
+        let part = format!(in alloc; "{between}{kind:?} {}", kind.number())?;
+        text.push_str(part.as_str())?;
+        between = ", ";
     }
-    assert!(rt; !is_node(tables, Node::Grant(GrantId(2))));
-    let link = Target::Bearer { for_sharing: false };
-    for (target, bearer, receives) in [
-        (link, true, true),
-        (Target::User(BEN), false, true),
-        (Target::User(AccountId(3)), false, false),
-    ] {
-        assert_eq!(rt; is_bearer(target), bearer);
-        assert_eq!(rt; may_receive(tables, target), receives);
-    }
-    for (kind, num) in [(Kind::Account, 1), (Kind::Grant, 4), (Kind::Entry, 9)] {
-        assert_eq!(rt; kind.number(), num);
-    }
-    Ok(())
+    Ok(text)
 }
