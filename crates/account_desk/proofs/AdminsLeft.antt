@@ -1,9 +1,8 @@
 -- Whether an enabled admin is left once a mark of an account is set.
-use Rattle.std.proofs.Common.{◌≡◌, ◌⊎◌, ℕ, Bool, true, zero, suc, List, [], ◌∷◌, Some, All, Contains, slice_get, get_or, length, ◌+◌, refl, sym, ◌∙◌, ap, subst, arith, inl, inr, add-one}
+use Rattle.std.proofs.Common.{◌≡◌, ◌⊎◌, ℕ, Bool, true, zero, suc, List, [], ◌∷◌, Some, All, Contains, slice_get, get_or, ◌+◌, refl, sym, ◌∙◌, ap, subst, arith, inl, inr, add-one}
 use Rattle.std.proofs.lemmas.List.Elements.{All-contains}
 use Rattle.std.proofs.lemmas.Option.{slice_get-get_or}
 use Rattle.host_base.specs.declared.ids.AccountId.{AccountId}
-use Rattle.share_graph.specs.declared.event.Event.{Event}
 use Rattle.share_graph.specs.declared.event.Event.TheVariants as event
 use Rattle.share_graph.specs.declared.rows.Account.{Account}
 use Rattle.share_graph.specs.declared.state.State.{State}

@@ -1,20 +1,16 @@
 -- Of each command the machine makes one thing at the most. A proof goes along the row, check by check.
-use Rattle.std.proofs.Common.{◌≡◌, ◌∙◌, ℕ, Bool, List, sym, ap}
+use Rattle.std.proofs.Common.{ℕ, Bool, List}
 use Rattle.host_base.specs.declared.ids.AccountId.{AccountId}
 use Rattle.host_base.specs.declared.ids.AppId.{AppId}
 use Rattle.host_base.specs.declared.ids.GrainId.{GrainId}
 use Rattle.app_manifest.specs.declared.manifest.Manifest.{Manifest}
 use Rattle.share_graph.specs.declared.desk.Caller.{Caller}
-use Rattle.share_graph.specs.declared.refusal.Refusal.{Refusal}
 use Rattle.share_graph.specs.declared.state.State.{State}
 use Rattle.share_graph.specs.Forms.{IsOne}
-use Rattle.share_graph.specs.Keys.{IsNoneOf}
 use Rattle.share_graph.specs.WellFormed.{IsWellFormed}
 use Rattle.share_graph.proofs.OneAnswer.{when_one, unless_one, must_one}
 use Rattle.desk_base.proofs.OneWord.{by_account_one, by_admin_one, known_account_one, known_app_one, known_grain_one, adds_one}
-use Rattle.desk_base.specs.Steps.{Step, refusing}
 use Rattle.account_desk.specs.Commands.{AddAccount, account_step, SetAdmin, admin_step, SetEnabled, enabled_step, AddApp, app_step, NewGrain, grain_step, Trash, trash_step}
-use Rattle.account_desk.specs.Rows.{HasHandle, IsTaken}
 use Rattle.account_desk.proofs.HandleOne.{taken_one}
 
 pub add_account_one : (s : State) → IsWellFormed s → (who : Caller) (handle name : List ℕ) → IsOne (AddAccount s who handle name)

@@ -1,21 +1,19 @@
 -- The words of the table of commands have one answer at the most, where the rest has.
-use Rattle.std.proofs.Common.{◌≡◌, ◌∙◌, List, Option, Some, None, sym, inl, inr}
+use Rattle.std.proofs.Common.{◌≡◌, ◌∙◌, Option, Some, None, sym, inl, inr}
 use Rattle.share_graph.specs.declared.desk.Caller.{Caller}
 use Rattle.host_base.specs.declared.ids.AccountId.{AccountId}
 use Rattle.host_base.specs.declared.ids.AppId.{AppId}
 use Rattle.host_base.specs.declared.ids.GrainId.{GrainId}
-use Rattle.share_graph.specs.declared.refusal.Refusal.{Refusal}
 use Rattle.share_graph.specs.declared.rows.Account.{Account}
 use Rattle.share_graph.specs.declared.rows.App.{App}
 use Rattle.share_graph.specs.declared.rows.Grain.{Grain}
 use Rattle.share_graph.specs.declared.state.State.{State}
 use Rattle.share_graph.specs.Forms.{IsOne}
-use Rattle.share_graph.specs.Rows.{IsAccount, IsApp, IsGrain}
 use Rattle.share_graph.specs.WellFormed.{IsWellFormed}
 use Rattle.share_graph.proofs.Apart.{login_one}
 use Rattle.share_graph.proofs.OneAnswer.{unless_one, some_of_one, found_or_none_one}
-use Rattle.desk_base.specs.Limits.{limit_at, adds}
-use Rattle.desk_base.specs.Steps.{Step, Refuses}
+use Rattle.desk_base.specs.Limits.{adds}
+use Rattle.desk_base.specs.Steps.{Step}
 use Rattle.desk_base.specs.Wording.{secret_of, by_account, by_admin, known_account, known_app, known_grain}
 
 pub by_account_one : (s : State) → IsWellFormed s → (who : Caller) {Rest : Account → Step → Type 0} → ((account : Account) → IsOne (Rest account)) → IsOne (by_account s who Rest)

@@ -1,22 +1,13 @@
 -- From what a test establishes into the row that begins with it, and from its refusals.
-use Rattle.std.proofs.Common.{◌≡◌, true, refl, subst, sym, inl, inr, ap}
-use Rattle.host_base.specs.declared.digest.Digest.{Digest}
-use Rattle.host_base.specs.declared.ids.AccountId.{AccountId}
-use Rattle.host_base.specs.declared.ids.AppId.{AppId}
-use Rattle.host_base.specs.declared.ids.GrainId.{GrainId}
+use Rattle.std.proofs.Common.{inl, inr, ap}
 use Rattle.share_graph.specs.declared.desk.Caller.{Caller}
-use Rattle.share_graph.specs.declared.fault.Kind.TheVariants as kind
 use Rattle.share_graph.specs.declared.refusal.Refusal.{Refusal}
-use Rattle.share_graph.specs.declared.refusal.Refusal.TheVariants as refusal
 use Rattle.share_graph.specs.declared.rows.Account.{Account}
-use Rattle.share_graph.specs.declared.rows.App.{App}
-use Rattle.share_graph.specs.declared.rows.Grain.{Grain}
 use Rattle.share_graph.specs.declared.state.State.{State}
 use Rattle.share_graph.specs.Forms.{none, found◌or◌then◌, must◌or◌then◌}
-use Rattle.share_graph.specs.Rows.{IsAccount, IsApp, IsGrain}
 use Rattle.desk_base.specs.Calling.{IsCaller, IsNoCaller, IsAdminCaller, IsNoAdminCaller}
 use Rattle.desk_base.specs.Steps.{Step, Refuses}
-use Rattle.desk_base.specs.Wording.{secret_of, by_account, by_admin, known_account, known_app, known_grain}
+use Rattle.desk_base.specs.Wording.{secret_of, by_account, by_admin}
 
 pub account_calls : (s : State) (who : Caller) (Rest : Account → Step → Type 0) (account : Account) (step : Step) → IsCaller s (secret_of who) account → Rest account step → by_account s who Rest step
 account_calls s who Rest account step is rest = inr (account, is.one, inr (is.enabled, rest))

@@ -1,5 +1,5 @@
 -- How many rows there may be: where an event's row would be one too many. A digest has no part in that.
-use Rattle.std.specs.Prelude.{◌≡◌, ◌⊎◌, ℕ, Bool, length, count_by, Option, Some, None, nat_le, nat_lt, replicate, ◌==◌, not, if◌then◌else◌}
+use Rattle.std.specs.Prelude.{◌≡◌, ◌⊎◌, ℕ, Bool, length, count_by, Option, Some, None, nat_le, nat_lt, replicate, not, if◌then◌else◌}
 use Rattle.host_base.specs.declared.digest.Digest.{Digest}
 use Rattle.share_graph.specs.declared.event.Event.{Event}
 use Rattle.share_graph.specs.declared.event.Event.TheVariants as event

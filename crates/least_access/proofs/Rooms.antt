@@ -1,5 +1,5 @@
 -- How much more can be held after a union: at most as much as a part can, and as much only where the union is that part.
-use Rattle.std.proofs.Common.{◌≡◌, ◌+◌, ◌≤◌, ◌⊎◌, ◌↔◌, ℕ, Bool, true, false, length, inl, arith, refl, sym, ap, ◌∙◌, if◌then◌else◌}
+use Rattle.std.proofs.Common.{◌≡◌, ◌+◌, ◌≤◌, ℕ, Bool, true, false, length, arith, refl, sym, ap, ◌∙◌, if◌then◌else◌}
 use Rattle.perm_roles.specs.declared.perm_set.PermSet.{PermSet}
 use Rattle.perm_roles.specs.PermSet.{Has, positions}
 use Rattle.perm_roles.proofs.Measures.{length-positions-part, same_length, length-positions-64}

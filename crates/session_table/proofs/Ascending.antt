@@ -1,7 +1,7 @@
 -- Ascending lists of the same numbers are one list.
-use Rattle.std.proofs.Common.{◌≡◌, ◌<◌, ◌≤◌, ◌+◌, ◌⊎◌, ◌↔◌, ℕ, zero, suc, List, [], ◌∷◌, Contains, length, get_or, refl, sym, inl, inr, arith, add-one}
+use Rattle.std.proofs.Common.{◌≡◌, ◌<◌, ◌⊎◌, ◌↔◌, ℕ, zero, suc, List, [], ◌∷◌, Contains, length, get_or, refl, sym, inl, inr, arith, add-one}
 use Rattle.std.specs.List.Sorted.{IsStrictlyIncreasing}
-use Rattle.std.proofs.lemmas.List.Elements.{Contains-append_right, Contains-append_cases}
+use Rattle.std.proofs.lemmas.List.Elements.{Contains-append_right}
 
 abbrev Rises : List ℕ → Type 0
 Rises xs = (k : ℕ) → suc k < length xs → get_or xs k 0 < get_or xs (suc k) 0

@@ -1,5 +1,5 @@
 -- A key has one verdict.
-use Rattle.std.proofs.Common.{◌≡◌, ◌<◌, ◌≤◌, ◌+◌, ◌⊎◌, ◌==◌, ◌++◌, ℕ, Bool, true, List, Option, Some, None, Contains, count_by, take, drop, slice_get, get_or, refl, sym, ◌∙◌, ap, subst, arith, inl, inr, cond}
+use Rattle.std.proofs.Common.{◌≡◌, ◌<◌, ◌≤◌, ◌+◌, ◌⊎◌, ◌==◌, ◌++◌, ℕ, Bool, true, List, Option, Some, None, count_by, take, drop, slice_get, get_or, sym, ◌∙◌, ap, subst, arith, inl, inr, cond}
 use Rattle.std.proofs.lemmas.List.{take-take, take-append-drop}
 use Rattle.std.proofs.lemmas.List.Sums.{count_by_more_yes, sum_by-append}
 use Rattle.std.proofs.lemmas.Option.{slice_get_within, get_or_from_slice_get}
@@ -13,7 +13,6 @@ use Rattle.host_base.specs.declared.permit.Permit.{Permit}
 use Rattle.host_base.specs.declared.permit.Shown.{Shown}
 use Rattle.host_base.specs.declared.permit.Shown.TheVariants as shown
 use Rattle.host_base.specs.declared.permit.TabMark.{TabMark}
-use Rattle.host_base.specs.declared.verdict.Verdict.{Verdict}
 use Rattle.host_base.specs.declared.verdict.Verdict.TheVariants as verdict
 use Rattle.share_graph.specs.declared.grants.Grant.{Grant}
 use Rattle.share_graph.specs.declared.rows.Account.{Account}
@@ -28,7 +27,6 @@ use Rattle.share_graph.specs.declared.ways.Origin.{Origin}
 use Rattle.share_graph.specs.declared.ways.Origin.TheVariants as origin
 use Rattle.share_graph.specs.Forms.{IsOne}
 use Rattle.share_graph.specs.Keys.{IsOneOf, IsLiveRun, IsHandleOf}
-use Rattle.share_graph.specs.Rows.{IsGrant}
 use Rattle.share_graph.specs.WellFormed.{IsWellFormed, AreNumberedByRun}
 use Rattle.share_graph.proofs.Apart.{bearer_one, key_one, run_token_one}
 use Rattle.share_graph.proofs.Contained.{place_of}

@@ -5,7 +5,6 @@ use Rattle.share_graph.specs.declared.fault.GraphFault.{GraphFault}
 use Rattle.share_graph.specs.declared.grants.Grant.{Grant}
 use Rattle.share_graph.specs.declared.rows.App.{App}
 use Rattle.share_graph.specs.declared.rows.Grain.{Grain}
-use Rattle.share_graph.specs.declared.state.State.{State}
 use Rattle.share_graph.specs.declared.state.Tables.{Tables}
 use Rattle.share_graph.specs.Rows.{row}
 use Rattle.share_graph.specs.Fitting.{IsSoundManifest, SetsFit, SharesWell}

@@ -1,5 +1,5 @@
 -- What a look-up tells of whether a row is there.
-use Rattle.std.proofs.Common.{◌≡◌, Bool, true, false, IsTrue, Option, Some, None, Bor, sym, ◌∙◌, ap, subst}
+use Rattle.std.proofs.Common.{◌≡◌, Bool, IsTrue, Option, Some, None, Bor, sym, ◌∙◌, subst}
 use Rattle.std.proofs.lemmas.Bool.{false≢true}
 use Rattle.std.specs.Option.{is_some, option_copied}
 use Rattle.host_base.specs.declared.ids.GrantId.{GrantId}

@@ -9,11 +9,10 @@ use Rattle.share_graph.specs.declared.facts.Node.TheVariants as node
 use Rattle.share_graph.specs.declared.grants.Grant.{Grant}
 use Rattle.share_graph.specs.declared.grants.Need.{Need}
 use Rattle.share_graph.specs.declared.state.Tables.{Tables}
-use Rattle.share_graph.specs.Callers.{LacksEntry, entry}
+use Rattle.share_graph.specs.Callers.{entry}
 use Rattle.share_graph.specs.Derivation.{Holds}
-use Rattle.share_graph.specs.Forms.{IsOne, must◌or◌then◌}
-use Rattle.share_graph.specs.Missing.{AreMet, IsFirstUnmet, IsUnmet, UserMissing, GrantMissing, IsMissing}
-use Rattle.share_graph.specs.Rows.{IsGrant}
+use Rattle.share_graph.specs.Forms.{IsOne}
+use Rattle.share_graph.specs.Missing.{AreMet, IsFirstUnmet, IsUnmet, GrantMissing, IsMissing}
 use Rattle.share_graph.proofs.Contained.{contains_at}
 use Rattle.share_graph.proofs.OneAnswer.{answers_one, when_one, unless_one, must_one}
 

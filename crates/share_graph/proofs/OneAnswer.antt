@@ -1,7 +1,7 @@
 -- Rows of checks have one answer at the most.
-use Rattle.std.proofs.Common.{◌≡◌, ◌⊎◌, List, Option, Some, None, sym, ◌∙◌, subst, inl, inr}
+use Rattle.std.proofs.Common.{◌≡◌, List, Option, Some, None, sym, ◌∙◌, subst, inl, inr}
 use Rattle.share_graph.specs.Forms.{answers, when◌then◌else◌, unless◌then◌else◌, must◌or◌then◌, found◌or◌then◌, none, some◌of◌or◌then◌, first◌then◌, IsOne}
-use Rattle.share_graph.specs.Keys.{IsOneOf, IsNoneOf}
+use Rattle.share_graph.specs.Keys.{IsOneOf}
 
 pub answers_one : {A : Type 0} (answer : A) → IsOne (answers answer)
 answers_one answer = record { one = λ a b x y. x ∙ sym y }

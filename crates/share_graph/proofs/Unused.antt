@@ -1,19 +1,13 @@
 -- A digest that no row of any kind has is unused.
-use Rattle.std.proofs.Common.{◌≡◌, ◌⊎◌, ◌++◌, ℕ, zero, suc, List, [], ◌∷◌, map, Contains, Option, Some, None, slice_get, refl, sym, ◌∙◌, ap, inl, inr, arith}
+use Rattle.std.proofs.Common.{◌≡◌, ◌++◌, ℕ, zero, suc, List, [], ◌∷◌, map, Contains, Option, Some, None, slice_get, refl, sym, ◌∙◌, ap, inl, inr, arith}
 use Rattle.std.specs.List.{filter_map}
 use Rattle.std.specs.Option.{option_map}
 use Rattle.std.proofs.lemmas.List.Elements.{Contains-append_cases, Contains-append_right}
 use Rattle.std.proofs.lemmas.Option.{slice_get-map}
 use Rattle.host_base.specs.declared.digest.Digest.{Digest}
-use Rattle.share_graph.specs.declared.fault.Kind.{Kind}
-use Rattle.share_graph.specs.declared.grants.Grant.{Grant}
-use Rattle.share_graph.specs.declared.rows.Account.{Account}
-use Rattle.share_graph.specs.declared.rows.Saved.{Saved}
-use Rattle.share_graph.specs.declared.sessions.Run.{Run}
-use Rattle.share_graph.specs.declared.sessions.Session.{Session}
 use Rattle.share_graph.specs.declared.state.State.{State}
 use Rattle.share_graph.specs.Keys.{IsNoneOf, HasLogin, HasToken, HasReference, HasKey, HasRunToken}
-use Rattle.share_graph.specs.Kinds.{KnownDigest, HasDigest, IsUnused}
+use Rattle.share_graph.specs.Kinds.{KnownDigest, IsUnused}
 use Rattle.share_graph.proofs.Apart.{logins, known_token, token_of, tokens, references, keys, run_tokens}
 use Rattle.share_graph.proofs.Contained.{contains_at, place_of}
 

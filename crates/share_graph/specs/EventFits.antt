@@ -1,7 +1,4 @@
 -- When an event fits a state.
-use Rattle.host_base.specs.declared.ids.RunId.{RunId}
-use Rattle.host_base.specs.declared.ids.SavedId.{SavedId}
-use Rattle.host_base.specs.declared.ids.SessionId.{SessionId}
 use Rattle.share_graph.specs.declared.event.Event.{Event}
 use Rattle.share_graph.specs.declared.event.Event.TheVariants as event
 use Rattle.share_graph.specs.declared.rows.Saved.{Saved}

@@ -1,5 +1,5 @@
 -- Room in a list that grows to twice its length where that is a power of two.
-use Rattle.std.specs.Prelude.{◌≡◌, ◌<◌, ◌≤◌, ◌+◌, ◌*◌, ◌^◌, ℕ, Option, Some, None, List, [], vec_capacity}
+use Rattle.std.specs.Prelude.{◌≡◌, ◌<◌, ◌≤◌, ◌+◌, ◌*◌, ◌^◌, ℕ, Option, Some, None, [], vec_capacity}
 use Rattle.std.specs.Global.{Vec}
 
 -- the number lies between two neighbouring powers of two

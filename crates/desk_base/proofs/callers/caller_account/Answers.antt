@@ -1,4 +1,4 @@
-use Rattle.std.proofs.Common.{◌≡◌, refl, subst, inl}
+use Rattle.std.proofs.Common.{refl, subst, inl}
 use Rattle.host_base.specs.declared.digest.Digest.{Digest}
 use Rattle.share_graph.specs.Keys.{IsNoneOf, HasLogin}
 use Rattle.desk_base.proofs.callers.caller_account.Goals as goal

@@ -1,7 +1,6 @@
 use Rattle.std.proofs.Common.{◌≡◌, Some, None, refl, sym, ◌∙◌, ap, inl, inr}
 use Rattle.std.specs.Option.{option_copied}
 use Rattle.share_graph.specs.declared.facts.Node.TheVariants as node
-use Rattle.share_graph.specs.declared.grants.Grant.{Grant}
 use Rattle.share_graph.proofs.MissingOne.{none_held}
 use Rattle.session_table.specs.Standing.{behind_grant}
 use Rattle.session_table.specs.Verdict.{Stands, Reaches}

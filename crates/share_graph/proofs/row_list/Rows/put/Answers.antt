@@ -1,4 +1,4 @@
-use Rattle.std.proofs.Common.{◌≡◌, ◌+◌, ◌≤◌, None, Some, vec_len, vec_capacity, rules, arith, subst}
+use Rattle.std.proofs.Common.{◌≡◌, ◌+◌, ◌≤◌, Some, vec_len, vec_capacity, rules, subst}
 use Rattle.share_graph.specs.Rooms.{IsBetweenPowers, HasRoom, IsRoomBeside}
 use Rattle.share_graph.proofs.Roomy.{roomy_next, roomy_more}
 use Rattle.share_graph.proofs.row_list.Rows.put.Goals as goal

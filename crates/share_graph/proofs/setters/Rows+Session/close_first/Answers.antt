@@ -1,5 +1,4 @@
-use Rattle.std.proofs.Common.{subst, ◌≡◌, List}
-use Rattle.share_graph.specs.declared.sessions.Session.{Session}
+use Rattle.std.proofs.Common.{subst}
 use Rattle.share_graph.specs.Opening.{NoneIsOpen, IsFirstOpen}
 use Rattle.share_graph.proofs.ClosedFirst.{closes_first, closes_none}
 use Rattle.share_graph.proofs.setters.Rows+Session.close_first.Goals as goal
