@@ -92,17 +92,17 @@ module _ (s : State) (formed : IsWellFormed s) (a : AccountId) (f : Account → 
 admin_marks : (a : AccountId) (on : Bool) → Marks a (with_admin on) (IsAdminThen a on)
 admin_marks a on = record {
   here = λ x its enabled admin. (enabled, inl (its, admin));
-  here_back = λ x its (enabled, sides). elim sides [ | inl (also, granted) ↦ (enabled, granted) | inr (other, was) ↦ absurd (other its) ];
+  here_back = λ x its (enabled, sides). elim sides [ inl (also, granted) ↦ (enabled, granted) | inr (other, was) ↦ absurd (other its) ];
   there = λ x other enabled admin. (enabled, inr (other, admin));
-  there_back = λ x other (enabled, sides). elim sides [ | inl (its, granted) ↦ absurd (other its) | inr (also, was) ↦ (enabled, was) ];
+  there_back = λ x other (enabled, sides). elim sides [ inl (its, granted) ↦ absurd (other its) | inr (also, was) ↦ (enabled, was) ];
 }
 
 enabled_marks : (a : AccountId) (on : Bool) → Marks a (with_enabled on) (IsEnabledThen a on)
 enabled_marks a on = record {
   here = λ x its enabled admin. (admin, inl (its, enabled));
-  here_back = λ x its (admin, sides). elim sides [ | inl (also, granted) ↦ (granted, admin) | inr (other, was) ↦ absurd (other its) ];
+  here_back = λ x its (admin, sides). elim sides [ inl (also, granted) ↦ (granted, admin) | inr (other, was) ↦ absurd (other its) ];
   there = λ x other enabled admin. (admin, inr (other, enabled));
-  there_back = λ x other (admin, sides). elim sides [ | inl (its, granted) ↦ absurd (other its) | inr (also, was) ↦ (was, admin) ];
+  there_back = λ x other (admin, sides). elim sides [ inl (its, granted) ↦ absurd (other its) | inr (also, was) ↦ (was, admin) ];
 }
 
 pub none_left : (s : State) → IsWellFormed s → (a : AccountId) (on : Bool) → All (λ (x : Account). IsAdminThen a on x → ⊥) s.tables.accounts → LeavesNoAdmin s.tables (event.AdminSet a on)

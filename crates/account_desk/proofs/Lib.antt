@@ -2,4 +2,3 @@ pub mod AdminsLeft
 pub mod HandleOne
 pub mod OneRows
 pub mod FitRows
-pub mod Stopping

@@ -44,12 +44,7 @@ fn is_free_handle(tables: &Tables, handle: &Name) -> Result<(), Refusal>
 }
 
 // The checks of `add_account`.
-fn check_add_account(
-    state: &State,
-    caller: &Caller,
-    handle: &Name,
-    name: &Name,
-) -> Result<(), Stop>
+fn check_add_account(state: &State, caller: &Caller, handle: &Name, name: &Name) -> Result<(), Stop>
     ensures { Checks (AddAccount state.now caller.now handle.now name.now) (λ _. account_step state.now.tables handle.now name.now) result }
 {
     caller_admin(state, caller)?;
@@ -71,13 +66,11 @@ pub fn add_account_ready(
     let _ = solved;
     match check_add_account(state, caller, handle, name) {
         Ok(()) => Ok(Readiness::Draw),
-        Err(Stop::Refused(refusal)) => Err(DeskFault::Refused(refusal)),
-        Err(Stop::Same(made)) => Ok(Readiness::Same(made)),
+        Err(stop) => stop.readiness(),
     }
 }
 
 /// Adds an account, whose login has the digest; it is enabled and no admin. The reply shows its number.
-#[tactic(auto, using(crate::proofs::OneRows::add_account_one, crate::proofs::FitRows::add_account_fits))]
 pub fn add_account(
     state: &State,
     solved: &Solved,
@@ -95,8 +88,7 @@ pub fn add_account(
     let _ = solved;
     match check_add_account(state, caller, handle, name) {
         Ok(()) => {}
-        Err(Stop::Refused(refusal)) => return Err(DeskFault::Refused(refusal)),
-        Err(Stop::Same(made)) => return Ok(Outcome::Same(made)),
+        Err(stop) => return stop.outcome(),
     }
     if let Some((kind, num)) = clash(state, &digest) {
         return Err(DeskFault::Refused(Refusal::TokenClash(kind, num)));

@@ -97,7 +97,6 @@ fn check_set_enabled(state: &State, caller: &Caller, num: AccountId, on: bool) -
 }
 
 /// Makes an account an admin, or none. An enabled admin is always left.
-#[tactic(auto, using(crate::proofs::OneRows::set_admin_one, crate::proofs::FitRows::set_admin_fits))]
 pub fn set_admin(
     state: &State,
     solved: &Solved,
@@ -113,13 +112,11 @@ pub fn set_admin(
     let _ = solved;
     match check_set_admin(state, caller, num, on) {
         Ok(()) => Ok(Outcome::Change(Event::AdminSet(num, on), NOTHING)),
-        Err(Stop::Refused(refusal)) => Err(DeskFault::Refused(refusal)),
-        Err(Stop::Same(made)) => Ok(Outcome::Same(made)),
+        Err(stop) => stop.outcome(),
     }
 }
 
 /// Enables an account, or disables it. An enabled admin is always left.
-#[tactic(auto, using(crate::proofs::OneRows::set_enabled_one, crate::proofs::FitRows::set_enabled_fits))]
 pub fn set_enabled(
     state: &State,
     solved: &Solved,
@@ -135,7 +132,6 @@ pub fn set_enabled(
     let _ = solved;
     match check_set_enabled(state, caller, num, on) {
         Ok(()) => Ok(Outcome::Change(Event::EnabledSet(num, on), NOTHING)),
-        Err(Stop::Refused(refusal)) => Err(DeskFault::Refused(refusal)),
-        Err(Stop::Same(made)) => Ok(Outcome::Same(made)),
+        Err(stop) => stop.outcome(),
     }
 }

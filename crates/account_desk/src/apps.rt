@@ -31,7 +31,6 @@ fn copy_of_manifest(manifest: &Manifest) -> Result<Manifest, Memory>
 }
 
 /// Adds an application with a manifest, of which a copy is kept. The reply shows its number.
-#[tactic(auto, using(crate::proofs::OneRows::add_app_one, crate::proofs::FitRows::add_app_fits))]
 pub fn add_app(
     state: &State,
     solved: &Solved,
@@ -45,10 +44,8 @@ pub fn add_app(
     ensures fits { RowFits state.now (AddApp state.now caller.now manifest.now) }
 {
     let _ = solved;
-    match check_add_app(state, caller, manifest) {
-        Ok(()) => {}
-        Err(Stop::Refused(refusal)) => return Err(DeskFault::Refused(refusal)),
-        Err(Stop::Same(made)) => return Ok(Outcome::Same(made)),
+    if let Err(stop) = check_add_app(state, caller, manifest) {
+        return stop.outcome();
     }
     let num = state.tables.apps.as_slice().len() as u32 + 1;
     let app = App {

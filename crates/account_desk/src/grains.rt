@@ -44,8 +44,7 @@ pub fn new_grain(
     let _ = solved;
     let owner = match check_new_grain(state, caller, app, title) {
         Ok(owner) => owner,
-        Err(Stop::Refused(refusal)) => return Err(DeskFault::Refused(refusal)),
-        Err(Stop::Same(made)) => return Ok(Outcome::Same(made)),
+        Err(stop) => return stop.outcome(),
     };
     let num = state.tables.grains.as_slice().len() as u32 + 1;
     let grain = Grain {
@@ -77,18 +76,12 @@ fn check_trash(state: &State, caller: &Caller, num: GrainId, on: bool) -> Result
     Ok(())
 }
 
-fn set_trashed(
-    state: &State,
-    caller: &Caller,
-    num: GrainId,
-    on: bool,
-) -> Result<Outcome, DeskFault>
+fn set_trashed(state: &State, caller: &Caller, num: GrainId, on: bool) -> Result<Outcome, DeskFault>
     ensures { IsCarried (Trash state.now caller.now num on) result }
 {
     match check_trash(state, caller, num, on) {
         Ok(()) => Ok(Outcome::Change(Event::TrashedSet(num, on), NOTHING)),
-        Err(Stop::Refused(refusal)) => Err(DeskFault::Refused(refusal)),
-        Err(Stop::Same(made)) => Ok(Outcome::Same(made)),
+        Err(stop) => stop.outcome(),
     }
 }
 

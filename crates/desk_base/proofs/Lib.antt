@@ -2,3 +2,4 @@ pub mod Words
 pub mod OneWord
 pub mod FitForms
 pub mod Room
+pub mod Stopped

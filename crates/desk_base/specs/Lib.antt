@@ -6,3 +6,4 @@ pub mod Outcomes
 pub mod Accepting
 pub mod Calling
 pub mod Fitting
+pub mod Stopping

@@ -6,7 +6,9 @@ use share_graph::{Kind, Refusal, Tables};
 
 /// The most accounts, applications and grains that a server has.
 pub const ACCOUNTS: u32 = 4_096;
+
 pub const APPS: u32 = 256;
+
 pub const GRAINS: u32 = 16_384;
 
 // Whether there is room for one more of a kind.

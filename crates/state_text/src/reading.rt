@@ -5,7 +5,6 @@ use crate::fault::{ReadFault, Unread};
 use crate::grants::grant;
 use crate::rows::{account, grain, handle, run, saved, session};
 use crate::words::Words;
-
 use share_graph::{Rows, State, Tables};
 use std::alloc::Global;
 

@@ -16,10 +16,7 @@ use Rattle.share_graph.specs.Fitting.{ForApp}
 use Rattle.share_graph.specs.Keys.{IsBearer, IsOneOf}
 use Rattle.share_graph.specs.Parents.{IsChild, PassesTo}
 use Rattle.share_graph.specs.WellFormed.{IsRootedHandle, MayRoot}
-
--- a grain has one application
-app_unique : (t : Tables) (n : GrainId) (a b : App) → IsAppOf t n a → IsAppOf t n b → a ≡ b
-app_unique t n a b (grain, is, of) (other, there, by) = let same : grain ≡ other = cc in cc
+use Rattle.share_graph.proofs.Fits.{app_unique}
 
 -- what a test tells of the application that was found, it tells of the grain's application
 pub for_app : (t : Tables) (n : GrainId) (P : App → Type 0) (app : App) (test : Bool) → IsAppOf t n app → IsTrue test ↔ P app → IsTrue test ↔ ForApp t n P

@@ -1,7 +1,7 @@
 -- Walks over rows, in order, of which something was so at each place so far.
-use Rattle.std.proofs.Common.{◌≡◌, ◌≤◌, ◌<◌, ◌⊎◌, ◌+◌, ℕ, List, Some, length, slice_get, slice_index_or, inl, inr, refl, sym, subst, arith}
+use Rattle.std.proofs.Common.{◌≡◌, ◌≤◌, ◌<◌, ◌⊎◌, ◌+◌, ℕ, List, Some, length, slice_get, inl, inr, sym, subst, arith}
 use Rattle.std.proofs.lemmas.Bool.{cases_lt}
-use Rattle.std.proofs.lemmas.Option.{slice_get_read, slice_get_within}
+use Rattle.std.proofs.lemmas.Option.{slice_get_within}
 
 -- it is so of each row
 abbrev pub AtEach : {X : Type 0} → List X → (ℕ → X → Type 0) → Type 0
@@ -10,10 +10,6 @@ AtEach {X} rows P = (k : ℕ) (row : X) → slice_get rows k ≡ Some row → P 
 -- it is so of each row before a place
 abbrev pub AtEachBelow : {X : Type 0} → List X → (ℕ → X → Type 0) → ℕ → Type 0
 AtEachBelow {X} rows P i = (k : ℕ) (row : X) → k < i → slice_get rows k ≡ Some row → P k row
-
--- the row that a walk is at
-pub at_place : {X : Type 0} (rows items : List X) (i : ℕ) (row : X) → items ≡ rows → i < length items → row ≡ slice_index_or items i row → slice_get rows i ≡ Some row
-at_place rows items i row same within is = subst (λ (xs : List _). slice_get xs i ≡ Some row) same (slice_get_read items (length items) i row refl within is)
 
 -- one row more
 pub one_more : {X : Type 0} (rows : List X) (P : ℕ → X → Type 0) (i : ℕ) (row : X) → slice_get rows i ≡ Some row → P i row → AtEachBelow rows P i → AtEachBelow rows P (i + 1)

@@ -1,6 +1,7 @@
-use Rattle.std.proofs.Common.{inl, inr, refl}
-use Rattle.desk_base.proofs.Words.{account_calls, found_row}
+use Rattle.std.proofs.Common.{inl, inr, refl, rules}
 use Rattle.account_desk.proofs.grains.check_trash.Goals as goal
 
 pub returns-then-ne : goal.returns-then-ne
-returns-then-ne c = account_calls _ _ _ _ _ c.in_ok-account.ensures (found_row _ _ _ _ _ c.in_ok-grain.ensures (inl (refl, ?)))
+returns-then-ne c =
+    let account = c.in_ok-account.ensures in
+    inr (_, account.one, inr (account.enabled, inr (_, c.in_ok-grain.ensures, inl (refl, search rules))))
