@@ -64,7 +64,7 @@ fn manifest(alloc: Global, written: &str) -> Result<Manifest, NoAnswer> {
 }
 
 /// The command that words state.
-pub(crate) fn command(alloc: Global, words: &mut Words<'_>) -> Result<Command, NoAnswer> {
+pub(crate) fn read_command(alloc: Global, words: &mut Words<'_>) -> Result<Command, NoAnswer> {
     match words.word() {
         "add_account" => add_account(alloc, words),
         "set_admin" => Ok(Command::SetAdmin(AccountId(words.number()), switch(words))),

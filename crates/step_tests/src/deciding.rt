@@ -1,7 +1,6 @@
 //! What becomes of a command.
 
-ghost use Rattle.std.specs.Prelude.{IfOk};
-ghost use Rattle.least_access.specs.Solved.{IsSolutionOf};
+ghost use Rattle.share_graph.specs.WellFormed.{IsWellFormed};
 
 use crate::commands::Command;
 use crate::fault::NoAnswer;
@@ -13,18 +12,7 @@ use least_access::{Solved, solve};
 use share_graph::{Caller, DeskFault, Made, Outcome, State};
 use std::alloc::{AllocError, Global};
 use std::fmt::Write;
-use table_check::{check_tables, is_handle_name, is_well_formed, is_within_limits, manifest_fits};
-
-// The solution of a state's tables.
-fn solved(alloc: Global, state: &State) -> Result<Solved, NoAnswer> {
-    if check_tables(&state.tables).is_err() {
-        return Err(NoAnswer::IllFormed);
-    }
-    if !is_within_limits(&state.tables) {
-        return Err(NoAnswer::IllFormed);
-    }
-    Ok(solve(alloc, &state.tables)?)
-}
+use table_check::{is_handle_name, is_well_formed, manifest_fits};
 
 // What the desk decides on a command.
 fn decided(
@@ -32,10 +20,9 @@ fn decided(
     solved: &Solved,
     caller: &Caller,
     command: &Command,
-) -> Result<Result<Outcome, DeskFault>, NoAnswer> {
-    if !is_well_formed(state) {
-        return Err(NoAnswer::IllFormed);
-    }
+) -> Result<Result<Outcome, DeskFault>, NoAnswer>
+    requires { IsWellFormed state.now }
+{
     Ok(match command {
         Command::AddAccount(handle, name, digest) => {
             if !is_handle_name(handle) {
@@ -123,7 +110,10 @@ pub(crate) fn put_command(
     caller: &Caller,
     command: &Command,
 ) -> Result<(), NoAnswer> {
-    let solved = solved(alloc, state)?;
+    if !is_well_formed(state) {
+        return Err(NoAnswer::IllFormed);
+    }
+    let solved = solve(alloc, &state.tables)?;
     put_readiness(out, state, &solved, caller, command)?;
     let outcome = decided(state, &solved, caller, command)?;
     put_outcome(alloc, out, state, outcome)

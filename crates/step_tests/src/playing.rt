@@ -1,6 +1,6 @@
 //! What a line does.
 
-use crate::commands::{caller, command};
+use crate::commands::{caller, read_command};
 use crate::deciding::put_command;
 use crate::drawing::{digest, put_behind, put_first, put_key, put_listed, put_token};
 use crate::events::event;
@@ -44,7 +44,7 @@ fn put_decision(
     words: &mut Words<'_>,
 ) -> Result<(), NoAnswer> {
     let caller = caller(alloc, who, words)?;
-    let command = command(alloc, words)?;
+    let command = read_command(alloc, words)?;
     words.end()?;
     put_command(alloc, out, state, &caller, &command)
 }
