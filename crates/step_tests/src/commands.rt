@@ -1,6 +1,6 @@
 //! The notation of commands.
 
-use crate::drawing::{digest, token_digest};
+use crate::drawing::{digest, in_sequence, token_digest};
 use crate::events::switch;
 use crate::fault::NoAnswer;
 use app_manifest::Manifest;
@@ -37,13 +37,7 @@ fn drawn(alloc: Global, words: &mut Words<'_>) -> Result<Digest, NoAnswer> {
     if words.skip("drawing") {
         return digest(alloc, words);
     }
-    token_digest(
-        alloc,
-        &Secret([
-            0, 0, 0, 1, 0, 0, 0, 1, 0, 0, 0, 1, 0, 0, 0, 1, 0, 0, 0, 1, 0, 0, 0, 1, 0, 0, 0, 1, 0,
-            0, 0, 1,
-        ]),
-    )
+    token_digest(alloc, &in_sequence(1))
 }
 
 fn add_account(alloc: Global, words: &mut Words<'_>) -> Result<Command, NoAnswer> {

@@ -90,17 +90,19 @@ pub(crate) fn put_listed(
     put_list(out, ListSecrets::new(items, fails), draws)
 }
 
+/// The secret of a number in sequence, which is never without one.
+pub(crate) fn in_sequence(number: u32) -> Secret {
+    let mut secrets = SeqSecrets::behind(number.wrapping_sub(1));
+    Secret(secrets.draw().unwrap_or([0; 32]))
+}
+
 // A secret: that of a number in sequence, or one of equal bytes.
 fn secret(words: &mut Words<'_>) -> Secret {
-    if !words.skip("seq") {
-        return match u8::try_from(words.number()) {
-            Ok(byte) => Secret([byte; 32]),
-            Err(_) => words.fails_as(Secret([0; 32])),
-        };
+    if words.skip("seq") {
+        return in_sequence(words.number());
     }
-    let mut secrets = SeqSecrets::behind(words.number().wrapping_sub(1));
-    match secrets.draw() {
-        Ok(secret) => Secret(secret),
+    match u8::try_from(words.number()) {
+        Ok(byte) => Secret([byte; 32]),
         Err(_) => words.fails_as(Secret([0; 32])),
     }
 }
