@@ -36,7 +36,7 @@ fn has_one_default(roles: &[Role]) -> bool
 }
 
 /// Whether a manifest is within its limits, with names and sets that fit.
-pub(crate) fn manifest_fits(manifest: &Manifest) -> bool
+pub fn manifest_fits(manifest: &Manifest) -> bool
     ensures { IsTrue result ↔ IsSoundManifest manifest.now }
 {
     let permissions = manifest.permissions.as_slice();

@@ -133,7 +133,7 @@ fn has_handle_form(text: &[u8]) -> bool
 }
 
 /// Whether a name has the form of a handle.
-pub(crate) fn is_handle_name(name: &Name) -> bool
+pub fn is_handle_name(name: &Name) -> bool
     ensures { result ≡ is_handle name.now }
 {
     has_handle_form(name.as_str().as_bytes())

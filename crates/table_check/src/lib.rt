@@ -17,5 +17,7 @@ mod rooting;
 mod well_formed;
 
 pub use checking::check_tables;
+pub use fitting::manifest_fits;
+pub use fresh::is_handle_name;
 pub use limits::is_within_limits;
 pub use well_formed::is_well_formed;

@@ -1,0 +1,69 @@
+//! Plays events, commands and secrets. A line of the input begins a state, adds rows to it, or asks:
+//!
+//! ```text
+//! empty                       begins a state with no rows
+//! book                        begins the small book
+//! account ada 01 admin        adds a row, in the notation of `state_text`
+//! each 5 to 40 account u% %   adds a row for each number, whose four hexadecimal digits stand for `%`
+//! event EVENT                 performs an event: the row that it names, and the rows that are others then, before and after
+//! WHO COMMAND                 gives a command to the desk of accounts, and performs its event
+//! clash DIGEST                asks which row has a digest
+//! seq N                       draws the first secrets in sequence
+//! behind N draws N            draws secrets in sequence behind the one of a number
+//! list N,N fails N,N draws N  draws from a list of secrets, each of 32 equal bytes, that fails at some calls
+//! token SECRET, key SECRET    asks for the text of a secret
+//! ```
+//!
+//! An EVENT is a row that is added, or
+//!
+//! ```text
+//! admin N on|off     enabled N on|off     trash N on|off     revoke N     drop N     stop N     close N
+//! claim GRANT ; HANDLE   a row of a grant and one of a handle
+//! ```
+//!
+//! WHO is ada, zoe, ben or dan, or `by DIGEST`. A COMMAND is
+//!
+//! ```text
+//! add_account TEXT TEXT [drawing DIGEST]     set_admin N on|off     set_enabled N on|off     add_app APP
+//! new_grain N TEXT     trash N     untrash N
+//! ```
+//!
+//! A SECRET is `N`, 32 bytes N, or `seq N`, the one of a number in sequence. A DIGEST is `token SECRET`, `key SECRET`, or as in states.
+//! Lines that begin a state or ask are printed, and after each question its answer; of the others those that can't be read.
+#![tactic(auto)]
+
+mod commands;
+mod deciding;
+mod differing;
+mod drawing;
+mod events;
+mod fault;
+mod playing;
+mod stepping;
+
+use crate::playing::{Played, play};
+use share_graph::State;
+use state_text::{Unread, empty_state};
+use std::alloc::{AllocError, Global};
+use std::io;
+
+// Plays a line, and prints what it is to.
+fn play_line(rt: &impl Print, alloc: Global, state: &mut State, line: &str) -> io::Result<()> {
+    match play(alloc, state, line) {
+        Ok(Played::Rows) => Ok(()),
+        Ok(Played::Begun) => println!(rt; "{line}"),
+        Ok(Played::Answered(answer)) => println!(rt; "{line}\n    {answer}"),
+        Err(Unread::Form) => println!(rt; "this line can't be read: {line}"),
+        Err(Unread::Memory) => Err(io::Error::from(AllocError)),
+    }
+}
+
+fn main(rt: HostRuntime) -> io::Result<()> {
+    let alloc = rt.alloc();
+    let mut state = empty_state(alloc);
+    for line in rt.lines(alloc) {
+        let line = line?;
+        play_line(&rt, alloc, &mut state, line.as_str())?;
+    }
+    Ok(())
+}
