@@ -1,0 +1,6 @@
+pub mod Adding
+pub mod Arriving
+pub mod Clearing
+pub mod Reaching
+pub mod Room
+pub mod Seeds
