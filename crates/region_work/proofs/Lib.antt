@@ -11,3 +11,4 @@ pub mod Owned
 pub mod Started
 pub mod Resumed
 pub mod Emptied
+pub mod Words

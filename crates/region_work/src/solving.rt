@@ -1,11 +1,11 @@
 //! Solving a region again.
 
-ghost use Rattle.std.specs.Prelude.{◌≡◌, ◌≤◌, ◌+◌};
+ghost use Rattle.std.specs.Prelude.{◌≡◌, ◌≤◌, ◌+◌, length};
 ghost use Rattle.share_graph.specs.Coherent.{IsCoherent};
 ghost use Rattle.least_access.specs.Solved.{IsSolutionOf};
 ghost use Rattle.region_work.specs.Fed.{fed_in};
 ghost use Rattle.region_work.specs.Prepared.{HasGrants, IsPrepared, IsFresh};
-ghost use Rattle.region_work.specs.Starting.{bound_by};
+ghost use Rattle.region_work.specs.Starting.{needs_by, most_tests};
 ghost use Rattle.region_work.specs.Working.{IsIndexOf};
 
 use crate::edges::Edges;
@@ -18,7 +18,7 @@ use host_base::GrantId;
 use least_access::table::Table;
 use share_graph::Node;
 
-/// Fills a cleared region again, in no memory: the table is then the solution, for 65 * (G + R) + G tests at most.
+/// Fills a cleared region again, in no memory: the table is then the solution, for `65 * (G + R) + G` tests at most, where G grants with R needs go to it.
 pub fn solve_region<V: Probe>(
     probe: &mut V,
     table: &mut Table,
@@ -34,7 +34,7 @@ pub fn solve_region<V: Probe>(
     requires fresh { IsFresh nodes.now waiting.old }
     ensures same { V.tables probe.new ≡ V.tables probe.old }
     ensures solution { IsSolutionOf (V.tables probe.old) table.new.entries }
-    ensures bound { V.count probe.new ≤ V.count probe.old + bound_by (V.tables probe.old) grants.now }
+    ensures bound { V.count probe.new ≤ V.count probe.old + most_tests (length grants.now) (needs_by (V.tables probe.old) grants.now) }
 {
     find_owned(probe, waiting, nodes);
     start_grants(probe, table, waiting, grants);

@@ -3,6 +3,7 @@ use Rattle.share_graph.specs.declared.facts.Node.TheVariants as node
 use Rattle.share_graph.specs.Nodes.{node_of}
 use Rattle.region_work.proofs.Finding.{finds_more}
 use Rattle.region_work.proofs.Resumed.{prepared_sound, prepared_working, prepared_region}
+use Rattle.region_work.proofs.Words.{bound_in_words}
 use Rattle.region_work.proofs.solving.solve_region.Goals as goal
 
 pub find_owned-requires-clause-places : goal.find_owned-requires-clause-places
@@ -35,4 +36,5 @@ returns-clause-bound g c =
     c.start_grants.ensures.tested in
     let counted = (rw c.start_grants.ensures.same at c.work_off.ensures.counted) c.args.grants.now region in
     let started = c.start_grants.ensures.counted in
+    let most = bound_in_words u c.args.grants.now in
     omega arith
