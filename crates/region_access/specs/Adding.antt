@@ -12,6 +12,10 @@ Ascends gs = AllPairs (λ (a : GrantId) (b : GrantId). a.0 < b.0) gs
 abbrev pub IsPushed : List GrantId → GrantId → List GrantId → Type 0
 IsPushed old num new = ((slice_get old (length old - 1) ≡ Some num) × (new ≡ old)) ⊎ ((slice_get old (length old - 1) ≢ Some num) × (new ≡ old ++ num ∷ []))
 
+-- the second list is the first, without the number at its end, where it was there
+abbrev pub IsPopped : List GrantId → GrantId → List GrantId → Type 0
+IsPopped old num new = ((slice_get old (length old - 1) ≡ Some num) × (old ≡ new ++ num ∷ [])) ⊎ ((slice_get old (length old - 1) ≢ Some num) × (new ≡ old))
+
 -- the node feeds the grant, and the other nodes what they fed
 pub record AddsEdge (from : Node) (num : GrantId) (old new : Node → List GrantId) : Type 0 where
   pub here : IsPushed (old from) num (new from)

@@ -8,7 +8,7 @@ pub loop-place-preserved : goal.loop-place-preserved
 loop-place-preserved c =
     arrived_one c.args.tables.now (fed_in c.loop-place.into.entries) (fed_in c.add_edge.new.edges.entries) c.loop-place.place c.grant-item.result
     (at_place c.args.tables.now.grants c.as_slice-grant-items.result.now c.loop-place.place c.grant-item.result c.as_slice-grant-items.ensures c.loop-place-test.true c.grant-item.is)
-    c.loop-place.invariant (rw c.node_of.ensures at c.in_ok-add_edge.ensures)
+    c.loop-place.invariant (rw c.node_of.ensures at c.in_ok-add_edge.ensures.ok)
 
 pub returns : goal.returns
 returns c =

@@ -12,4 +12,4 @@ returns-in-Some c =
     let new = fed_in c.add_edge.new.edges.entries in
     on_ok_weaker c.add_edge.result
     (λ edge. subst (λ (from : Option Node). Adds (λ (at : Node). from ≡ Some at) c.args.num old new) (sym c.in-Some.is) (adds_edge c.in-Some.node c.args.num old new edge))
-    c.add_edge.ensures
+    c.add_edge.ensures.ok
