@@ -24,7 +24,7 @@ use Rattle.region_work.specs.Working.{IsIndexOf}
 use Rattle.region_work.proofs.NeedsMet.{asks_open}
 use Rattle.region_work.proofs.Sums.{contains_none}
 
-contains_at : (xs : List GrantId) (k : ℕ) (x : GrantId) → slice_get xs k ≡ Some x → Contains xs x
+pub contains_at : (xs : List GrantId) (k : ℕ) (x : GrantId) → slice_get xs k ≡ Some x → Contains xs x
 contains_at xs k x is =
     let below : k < length xs = slice_get_within xs k x is in
     let read = slice_get-get_or xs k x below in
@@ -33,7 +33,7 @@ contains_at xs k x is =
 
 -- ---- one number at the end of a list
 
-pushed_has : (old new : List GrantId) (num : GrantId) → IsPushed old num new → Contains new num
+pub pushed_has : (old new : List GrantId) (num : GrantId) → IsPushed old num new → Contains new num
 pushed_has old new num (inl same) = subst (λ (xs : List GrantId). Contains xs num) (sym same.1) (contains_at old (length old - 1) num same.0)
 pushed_has old new num (inr more) = subst (λ (xs : List GrantId). Contains xs num) (sym more.1) (Contains-push old num)
 

@@ -7,3 +7,5 @@ pub mod Roomy
 pub mod Arrived
 pub mod Revoked
 pub mod ManyAccounts
+pub mod TakenOut
+pub mod After

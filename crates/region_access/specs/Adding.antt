@@ -21,6 +21,23 @@ pub record AddsEdge (from : Node) (num : GrantId) (old new : Node → List Grant
   pub here : IsPushed (old from) num (new from)
   pub others : (at : Node) → at ≢ from → new at ≡ old at
 
+-- no node feeds the grant
+abbrev pub IsNewIn : GrantId → (Node → List GrantId) → Type 0
+IsNewIn num fed = (at : Node) → Contains (fed at) num → ⊥
+
+-- each node feeds what it fed
+abbrev pub HasSameEdges : (Node → List GrantId) → (Node → List GrantId) → Type 0
+HasSameEdges old new = (at : Node) → new at ≡ old at
+
+-- each node feeds what it fed, and some of the nodes feed the grant too, which is the last of theirs
+abbrev pub MayAdd : (Node → Type 0) → GrantId → (Node → List GrantId) → (Node → List GrantId) → Type 0
+MayAdd From num old new = (at : Node) → (new at ≡ old at) ⊎ (From at × (new at ≡ old at ++ num ∷ []))
+
+-- each node feeds what it fed, and exactly the nodes feed the grant too, which is the last of theirs
+pub record AddsEdges (From : Node → Type 0) (num : GrantId) (old new : Node → List GrantId) : Type 0 where
+  pub may : MayAdd From num old new
+  pub all : (at : Node) → From at → new at ≡ old at ++ num ∷ []
+
 -- each of the nodes feeds the grant, and all nodes what they fed; the lists stay in the order of numbers
 pub record Adds (From : Node → Type 0) (num : GrantId) (old new : Node → List GrantId) : Type 0 where
   pub all : (at : Node) → From at → Contains (new at) num

@@ -4,3 +4,4 @@ pub mod Clearing
 pub mod Reaching
 pub mod Room
 pub mod Seeds
+pub mod NewEdges

@@ -6,10 +6,12 @@ pub mod anew;
 pub mod arriving;
 pub mod clearing;
 pub mod indexing;
+pub mod new_grant;
 pub mod preparing;
 pub mod reaching;
 pub mod room;
 
 pub use anew::solve_anew;
+pub use new_grant::NewGrant;
 pub use preparing::{prepare, take_back};
 pub use room::Room;

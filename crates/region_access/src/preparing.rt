@@ -5,11 +5,16 @@ ghost use Rattle.share_graph.specs.declared.facts.Node.{Node};
 ghost use Rattle.share_graph.specs.declared.state.Tables.{Tables};
 ghost use Rattle.share_graph.specs.Coherent.{IsCoherent};
 ghost use Rattle.least_access.specs.Solved.{Table, held_at};
+ghost use Rattle.host_base.specs.declared.ids.GrantId.{GrantId};
+ghost use Rattle.region_access.specs.Adding.{HasSameEdges};
+ghost use Rattle.region_access.specs.Arriving.{IsArrivalsOf};
+ghost use Rattle.region_access.specs.NewEdges.{HasNoRow, HasFeeding, HasArrival, AddsGrant};
 ghost use Rattle.region_work.specs.Fed.{fed_in};
 ghost use Rattle.region_access.specs.Room.{HasSameFacts, IsRoom, WasCleared};
 ghost use Rattle.region_work.specs.Working.{IsIndexOf};
 
 use crate::clearing::{clear, undo};
+use crate::new_grant::{NewGrant, add_new, remove_new};
 use crate::reaching::find_region;
 use crate::room::Room;
 use host_base::Memory;
@@ -32,8 +37,8 @@ fn add_places(table: &mut Table, nodes: &[Node]) -> Result<(), Memory>
     Ok(())
 }
 
-/// Finds the region of the seeds, takes all room that solving it again wants, and clears it. Where memory runs out, no fact is lost.
-pub fn prepare<V: Probe>(
+// Finds the region of the seeds, takes all room that solving it again wants, and clears it. Where memory runs out, no fact is lost.
+fn make_room<V: Probe>(
     alloc: Global,
     probe: &V,
     table: &mut Table,
@@ -59,10 +64,61 @@ pub fn prepare<V: Probe>(
     })
 }
 
-/// Puts back all that was cleared: the table has the facts that it had before it was made ready.
-pub fn take_back(table: &mut Table, room: Room)
+// Puts back all that was cleared.
+fn fill_back(table: &mut Table, room: Room)
     requires { WasCleared table.old.entries room }
     ensures { (t : Tables) (seeds : List Node) (start : Table) → IsRoom t seeds start table.old.entries room → HasSameFacts start table.new.entries }
 {
     undo(table, room.nodes.as_slice(), room.before.as_slice());
+}
+
+/// Finds the region of the seeds, takes all room that solving it again wants, clears it, and adds the edges of a new grant, if
+/// there is one. Where memory runs out, every fact and every edge is as before.
+pub fn prepare<V: Probe>(
+    alloc: Global,
+    probe: &V,
+    table: &mut Table,
+    edges: &mut Edges,
+    into: &mut Edges,
+    seeds: &[Node],
+    added: &Option<NewGrant>,
+) -> Result<Room, Memory>
+    requires coherent { IsCoherent (V.tables probe.now) }
+    requires index { IsIndexOf (V.tables probe.now) (fed_in edges.old.entries) }
+    requires arrivals { IsArrivalsOf (V.tables probe.now) (fed_in into.old.entries) }
+    requires new { HasNoRow (V.tables probe.now) added.now }
+    ensures err { OnErr result (HasSameFacts table.old.entries table.new.entries) }
+    ensures err_edges { OnErr result (HasSameEdges (fed_in edges.old.entries) (fed_in edges.new.entries)) }
+    ensures err_into { OnErr result (HasSameEdges (fed_in into.old.entries) (fed_in into.new.entries)) }
+    ensures ok { IfOk result (IsRoom (V.tables probe.now) seeds.now table.old.entries table.new.entries) }
+    ensures feeding { OnOk result (HasFeeding added.now (fed_in edges.old.entries) (fed_in edges.new.entries)) }
+    ensures arrival { OnOk result (HasArrival added.now (fed_in into.old.entries) (fed_in into.new.entries)) }
+    ensures index_after { OnOk result ((after : Tables) → AddsGrant added.now (V.tables probe.now) after → IsIndexOf after (fed_in edges.new.entries)) }
+    ensures arrivals_after { OnOk result ((after : Tables) → AddsGrant added.now (V.tables probe.now) after → IsArrivalsOf after (fed_in into.new.entries)) }
+{
+    let room = make_room(alloc, probe, table, edges, seeds)?;
+    match add_new(alloc, edges, into, added) {
+        Ok(()) => Ok(room),
+        Err(fault) => {
+            fill_back(table, room);
+            Err(fault)
+        }
+    }
+}
+
+/// Takes back what was made ready: each node holds what it held before, and each feeds what it fed.
+pub fn take_back(
+    table: &mut Table,
+    edges: &mut Edges,
+    into: &mut Edges,
+    room: Room,
+    added: &Option<NewGrant>,
+)
+    requires { WasCleared table.old.entries room }
+    ensures facts { (t : Tables) (seeds : List Node) (start : Table) → IsRoom t seeds start table.old.entries room → HasSameFacts start table.new.entries }
+    ensures feeding { (base : Node → List GrantId) → HasFeeding added.now base (fed_in edges.old.entries) → HasSameEdges base (fed_in edges.new.entries) }
+    ensures arrival { (base : Node → List GrantId) → HasArrival added.now base (fed_in into.old.entries) → HasSameEdges base (fed_in into.new.entries) }
+{
+    fill_back(table, room);
+    remove_new(edges, into, added);
 }
