@@ -9,3 +9,4 @@ pub mod Revoked
 pub mod ManyAccounts
 pub mod TakenOut
 pub mod After
+pub mod Picked

@@ -10,8 +10,10 @@ pub mod new_grant;
 pub mod preparing;
 pub mod reaching;
 pub mod room;
+pub mod seeds;
 
 pub use anew::solve_anew;
 pub use new_grant::NewGrant;
 pub use preparing::{prepare, take_back};
 pub use room::Room;
+pub use seeds::seeds_of;
