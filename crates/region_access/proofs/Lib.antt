@@ -10,3 +10,5 @@ pub mod ManyAccounts
 pub mod TakenOut
 pub mod After
 pub mod Picked
+pub mod ManyGrains
+pub mod Trashed
