@@ -4,12 +4,13 @@ ghost use Rattle.std.specs.Prelude.{◌≡◌, IfOk, OnOk, OnErr, List, Contains
 ghost use Rattle.share_graph.specs.declared.facts.Node.{Node};
 ghost use Rattle.share_graph.specs.declared.state.Tables.{Tables};
 ghost use Rattle.share_graph.specs.Coherent.{IsCoherent};
-ghost use Rattle.least_access.specs.Solved.{Table, held_at};
+ghost use Rattle.least_access.specs.Solved.{Table, held_at, IsSolutionOf};
 ghost use Rattle.host_base.specs.declared.ids.GrantId.{GrantId};
 ghost use Rattle.region_access.specs.Adding.{HasSameEdges};
 ghost use Rattle.region_access.specs.Arriving.{IsArrivalsOf};
 ghost use Rattle.region_access.specs.NewEdges.{HasNoRow, HasFeeding, HasArrival, AddsGrant};
 ghost use Rattle.region_work.specs.Fed.{fed_in};
+ghost use Rattle.region_work.specs.Prepared.{Touches, IsPrepared};
 ghost use Rattle.region_access.specs.Room.{HasSameFacts, IsRoom, WasCleared};
 ghost use Rattle.region_work.specs.Working.{IsIndexOf};
 
@@ -91,6 +92,8 @@ pub fn prepare<V: Probe>(
     ensures err_edges { OnErr result (HasSameEdges (fed_in edges.old.entries) (fed_in edges.new.entries)) }
     ensures err_into { OnErr result (HasSameEdges (fed_in into.old.entries) (fed_in into.new.entries)) }
     ensures ok { IfOk result (IsRoom (V.tables probe.now) seeds.now table.old.entries table.new.entries) }
+    ensures prepared { IfOk result (λ room. (after : Tables) → IsSolutionOf (V.tables probe.now) table.old.entries
+        → Touches room.nodes.items (V.tables probe.now) after → IsPrepared after room.nodes.items table.new.entries) }
     ensures feeding { OnOk result (HasFeeding added.now (fed_in edges.old.entries) (fed_in edges.new.entries)) }
     ensures arrival { OnOk result (HasArrival added.now (fed_in into.old.entries) (fed_in into.new.entries)) }
     ensures index_after { OnOk result ((after : Tables) → AddsGrant added.now (V.tables probe.now) after → IsIndexOf after (fed_in edges.new.entries)) }

@@ -3,6 +3,7 @@ use Rattle.region_access.specs.declared.new_grant.NewGrant.{NewGrant}
 use Rattle.region_access.specs.NewEdges.{HasNoRow}
 use Rattle.region_work.specs.Fed.{fed_in}
 use Rattle.region_access.proofs.After.{index_after, arrivals_after}
+use Rattle.region_access.proofs.Roomy.{room_prepared}
 use Rattle.region_access.proofs.preparing.prepare.Goals as goal
 
 pub add_new-requires-clause-new : goal.add_new-requires-clause-new
@@ -24,3 +25,7 @@ returns-in-Ok-clause-index_after g c after adds =
 pub returns-in-Ok-clause-arrivals_after : goal.returns-in-Ok-clause-arrivals_after
 returns-in-Ok-clause-arrivals_after g c after adds =
     arrivals_after c.args.added.now (g.V.Probe.tables c.args.probe.now) after (fed_in c.args.into.now.entries) (fed_in c.add_new.new.into.entries) adds c.requires.arrivals c.in-Ok.ensures.arrival
+
+pub returns-in-Ok-clause-prepared : goal.returns-in-Ok-clause-prepared
+returns-in-Ok-clause-prepared g c after solved touches =
+    room_prepared (g.V.Probe.tables c.args.probe.now) after c.args.seeds.now c.args.table.now.entries c.make_room.new.table.entries c.in_ok-room.room c.in_ok-room.ensures.ok solved touches
