@@ -1,13 +1,13 @@
 //! Who holds what: the least solution of the rules of sharing, and the first step that is missing.
 #![tactic(auto)]
 
-mod held;
+pub mod held;
 mod missing;
-mod needs;
-mod passing;
+pub mod needs;
+pub mod passing;
 mod rounds;
-mod solving;
-mod table;
+pub mod solving;
+pub mod table;
 
 pub use held::Held;
 pub use solving::{Solved, solve};

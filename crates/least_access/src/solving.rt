@@ -41,8 +41,8 @@ impl Model for Solved {
     ghost view = { λ solved. solved.table.entries };
 }
 
-// What the owner of a grain holds there.
-fn owned(tables: &Tables, num: GrainId, grain: &Grain, app: &App) -> Held
+/// What the owner of a grain holds there.
+pub fn owned(tables: &Tables, num: GrainId, grain: &Grain, app: &App) -> Held
     requires coherent { IsCoherent tables.now }
     requires row { IsGrain tables.now num grain.now }
     requires of_app { IsApp tables.now grain.now.app app.now }

@@ -1,6 +1,6 @@
 //! A table of nodes, each with what it holds.
 
-ghost use Rattle.std.specs.Prelude.{◌≡◌, ◌≢◌, ◌↔◌, ◌+◌, Some, IsSome, OnOk};
+ghost use Rattle.std.specs.Prelude.{◌≡◌, ◌≢◌, ◌↔◌, ◌+◌, Some, IsSome, OnOk, OnErr};
 ghost use Rattle.share_graph.specs.declared.facts.Fact.{Fact};
 ghost use Rattle.share_graph.specs.declared.facts.Node.{Node};
 ghost use Rattle.least_access.specs.declared.held.Held.{Held};
@@ -42,6 +42,7 @@ pub fn put(table: &mut Table, node: Node, held: Held)
 
 /// Sets what a node holds, whether the table has it or not.
 pub fn set(table: &mut Table, node: Node, held: Held) -> Result<(), Memory>
+    ensures err { OnErr result (table.new.entries ≡ table.old.entries) }
     ensures same { OnOk result (held_at table.new.entries node ≡ Some held) }
     ensures others { OnOk result ((other : Node) → other ≢ node → held_at table.new.entries other ≡ held_at table.old.entries other) }
 {

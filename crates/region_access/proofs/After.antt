@@ -1,0 +1,138 @@
+-- The indexes that were those of the tables before a grant is added, with its edges, are those of the tables after.
+use Rattle.std.proofs.Common.{◌≡◌, ◌≢◌, ◌⊎◌, ◌++◌, ◌∷◌, [], List, Option, Some, None, Contains, refl, sym, ◌∙◌, subst, inl, inr}
+use Rattle.std.specs.Prelude.{AllPairs}
+use Rattle.std.proofs.lemmas.List.Elements.{Contains-append_left, Contains-push, Contains-push_cases, Contains-get_or}
+use Rattle.std.proofs.lemmas.List.Quantifiers.{all_pairs_push}
+use Rattle.host_base.specs.declared.ids.GrantId.{GrantId}
+use Rattle.share_graph.specs.declared.facts.Node.{Node}
+use Rattle.share_graph.specs.declared.grants.Grant.{Grant}
+use Rattle.share_graph.specs.declared.grants.Need.{Need}
+use Rattle.share_graph.specs.declared.state.Tables.{Tables}
+use Rattle.share_graph.specs.Nodes.{node_of}
+use Rattle.share_graph.specs.Region.{Feeds}
+use Rattle.share_graph.specs.Rows.{IsGrant}
+use Rattle.region_work.specs.Working.{IsIndexOf}
+use Rattle.region_work.proofs.Sums.{contains_cons, contains_none}
+use Rattle.region_access.specs.declared.new_grant.NewGrant.{NewGrant}
+use Rattle.region_access.specs.Arriving.{IsArrivalsOf}
+use Rattle.region_access.specs.NewEdges.{HasFeeding, HasArrival, IsAlike, AddsGrant}
+
+-- ---- lists
+
+fresh_end : (old : List GrantId) (num : GrantId) → (Contains old num → ⊥) → AllPairs (λ (a : GrantId) (b : GrantId). a ≢ b) old → AllPairs (λ (a : GrantId) (b : GrantId). a ≢ b) (old ++ num ∷ [])
+fresh_end old num fresh once =
+    all_pairs_push (λ (a : GrantId) (b : GrantId). a ≢ b) old num once
+    (λ k d within same. fresh (subst (λ (g : GrantId). Contains old g) same (Contains-get_or old k d within)))
+
+once_after : (old new : List GrantId) (num : GrantId) → (Contains old num → ⊥) → (new ≡ old) ⊎ (new ≡ old ++ num ∷ []) → AllPairs (λ (a : GrantId) (b : GrantId). a ≢ b) old
+    → AllPairs (λ (a : GrantId) (b : GrantId). a ≢ b) new
+once_after old new num fresh (inl same) once = subst (λ (xs : List GrantId). AllPairs (λ (a : GrantId) (b : GrantId). a ≢ b) xs) (sym same) once
+once_after old new num fresh (inr more) once = subst (λ (xs : List GrantId). AllPairs (λ (a : GrantId) (b : GrantId). a ≢ b) xs) (sym more) (fresh_end old num fresh once)
+
+kept_after : (old new : List GrantId) (num g : GrantId) → (new ≡ old) ⊎ (new ≡ old ++ num ∷ []) → Contains old g → Contains new g
+kept_after old new num g (inl same) c = subst (λ (xs : List GrantId). Contains xs g) (sym same) c
+kept_after old new num g (inr more) c = subst (λ (xs : List GrantId). Contains xs g) (sym more) (Contains-append_left old (num ∷ []) g c)
+
+-- ---- what feeds a grant that is alike
+
+feeds_alike : (g : GrantId) (a b : Grant) → IsAlike g a b → (at : Node) → Feeds at a → Feeds at b
+feeds_alike g a b alike at (inl source) = inl (sym alike.0 ∙ source)
+feeds_alike g a b alike at (inr (q, c, asked)) = inr (q, subst (λ (needs : List Need). Contains needs q) alike.1 c, asked)
+
+feeds_back : (g : GrantId) (a b : Grant) → IsAlike g a b → (at : Node) → Feeds at b → Feeds at a
+feeds_back g a b alike at (inl source) = inl (alike.0 ∙ source)
+feeds_back g a b alike at (inr (q, c, asked)) = inr (q, subst (λ (needs : List Need). Contains needs q) (sym alike.1) c, asked)
+
+-- ---- the index of edges
+
+pub index_after : (added : Option NewGrant) (t u : Tables) (old new : Node → List GrantId) → AddsGrant added t u → IsIndexOf t old → HasFeeding added old new → IsIndexOf u new
+index_after None t u old new adds index same = record {
+  all = λ at g grant is feeds.
+      elim (adds.back g grant is) [
+        | inl (other, there, alike) ↦ subst (λ (xs : List GrantId). Contains xs g) (sym (same at)) (index.all at g other there (feeds_back g other grant alike at feeds))
+        | inr none ↦ absurd none
+      ];
+  rows = λ at g c.
+      let (grant, there, feeds) = index.rows at g (subst (λ (xs : List GrantId). Contains xs g) (same at) c) in
+      let (other, is, alike) = adds.kept g grant there in
+      (other, is, feeds_alike g grant other alike at feeds);
+  once = λ at. subst (λ (xs : List GrantId). AllPairs (λ (a : GrantId) (b : GrantId). a ≢ b) xs) (sym (same at)) (index.once at);
+}
+index_after (Some added) t u old new adds index (fresh, edges) =
+    let sides : (at : Node) → (new at ≡ old at) ⊎ (new at ≡ old at ++ added.num ∷ []) = λ at. elim (edges.may at) [ inl same ↦ inl same | inr more ↦ inr more.1 ] in
+    let known : (at : Node) (g : GrantId) → Contains (old at) g → (grant : Grant) × IsGrant u g grant × Feeds at grant = λ at g c.
+    (let (grant, there, feeds) = index.rows at g c in
+    let (other, is, alike) = adds.kept g grant there in
+    (other, is, feeds_alike g grant other alike at feeds)) in
+    record {
+      all = λ at g grant is feeds.
+          elim (adds.back g grant is) [
+            | inl (other, there, alike) ↦ kept_after (old at) (new at) added.num g (sides at) (index.all at g other there (feeds_back g other grant alike at feeds))
+            | inr (same, of) ↦
+                subst (λ (h : GrantId). Contains (new at) h) (sym same)
+                (subst (λ (xs : List GrantId). Contains xs added.num) (sym (edges.all at ((of.feeding at).1 feeds))) (Contains-push (old at) added.num))
+          ];
+      rows = λ at g c.
+          elim (edges.may at) [
+            | inl same ↦ known at g (subst (λ (xs : List GrantId). Contains xs g) same c)
+            | inr (from, more) ↦
+                elim (Contains-push_cases (old at) added.num g (subst (λ (xs : List GrantId). Contains xs g) more c)) [
+                  | inl before ↦ known at g before
+                  | inr last ↦
+                      let (grant, is, of) = adds.new added refl in
+                      (grant, subst (λ (h : GrantId). IsGrant u h grant) last is, (of.feeding at).0 from)
+                ]
+          ];
+      once = λ at. once_after (old at) (new at) added.num (fresh at) (sides at) (index.once at);
+    }
+
+-- ---- the index of arrivals
+
+only_node : (x at : Node) → Contains (x ∷ []) at → x ≡ at
+only_node x at c = elim ((contains_cons x [] at).0 c) [ inl here ↦ here | inr later ↦ absurd (contains_none at later) ]
+
+pub arrivals_after : (added : Option NewGrant) (t u : Tables) (old new : Node → List GrantId) → AddsGrant added t u → IsArrivalsOf t old → HasArrival added old new → IsArrivalsOf u new
+arrivals_after None t u old new adds into same = record {
+  exact = λ at g. (
+    λ c.
+        let (grant, there, goes) = (into.exact at g).0 (subst (λ (xs : List GrantId). Contains xs g) (same at) c) in
+        let (other, is, alike) = adds.kept g grant there in
+        (other, is, sym alike.2 ∙ goes),
+    λ (grant, is, goes).
+        elim (adds.back g grant is) [
+          | inl (other, there, alike) ↦ subst (λ (xs : List GrantId). Contains xs g) (sym (same at)) ((into.exact at g).1 (other, there, alike.2 ∙ goes))
+          | inr none ↦ absurd none
+        ],
+  );
+  once = λ at. subst (λ (xs : List GrantId). AllPairs (λ (a : GrantId) (b : GrantId). a ≢ b) xs) (sym (same at)) (into.once at);
+}
+arrivals_after (Some added) t u old new adds into (fresh, edges) =
+    let sides : (at : Node) → (new at ≡ old at) ⊎ (new at ≡ old at ++ added.num ∷ []) = λ at. elim (edges.may at) [ inl same ↦ inl same | inr more ↦ inr more.1 ] in
+    let known : (at : Node) (g : GrantId) → Contains (old at) g → (grant : Grant) × IsGrant u g grant × (node_of g grant ≡ at) = λ at g c.
+    (let (grant, there, goes) = (into.exact at g).0 c in
+    let (other, is, alike) = adds.kept g grant there in
+    (other, is, sym alike.2 ∙ goes)) in
+    record {
+      exact = λ at g. (
+        λ c.
+            elim (edges.may at) [
+              | inl same ↦ known at g (subst (λ (xs : List GrantId). Contains xs g) same c)
+              | inr (from, more) ↦
+                  elim (Contains-push_cases (old at) added.num g (subst (λ (xs : List GrantId). Contains xs g) more c)) [
+                    | inl before ↦ known at g before
+                    | inr last ↦
+                        let (grant, is, of) = adds.new added refl in
+                        (grant, subst (λ (h : GrantId). IsGrant u h grant) last is, subst (λ (h : GrantId). node_of h grant ≡ at) last (sym of.node ∙ only_node added.node at from))
+                  ]
+            ],
+        λ (grant, is, goes).
+            elim (adds.back g grant is) [
+              | inl (other, there, alike) ↦ kept_after (old at) (new at) added.num g (sides at) ((into.exact at g).1 (other, there, alike.2 ∙ goes))
+              | inr (same, of) ↦
+                  let here : added.node ≡ at = of.node ∙ subst (λ (h : GrantId). node_of h grant ≡ at) same goes in
+                  subst (λ (h : GrantId). Contains (new at) h) (sym same)
+                  (subst (λ (xs : List GrantId). Contains xs added.num) (sym (edges.all at ((contains_cons added.node [] at).1 (inl here)))) (Contains-push (old at) added.num))
+            ],
+      );
+      once = λ at. once_after (old at) (new at) added.num (fresh at) (sides at) (into.once at);
+    }

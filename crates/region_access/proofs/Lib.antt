@@ -1,0 +1,14 @@
+pub mod Added
+pub mod Everything
+pub mod Visited
+pub mod Cleared
+pub mod OneGrant
+pub mod Roomy
+pub mod Arrived
+pub mod Revoked
+pub mod ManyAccounts
+pub mod TakenOut
+pub mod After
+pub mod Picked
+pub mod ManyGrains
+pub mod Trashed

@@ -1,0 +1,69 @@
+-- A grain that goes into the trash or comes back touches nothing outside the region of its nodes.
+use Rattle.std.proofs.Common.{◌≡◌, ◌≢◌, ◌⊎◌, ℕ, zero, suc, Bool, List, [], ◌∷◌, Some, slice_get, Contains, refl, sym, ◌∙◌, ap, subst, inl, inr, arith}
+use Rattle.host_base.specs.declared.ids.AccountId.{AccountId}
+use Rattle.host_base.specs.declared.ids.GrainId.{GrainId}
+use Rattle.share_graph.specs.declared.facts.Node.{Node}
+use Rattle.share_graph.specs.declared.facts.Node.TheVariants as node
+use Rattle.share_graph.specs.declared.rows.Grain.{Grain}
+use Rattle.share_graph.specs.declared.state.Tables.{Tables}
+use Rattle.share_graph.specs.Changing.{change, change_row}
+use Rattle.share_graph.specs.Coherent.{IsCoherent}
+use Rattle.share_graph.specs.Rows.{row, IsGrain}
+use Rattle.share_graph.specs.Setting.{with_trashed}
+use Rattle.share_graph.proofs.Marked.{change_row_other}
+use Rattle.region_work.specs.Prepared.{LeadsNowhere, Touches}
+use Rattle.region_access.proofs.ManyGrains.{with_grains, HasNodesOn, MayTouch, touches_by_grains}
+
+changed : {X : Type 0} (f : X → X) (xs : List X) (i : ℕ) (x : X) → slice_get xs i ≡ Some x → slice_get (change f xs i) i ≡ Some (f x)
+changed f [] i x is = cc is
+changed f (y ∷ xs) zero x is = let e : y ≡ x = cc is in ap (λ (z : _). Some (f z)) e
+changed f (y ∷ xs) (suc i) x is = changed f xs i x is
+
+row_changed : {X : Type 0} (f : X → X) (xs : List X) (n : ℕ) (x : X) → row xs n ≡ Some x → row (change_row f xs n) n ≡ Some (f x)
+row_changed f xs zero x is = cc is
+row_changed f xs (suc i) x is = changed f xs i x is
+
+changed_back : {X : Type 0} (f : X → X) (xs : List X) (i : ℕ) (y : X) → slice_get (change f xs i) i ≡ Some y → (x : X) × (slice_get xs i ≡ Some x) × (f x ≡ y)
+changed_back f [] i y is = cc is
+changed_back f (x ∷ xs) zero y is = (x, refl, cc is)
+changed_back f (x ∷ xs) (suc i) y is = changed_back f xs i y is
+
+row_changed_back : {X : Type 0} (f : X → X) (xs : List X) (n : ℕ) (y : X) → row (change_row f xs n) n ≡ Some y → (x : X) × (row xs n ≡ Some x) × (f x ≡ y)
+row_changed_back f xs zero y is = cc is
+row_changed_back f xs (suc i) y is = changed_back f xs i y is
+
+abbrev grain_id : ℕ → GrainId
+grain_id n = record { 0 = n }
+
+same_number : (m n : ℕ) → (m ≡ n) ⊎ (m ≢ n)
+same_number m n = grind arith
+
+module _ (t : Tables) (n : GrainId) (on : Bool) (nodes : List Node)
+    (owner : (grain : Grain) → IsGrain t n grain → Contains nodes (node.User n grain.owner)) (others : HasNodesOn t nodes n) where
+  abbrev new : List Grain
+  new = change_row (with_trashed on) t.grains n.0
+
+  forth : (m : GrainId) (grain : Grain) → row t.grains m.0 ≡ Some grain → MayTouch t nodes new m grain
+  forth m grain is =
+      elim (same_number m.0 n.0) [
+        | inl same ↦
+            let one : m ≡ n = ap (λ k. grain_id k) same in
+            let there : row t.grains n.0 ≡ Some grain = subst (λ (k : ℕ). row t.grains k ≡ Some grain) same is in
+            subst (λ (k : GrainId). MayTouch t nodes new k grain) (sym one)
+            (inr (owner grain there, others, inl (with_trashed on grain, row_changed (with_trashed on) t.grains n.0 grain there, refl)))
+        | inr apart ↦ inl (change_row_other (with_trashed on) t.grains n.0 m.0 apart ∙ is)
+      ]
+
+  back : (m : GrainId) (grain : Grain) → row new m.0 ≡ Some grain → MayTouch t nodes t.grains m grain
+  back m grain is =
+      elim (same_number m.0 n.0) [
+        | inl same ↦
+            let one : m ≡ n = ap (λ k. grain_id k) same in
+            let (was, there, set) = row_changed_back (with_trashed on) t.grains n.0 grain (subst (λ (k : ℕ). row new k ≡ Some grain) same is) in
+            subst (λ (k : GrainId). MayTouch t nodes t.grains k grain) (sym one)
+            (inr (subst (λ (a : AccountId). Contains nodes (node.User n a)) (ap (λ (x : Grain). x.owner) set) (owner was there), others, inl (was, there, ap (λ (x : Grain). x.app) set)))
+        | inr apart ↦ inl (sym (change_row_other (with_trashed on) t.grains n.0 m.0 apart) ∙ is)
+      ]
+
+  pub trash_touches : IsCoherent t → IsCoherent (with_grains t new) → LeadsNowhere t nodes → Touches nodes t (with_grains t new)
+  trash_touches coherent coherent_after closed = touches_by_grains t nodes t.grains new coherent coherent_after forth back closed

@@ -1,0 +1,28 @@
+-- What is made ready for a change.
+use Rattle.std.specs.Prelude.{◌↔◌, List}
+use Rattle.share_graph.specs.declared.facts.Fact.{Fact}
+use Rattle.share_graph.specs.declared.facts.Node.{Node}
+use Rattle.share_graph.specs.declared.state.Tables.{Tables}
+use Rattle.least_access.specs.Solved.{Table, HeldAt}
+use Rattle.region_access.specs.declared.room.Room.{Room}
+use Rattle.region_access.specs.Clearing.{IsWhatWas}
+use Rattle.region_work.specs.Prepared.{Clears, IsFresh}
+use Rattle.region_access.specs.Reaching.{IsRegionOf}
+
+-- the tables have the same facts, whatever places they have
+abbrev pub HasSameFacts : Table → Table → Type 0
+HasSameFacts old new = (at : Node) (fact : Fact) → HeldAt new at fact ↔ HeldAt old at fact
+
+-- The room has the region of the seeds, with places in the table, and the table is cleared there. The room has what was
+-- there, and nothing was found yet.
+pub record IsRoom (t : Tables) (seeds : List Node) (old new : Table) (room : Room) : Type 0 where
+  pub region : IsRegionOf t seeds room.nodes.items
+  pub start : Table
+  pub same : HasSameFacts old start
+  pub clears : Clears room.nodes.items start new
+  pub before : IsWhatWas start room.nodes.items room.before.items
+  pub fresh : IsFresh room.nodes.items room.waiting
+
+-- the table is as it was when it was made ready with the room
+abbrev pub WasCleared : Table → Room → Type 0
+WasCleared table room = (t : Tables) × (seeds : List Node) × (old : Table) × IsRoom t seeds old table room

@@ -1,0 +1,11 @@
+use least_access::Held;
+use region_work::waiting::Waiting;
+use share_graph::Node;
+
+/// The region of a change, what its nodes held before, and room for all that can be found there.
+#[derive(Drop)]
+pub struct Room {
+    pub nodes: Vec<Node>,
+    pub before: Vec<Held>,
+    pub waiting: Waiting,
+}

@@ -1,0 +1,14 @@
+pub mod Sums
+pub mod Places
+pub mod NeedsMet
+pub mod Moving
+pub mod Owing
+pub mod Finding
+pub mod Bounded
+pub mod PassedOn
+pub mod StepWorks
+pub mod Owned
+pub mod Started
+pub mod Resumed
+pub mod Emptied
+pub mod Words

@@ -1,0 +1,54 @@
+ghost use Rattle.std.specs.Prelude.{◌≡◌, ◌↔◌, ◌+◌, ℕ, IsTrue};
+ghost use Rattle.share_graph.specs.declared.facts.Fact.{Fact};
+ghost use Rattle.share_graph.specs.declared.grants.Grant.{Grant};
+ghost use Rattle.share_graph.specs.declared.state.Tables.{Tables};
+ghost use Rattle.share_graph.specs.Coherent.{IsCoherent};
+ghost use Rattle.share_graph.specs.Derivation.{Follows};
+ghost use Rattle.share_graph.specs.Nodes.{node_of, source_of};
+ghost use Rattle.share_graph.specs.Rows.{IsGrant};
+ghost use Rattle.least_access.specs.Held.{IsIn};
+ghost use Rattle.least_access.specs.Solved.{HeldAt};
+ghost use Rattle.region_work.specs.Facts.{IsFact};
+ghost use Rattle.region_work.specs.Starting.{HoldsAsOwner};
+
+use host_base::{AccountId, GrainId, GrantId};
+use least_access::Held;
+use least_access::table::Table;
+use share_graph::{Fact, Need, Node};
+
+/// The one way to read tables while a region is solved. It counts its tests.
+pub trait Probe {
+    ghost tables: { Self → Tables };
+
+    ghost count: { Self → ℕ };
+
+    /// Where a grant's facts are held.
+    fn node(&self, num: GrantId) -> Node
+        requires { (grant : Grant) × IsGrant (tables self.now) num grant }
+        ensures { (grant : Grant) → IsGrant (tables self.now) num grant → result ≡ node_of num grant };
+
+    /// What a grant was given from.
+    fn source(&self, num: GrantId) -> Option<Node>
+        requires { (grant : Grant) × IsGrant (tables self.now) num grant }
+        ensures { (grant : Grant) → IsGrant (tables self.now) num grant → result ≡ source_of grant };
+
+    /// The needs of a grant.
+    fn needs(&self, num: GrantId) -> &[Need]
+        requires { (grant : Grant) × IsGrant (tables self.now) num grant }
+        ensures { (grant : Grant) → IsGrant (tables self.now) num grant → result.now ≡ grant.needs };
+
+    /// What an account holds as the owner of a grain.
+    fn own(&self, num: GrainId, account: AccountId) -> Held
+        requires { IsCoherent (tables self.now) }
+        ensures { (fact : Fact) → IsIn result fact ↔ HoldsAsOwner (tables self.now) num account fact };
+
+    /// Whether a grant passes a fact on by what a table has now. This is the one evaluation.
+    fn test(&mut self, num: GrantId, fact: Fact, table: &Table) -> bool
+        requires coherent { IsCoherent (tables self.old) }
+        requires row { (grant : Grant) × IsGrant (tables self.old) num grant }
+        requires fact { IsFact fact }
+        ensures answer { (grant : Grant) → IsGrant (tables self.old) num grant
+            → IsTrue result ↔ Follows (tables self.old) (HeldAt table.now.entries) num grant (node_of num grant) fact }
+        ensures same { tables self.new ≡ tables self.old }
+        ensures counted { count self.new ≡ count self.old + 1 };
+}

@@ -1,0 +1,42 @@
+//! Solving a region again.
+
+ghost use Rattle.std.specs.Prelude.{◌≡◌, ◌≤◌, ◌+◌, length};
+ghost use Rattle.share_graph.specs.Coherent.{IsCoherent};
+ghost use Rattle.least_access.specs.Solved.{IsSolutionOf};
+ghost use Rattle.region_work.specs.Fed.{fed_in};
+ghost use Rattle.region_work.specs.Prepared.{HasGrants, IsPrepared, IsFresh};
+ghost use Rattle.region_work.specs.Starting.{needs_by, most_tests};
+ghost use Rattle.region_work.specs.Working.{IsIndexOf};
+
+use crate::edges::Edges;
+use crate::owning::find_owned;
+use crate::probe::Probe;
+use crate::starting::start_grants;
+use crate::stepping::work_off;
+use crate::waiting::Waiting;
+use host_base::GrantId;
+use least_access::table::Table;
+use share_graph::Node;
+
+/// Fills a cleared region again, in no memory: the table is then the solution, for `65 * (G + R) + G` tests at most, where G grants with R needs go to it.
+pub fn solve_region<V: Probe>(
+    probe: &mut V,
+    table: &mut Table,
+    waiting: &mut Waiting,
+    edges: &Edges,
+    nodes: &[Node],
+    grants: &[GrantId],
+)
+    requires coherent { IsCoherent (V.tables probe.old) }
+    requires index { IsIndexOf (V.tables probe.old) (fed_in edges.now.entries) }
+    requires grants { HasGrants (V.tables probe.old) nodes.now grants.now }
+    requires prepared { IsPrepared (V.tables probe.old) nodes.now table.old.entries }
+    requires fresh { IsFresh nodes.now waiting.old }
+    ensures same { V.tables probe.new ≡ V.tables probe.old }
+    ensures solution { IsSolutionOf (V.tables probe.old) table.new.entries }
+    ensures bound { V.count probe.new ≤ V.count probe.old + most_tests (length grants.now) (needs_by (V.tables probe.old) grants.now) }
+{
+    find_owned(probe, waiting, nodes);
+    start_grants(probe, table, waiting, grants);
+    work_off(probe, table, waiting, edges);
+}

@@ -1,0 +1,79 @@
+ghost use Rattle.std.specs.Prelude.{◌≡◌, ◌⊎◌, ◌∷◌, ◌++◌, [], IfOk, IsSome, IfNone, MatchOption};
+ghost use Rattle.share_graph.specs.declared.facts.Fact.{Fact};
+ghost use Rattle.share_graph.specs.declared.facts.Node.{Node};
+ghost use Rattle.least_access.specs.Solved.{held_at, HeldAt};
+ghost use Rattle.region_work.specs.Facts.{IsFact};
+ghost use Rattle.region_work.specs.Prepared.{IsFresh};
+ghost use Rattle.region_work.specs.Work.{Finds};
+
+use crate::claim::Claim;
+use crate::emptying::empty_at;
+use crate::facts::{has, with};
+use host_base::Memory;
+use least_access::table::{Table, holding, put};
+use share_graph::{Fact, Node};
+use std::alloc::Global;
+use std::marker::Model;
+
+/// More nodes than any tables have.
+const MOST_NODES: usize = 1 << 40;
+
+/// The facts that were found, and those of them that wait to be passed on. There is room for all that can still be found.
+#[derive(Drop)]
+pub struct Waiting {
+    found: Table,
+    queue: Vec<Claim>,
+}
+
+impl Model for Waiting {
+    ghost use Rattle.std.specs.Prelude.{◌+◌, ◌≤◌, vec_len, vec_capacity};
+    ghost use Rattle.least_access.specs.Rounds.{total_room};
+    ghost use Rattle.region_work.specs.Work.{Work};
+
+    ghost Value = { Work };
+
+    ghost view = { λ waiting. record { found = waiting.found.entries; queue = waiting.queue.items } };
+
+    ghost invariant = { λ waiting. vec_len waiting.queue + total_room waiting.found.entries ≤ vec_capacity waiting.queue };
+}
+
+impl Waiting {
+    /// Nothing was found yet at the nodes, and there is room for all that can be.
+    pub fn new(alloc: Global, nodes: &[Node]) -> Result<Waiting, Memory>
+        ensures { IfOk result (λ waiting. IsFresh nodes.now waiting) }
+    {
+        let found = empty_at(alloc, nodes)?;
+        if found.len() >= MOST_NODES {
+            return Err(Memory);
+        }
+        let Ok(queue) = Vec::with_capacity(alloc, 65 * found.len()) else {
+            return Err(Memory);
+        };
+        Ok(Waiting { found, queue })
+    }
+
+    /// Adds a fact to what was found, where it is new.
+    pub fn find(&mut self, node: Node, fact: Fact)
+        requires place { IsSome (held_at self.old.found node) }
+        requires fact { IsFact fact }
+        ensures finds { Finds self.old self.new }
+        ensures there { HeldAt self.new.found node fact }
+        ensures only { (at : Node) (other : Fact) → HeldAt self.new.found at other → HeldAt self.old.found at other ⊎ ((at ≡ node) × (other ≡ fact)) }
+    {
+        let held = holding(&self.found, node);
+        if has(&held, fact) {
+            return;
+        }
+        put(&mut self.found, node, with(&held, fact));
+        self.queue.push_reserved(Claim { node, fact });
+    }
+
+    /// Takes a fact that waits.
+    pub fn take(&mut self) -> Option<Claim>
+        ensures found { self.new.found ≡ self.old.found }
+        ensures queue { MatchOption result (self.old.queue ≡ []) (λ claim. self.old.queue ≡ self.new.queue ++ claim ∷ []) }
+        ensures none { IfNone result (self.new ≡ self.old) }
+    {
+        self.queue.pop()
+    }
+}
