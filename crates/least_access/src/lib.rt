@@ -1,13 +1,13 @@
 //! Who holds what: the least solution of the rules of sharing, and the first step that is missing.
 #![tactic(auto)]
 
-pub mod held;
+mod held;
 mod missing;
 pub mod needs;
 pub mod passing;
 mod rounds;
-pub mod solving;
+mod solving;
 pub mod table;
 
 pub use held::Held;
-pub use solving::{Solved, solve};
+pub use solving::{Solved, owned, solve};

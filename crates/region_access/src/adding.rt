@@ -6,7 +6,7 @@ ghost use Rattle.region_access.specs.Adding.{IsPushed, IsPopped, AddsEdge};
 ghost use Rattle.region_work.specs.Fed.{fed_in};
 
 use host_base::{GrantId, Memory};
-use region_work::Edges;
+use region_work::edges::Edges;
 use share_graph::Node;
 use std::alloc::Global;
 

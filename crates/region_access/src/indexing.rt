@@ -9,7 +9,7 @@ ghost use Rattle.region_work.specs.Working.{IsIndexOf};
 
 use crate::adding::add_edge;
 use host_base::{GrantId, Memory};
-use region_work::Edges;
+use region_work::edges::Edges;
 use region_work::meeting::holder_of;
 use share_graph::{Grant, Need, Node, Tables, source_of};
 use std::alloc::Global;

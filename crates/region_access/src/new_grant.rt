@@ -10,7 +10,7 @@ ghost use Rattle.region_work.specs.Fed.{fed_in};
 
 use crate::adding::{add_edge, remove_edge};
 use host_base::{GrantId, Memory};
-use region_work::Edges;
+use region_work::edges::Edges;
 use share_graph::Node;
 use std::alloc::Global;
 

@@ -22,8 +22,7 @@ use host_base::Memory;
 use least_access::table::Table;
 use region_work::edges::Edges;
 use region_work::emptying::add_place;
-use region_work::probe::Probe;
-use region_work::waiting::Waiting;
+use region_work::{Probe, Waiting};
 use share_graph::Node;
 use std::alloc::Global;
 

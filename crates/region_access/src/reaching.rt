@@ -12,9 +12,9 @@ ghost use Rattle.region_work.specs.Working.{IsIndexOf};
 
 use host_base::{GrantId, Memory};
 use least_access::table::Table;
+use region_work::Probe;
 use region_work::edges::{Edges, fed_by};
 use region_work::emptying::add_place;
-use region_work::probe::Probe;
 use share_graph::Node;
 use std::alloc::Global;
 use std::collections::BTreeMap;

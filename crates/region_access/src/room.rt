@@ -1,5 +1,5 @@
 use least_access::Held;
-use region_work::waiting::Waiting;
+use region_work::Waiting;
 use share_graph::Node;
 
 /// The region of a change, what its nodes held before, and room for all that can be found there.
