@@ -1,10 +1,8 @@
-use Rattle.std.proofs.Common.{◌≡◌, ◌⊎◌, ◌↔◌, ◌+◌, Option, Some, List, take, get_or, Contains, sym, ◌∙◌, ap, subst, inl, inr, arith}
+use Rattle.std.proofs.Common.{◌≡◌, ◌⊎◌, ◌↔◌, List, get_or, Contains, sym, ◌∙◌, ap, subst, inl, inr}
 use Rattle.std.proofs.lemmas.List.{take_all}
-use Rattle.share_graph.specs.declared.facts.Node.{Node}
 use Rattle.share_graph.specs.declared.grants.Need.{Need}
 use Rattle.region_access.specs.Adding.{IsNamed}
 use Rattle.region_work.specs.Owed.{holder_of}
-use Rattle.region_work.proofs.Sums.{contains_none}
 use Rattle.region_access.proofs.Added.{named_more}
 use Rattle.region_access.proofs.new_grant.add_holders.Goals as goal
 

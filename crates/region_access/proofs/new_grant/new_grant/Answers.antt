@@ -1,4 +1,4 @@
-use Rattle.std.proofs.Common.{◌≡◌, ◌∙◌, List, Contains, refl, sym, subst, inl, inr}
+use Rattle.std.proofs.Common.{◌∙◌, List, Contains, refl, sym, subst, inl, inr}
 use Rattle.share_graph.specs.declared.facts.Node.{Node}
 use Rattle.share_graph.specs.declared.grants.Need.{Need}
 use Rattle.region_access.specs.Adding.{IsNamed}
