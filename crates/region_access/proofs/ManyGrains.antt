@@ -1,15 +1,13 @@
 -- A change of grains touches nothing outside the region of their owners' nodes and of their grants.
-use Rattle.std.proofs.Common.{◌≡◌, ◌≢◌, ◌⊎◌, List, Some, length, Contains, refl, sym, ◌∙◌, ap, subst, inl, inr}
+use Rattle.std.proofs.Common.{◌≡◌, ◌⊎◌, List, Some, Contains, refl, sym, subst, inl, inr}
 use Rattle.host_base.specs.declared.ids.AppId.{AppId}
 use Rattle.host_base.specs.declared.ids.GrainId.{GrainId}
 use Rattle.host_base.specs.declared.ids.GrantId.{GrantId}
-use Rattle.perm_roles.specs.Roles as roles
 use Rattle.share_graph.specs.declared.facts.Fact.{Fact}
 use Rattle.share_graph.specs.declared.facts.Fact.TheVariants.{Open, Perm}
 use Rattle.share_graph.specs.declared.facts.Node.{Node}
 use Rattle.share_graph.specs.declared.facts.Node.TheVariants as node
 use Rattle.share_graph.specs.declared.grants.Grant.{Grant}
-use Rattle.share_graph.specs.declared.rows.App.{App}
 use Rattle.share_graph.specs.declared.rows.Grain.{Grain}
 use Rattle.share_graph.specs.declared.state.Tables.{Tables}
 use Rattle.share_graph.specs.Coherent.{IsCoherent}

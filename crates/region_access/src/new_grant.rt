@@ -1,17 +1,18 @@
 //! The edges of a grant that is to be added.
 
-ghost use Rattle.std.specs.Prelude.{◌≡◌, List, Some, Contains, OnOk, OnErr};
+ghost use Rattle.std.specs.Prelude.{◌≡◌, ◌⊎◌, ◌↔◌, List, Some, Contains, OnOk, OnErr, IfOk};
 ghost use Rattle.host_base.specs.declared.ids.GrantId.{GrantId};
 ghost use Rattle.share_graph.specs.declared.facts.Node.{Node};
-ghost use Rattle.region_access.specs.Adding.{IsNewIn, HasSameEdges, MayAdd, AddsEdges};
+ghost use Rattle.region_access.specs.Adding.{IsNewIn, HasSameEdges, MayAdd, AddsEdges, IsNamed};
 ghost use Rattle.region_access.specs.declared.new_grant.NewGrant.{NewGrant};
-ghost use Rattle.region_access.specs.NewEdges.{HasFeeding, HasArrival};
+ghost use Rattle.region_access.specs.NewEdges.{HasFeeding, HasArrival, IsRowOf};
 ghost use Rattle.region_work.specs.Fed.{fed_in};
 
 use crate::adding::{add_edge, remove_edge};
 use host_base::{GrantId, Memory};
 use region_work::edges::Edges;
-use share_graph::Node;
+use region_work::meeting::holder_of;
+use share_graph::{Grant, Need, Node, node_of, source_of};
 use std::alloc::Global;
 
 /// A grant that is to be added: its number, its node, and the nodes that feed it.
@@ -117,4 +118,41 @@ pub fn remove_new(edges: &mut Edges, into: &mut Edges, added: &Option<NewGrant>)
         remove_edges(edges, grant.feeding.as_slice(), grant.num);
         remove_edges(into, &[grant.node], grant.num);
     }
+}
+
+// Adds a node, if there is one.
+fn push_some(nodes: &mut Vec<Node>, node: Option<Node>) -> Result<(), Memory>
+    ensures { OnOk result ((at : Node) → Contains nodes.new.items at ↔ (Contains nodes.old.items at ⊎ (node ≡ Some at))) }
+{
+    let Some(node) = node else {
+        return Ok(());
+    };
+    match nodes.push(node) {
+        Ok(_) => Ok(()),
+        Err(_) => Err(Memory),
+    }
+}
+
+// Adds the nodes that needs name.
+fn add_holders(nodes: &mut Vec<Node>, needs: &[Need]) -> Result<(), Memory>
+    ensures { OnOk result ((at : Node) → Contains nodes.new.items at ↔ (Contains nodes.old.items at ⊎ IsNamed needs.now at)) }
+{
+    for need in needs {
+        push_some(nodes, holder_of(need))?;
+    }
+    Ok(())
+}
+
+/// A grant that is to be added, with the nodes that feed it.
+pub fn new_grant(alloc: Global, grant: &Grant) -> Result<NewGrant, Memory>
+    ensures { IfOk result (λ added. (added.num ≡ grant.now.num) × IsRowOf added grant.now) }
+{
+    let mut feeding = Vec::new(alloc);
+    push_some(&mut feeding, source_of(grant))?;
+    add_holders(&mut feeding, grant.needs.as_slice())?;
+    Ok(NewGrant {
+        num: grant.num,
+        node: node_of(grant.num, grant),
+        feeding,
+    })
 }

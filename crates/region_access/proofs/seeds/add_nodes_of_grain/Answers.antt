@@ -1,4 +1,4 @@
-use Rattle.std.proofs.Common.{◌≡◌, ◌++◌, ◌∷◌, [], ◌∙◌, length, Contains, ap, inl, inr, arith}
+use Rattle.std.proofs.Common.{◌≡◌, ◌++◌, ◌∷◌, [], ◌∙◌, length, ap, inl, inr, arith}
 use Rattle.share_graph.proofs.Walks.{at_place}
 use Rattle.share_graph.specs.declared.facts.Node.{Node}
 use Rattle.share_graph.specs.declared.grants.Grant.{Grant}
