@@ -13,7 +13,7 @@ use Rattle.share_graph.specs.Region.{Feeds}
 use Rattle.share_graph.specs.Rows.{IsGrant}
 use Rattle.region_work.specs.Working.{IsIndexOf}
 use Rattle.region_work.proofs.Sums.{contains_cons, contains_none}
-use Rattle.region_access.specs.declared.new_grant.NewGrant.{NewGrant}
+use Rattle.region_access.specs.declared.fed_grant.NewGrant.{NewGrant}
 use Rattle.region_access.specs.Arriving.{IsArrivalsOf}
 use Rattle.region_access.specs.NewEdges.{HasFeeding, HasArrival, IsAlike, AddsGrant}
 

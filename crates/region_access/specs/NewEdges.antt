@@ -7,7 +7,7 @@ use Rattle.share_graph.specs.declared.state.Tables.{Tables}
 use Rattle.share_graph.specs.Nodes.{node_of, source_of}
 use Rattle.share_graph.specs.Region.{Feeds}
 use Rattle.share_graph.specs.Rows.{IsGrant}
-use Rattle.region_access.specs.declared.new_grant.NewGrant.{NewGrant}
+use Rattle.region_access.specs.declared.fed_grant.NewGrant.{NewGrant}
 use Rattle.region_access.specs.Adding.{IsNewIn, HasSameEdges, AddsEdges}
 
 -- the tables have no grant of the new one's number

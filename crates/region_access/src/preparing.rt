@@ -15,7 +15,7 @@ ghost use Rattle.region_access.specs.Room.{HasSameFacts, IsRoom, WasCleared};
 ghost use Rattle.region_work.specs.Working.{IsIndexOf};
 
 use crate::clearing::{clear, undo};
-use crate::new_grant::{NewGrant, add_new, remove_new};
+use crate::fed_grant::{NewGrant, add_new, remove_new};
 use crate::reaching::find_region;
 use crate::room::Room;
 use host_base::Memory;

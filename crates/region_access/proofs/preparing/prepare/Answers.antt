@@ -1,5 +1,5 @@
 use Rattle.std.proofs.Common.{Option, subst}
-use Rattle.region_access.specs.declared.new_grant.NewGrant.{NewGrant}
+use Rattle.region_access.specs.declared.fed_grant.NewGrant.{NewGrant}
 use Rattle.region_access.specs.NewEdges.{HasNoRow}
 use Rattle.region_work.specs.Fed.{fed_in}
 use Rattle.region_access.proofs.After.{index_after, arrivals_after}

@@ -1,7 +1,7 @@
 use Rattle.std.proofs.Common.{Contains}
 use Rattle.region_work.specs.Fed.{fed_in}
 use Rattle.region_access.proofs.TakenOut.{added_all}
-use Rattle.region_access.proofs.new_grant.add_to_all.Goals as goal
+use Rattle.region_access.proofs.fed_grant.add_to_all.Goals as goal
 
 pub returns-in-Ok-clause-ok : goal.returns-in-Ok-clause-ok
 returns-in-Ok-clause-ok c =

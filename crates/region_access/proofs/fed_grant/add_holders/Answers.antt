@@ -4,7 +4,7 @@ use Rattle.share_graph.specs.declared.grants.Need.{Need}
 use Rattle.region_access.specs.Adding.{IsNamed}
 use Rattle.region_work.specs.Owed.{holder_of}
 use Rattle.region_access.proofs.Added.{named_more}
-use Rattle.region_access.proofs.new_grant.add_holders.Goals as goal
+use Rattle.region_access.proofs.fed_grant.add_holders.Goals as goal
 
 pub loop-need-preserved : goal.loop-need-preserved
 loop-need-preserved c at =

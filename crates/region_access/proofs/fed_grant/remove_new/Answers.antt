@@ -1,10 +1,10 @@
 use Rattle.std.proofs.Common.{List, Option, Contains, sym, subst}
 use Rattle.share_graph.specs.declared.facts.Node.{Node}
 use Rattle.region_access.specs.Adding.{MayAdd}
-use Rattle.region_access.specs.declared.new_grant.NewGrant.{NewGrant}
+use Rattle.region_access.specs.declared.fed_grant.NewGrant.{NewGrant}
 use Rattle.region_access.specs.NewEdges.{HasFeeding, HasArrival}
 use Rattle.region_work.specs.Fed.{fed_in}
-use Rattle.region_access.proofs.new_grant.remove_new.Goals as goal
+use Rattle.region_access.proofs.fed_grant.remove_new.Goals as goal
 
 pub returns-in-Some-clause-feeding : goal.returns-in-Some-clause-feeding
 returns-in-Some-clause-feeding c base has =

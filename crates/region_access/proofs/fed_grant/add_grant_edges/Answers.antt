@@ -2,7 +2,7 @@ use Rattle.std.proofs.Common.{List, Contains, sym, ◌∙◌, subst}
 use Rattle.share_graph.specs.declared.facts.Node.{Node}
 use Rattle.region_access.specs.Adding.{MayAdd}
 use Rattle.region_work.specs.Fed.{fed_in}
-use Rattle.region_access.proofs.new_grant.add_grant_edges.Goals as goal
+use Rattle.region_access.proofs.fed_grant.add_grant_edges.Goals as goal
 
 pub returns-in-Err-clause-err : goal.returns-in-Err-clause-err
 returns-in-Err-clause-err c =

@@ -4,7 +4,7 @@ ghost use Rattle.std.specs.Prelude.{◌≡◌, ◌⊎◌, ◌↔◌, List, Some,
 ghost use Rattle.host_base.specs.declared.ids.GrantId.{GrantId};
 ghost use Rattle.share_graph.specs.declared.facts.Node.{Node};
 ghost use Rattle.region_access.specs.Adding.{IsNewIn, HasSameEdges, MayAdd, AddsEdges, IsNamed};
-ghost use Rattle.region_access.specs.declared.new_grant.NewGrant.{NewGrant};
+ghost use Rattle.region_access.specs.declared.fed_grant.NewGrant.{NewGrant};
 ghost use Rattle.region_access.specs.NewEdges.{HasFeeding, HasArrival, IsRowOf};
 ghost use Rattle.region_work.specs.Fed.{fed_in};
 

@@ -4,7 +4,7 @@ use Rattle.share_graph.specs.declared.facts.Node.{Node}
 use Rattle.share_graph.specs.declared.facts.Node.TheVariants as node
 use Rattle.region_work.specs.Fed.{fed_in}
 use Rattle.region_access.proofs.TakenOut.{added_one, still_may}
-use Rattle.region_access.proofs.new_grant.add_edges.Goals as goal
+use Rattle.region_access.proofs.fed_grant.add_edges.Goals as goal
 
 -- what a read past the end would give
 abbrev blank : Node

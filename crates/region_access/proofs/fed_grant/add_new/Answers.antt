@@ -1,4 +1,4 @@
-use Rattle.region_access.proofs.new_grant.add_new.Goals as goal
+use Rattle.region_access.proofs.fed_grant.add_new.Goals as goal
 
 pub add_grant_edges-requires-clause-new : goal.add_grant_edges-requires-clause-new
 add_grant_edges-requires-clause-new c = c.requires.new c.in-Some.grant c.in-Some.is

@@ -4,7 +4,7 @@ use Rattle.share_graph.specs.declared.grants.Need.{Need}
 use Rattle.region_access.specs.Adding.{IsNamed}
 use Rattle.region_work.proofs.Sums.{contains_none}
 use Rattle.region_access.proofs.Added.{feeds_either}
-use Rattle.region_access.proofs.new_grant.new_grant.Goals as goal
+use Rattle.region_access.proofs.fed_grant.new_grant.Goals as goal
 
 pub returns : goal.returns
 returns c = (
