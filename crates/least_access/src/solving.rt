@@ -28,7 +28,7 @@ use std::marker::Model;
 /// What each node holds, by the tables that it was solved for.
 #[derive(Drop)]
 pub struct Solved {
-    table: Table,
+    pub table: Table,
 }
 
 impl Model for Solved {

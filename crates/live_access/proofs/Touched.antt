@@ -1,0 +1,93 @@
+-- What each event touches, in its own words.
+use Rattle.std.proofs.Common.{◌≡◌, ◌≢◌, ◌⊎◌, ◌+◌, ℕ, Bool, List, [], ◌∷◌, ◌++◌, Some, Contains, length, refl, sym, ◌∙◌, ap, subst, inl, inr, arith}
+use Rattle.host_base.specs.declared.ids.AccountId.{AccountId}
+use Rattle.host_base.specs.declared.ids.GrainId.{GrainId}
+use Rattle.host_base.specs.declared.ids.GrantId.{GrantId}
+use Rattle.share_graph.specs.declared.facts.Node.{Node}
+use Rattle.share_graph.specs.declared.facts.Node.TheVariants as node
+use Rattle.share_graph.specs.declared.grants.Grant.{Grant}
+use Rattle.share_graph.specs.declared.rows.Account.{Account}
+use Rattle.share_graph.specs.declared.rows.Grain.{Grain}
+use Rattle.share_graph.specs.declared.state.Tables.{Tables}
+use Rattle.share_graph.specs.Changing.{change_row}
+use Rattle.share_graph.specs.Coherent.{IsCoherent}
+use Rattle.share_graph.specs.Nodes.{node_of}
+use Rattle.share_graph.specs.Revoking.{revoke_in}
+use Rattle.share_graph.specs.Rows.{row, IsGrain, IsGrant, IsEnabled, IsAdmin}
+use Rattle.share_graph.specs.Setting.{with_admin, with_enabled, revoked}
+use Rattle.share_graph.proofs.Marked.{change_row_other}
+use Rattle.least_access.proofs.Turns.{grant_id}
+use Rattle.state_step.proofs.Each.{push_old_row}
+use Rattle.region_work.specs.Prepared.{LeadsNowhere, Touches}
+use Rattle.region_access.proofs.ManyAccounts.{with_accounts, HasOwnNodes, HasNeeding, touches_by_accounts}
+use Rattle.region_access.proofs.ManyGrains.{with_grains, MayTouch, touches_by_grains}
+use Rattle.region_access.proofs.OneGrant.{touches, closed_since}
+use Rattle.region_access.proofs.Trashed.{row_changed, row_changed_back, same_number}
+use Rattle.live_access.proofs.Pushed.{row_before, row_new, row_pushed, none_next}
+
+-- ---- a grant that is added
+
+pub grant_added_touches : (t : Tables) (grant : Grant) (nodes : List Node) → grant.num.0 ≡ length t.grants + 1 → IsCoherent t → IsCoherent (record t { grants = t.grants ++ grant ∷ [] })
+    → Contains nodes (node_of grant.num grant) → LeadsNowhere t nodes → Touches nodes t (record t { grants = t.grants ++ grant ∷ [] })
+grant_added_touches t grant nodes next coherent coherent_after inside closed =
+    let gs : List Grant = t.grants ++ grant ∷ [] in
+    let g : GrantId = grant.num in
+    let others : (h : GrantId) → h ≢ g → row gs h.0 ≡ row t.grants h.0 = λ h apart. row_before t.grants grant h.0 (λ e. apart (ap (λ n. grant_id n) (e ∙ sym next))) in
+    let was : (x : Grant) → IsGrant t g x → Contains nodes (node_of g x) = λ x is. absurd (none_next t.grants g.0 x next is) in
+    let is : (x : Grant) → row gs g.0 ≡ Some x → Contains nodes (node_of g x) = λ x there.
+    (elim (row_pushed t.grants grant g.0 x there) [
+      | inl before ↦ absurd (none_next t.grants g.0 x next before)
+      | inr (last, same) ↦ subst (λ (y : Grant). Contains nodes (node_of g y)) same inside
+    ]) in
+    touches t gs g nodes others was is coherent coherent_after (closed_since t gs g nodes others was is closed)
+
+-- ---- a grant that is revoked
+
+pub grant_revoked_touches : (t : Tables) (g : GrantId) (nodes : List Node) → IsCoherent t → IsCoherent (revoke_in t g)
+    → ((grant : Grant) → IsGrant t g grant → Contains nodes (node_of g grant)) → LeadsNowhere t nodes → Touches nodes t (revoke_in t g)
+grant_revoked_touches t g nodes coherent coherent_after was closed =
+    let gs : List Grant = change_row revoked t.grants g.0 in
+    let others : (h : GrantId) → h ≢ g → row gs h.0 ≡ row t.grants h.0 = λ h apart. change_row_other revoked t.grants g.0 h.0 (λ e. apart (ap (λ n. grant_id n) e)) in
+    let is : (grant : Grant) → row gs g.0 ≡ Some grant → Contains nodes (node_of g grant) = λ grant there.
+    (let (before, known, same) = row_changed_back revoked t.grants g.0 grant there in subst (λ (x : Grant). Contains nodes (node_of g x)) same (was before known)) in
+    touches t gs g nodes others was is coherent coherent_after (closed_since t gs g nodes others was is closed)
+
+-- ---- a grain that is added
+
+pub grain_added_touches : (t : Tables) (grain : Grain) (nodes : List Node) → grain.num.0 ≡ length t.grains + 1 → IsCoherent t → IsCoherent (record t { grains = t.grains ++ grain ∷ [] })
+    → Contains nodes (node.User grain.num grain.owner) → LeadsNowhere t nodes → Touches nodes t (record t { grains = t.grains ++ grain ∷ [] })
+grain_added_touches t grain nodes next coherent coherent_after inside closed =
+    let new : List Grain = t.grains ++ grain ∷ [] in
+    let none_on : (g : GrantId) (grant : Grant) → IsGrant t g grant → grant.grain.0 ≡ length t.grains + 1 → ⊥ = λ g grant is on.
+    (let (row_of, there) = (coherent.grants g grant is).knows.grain in none_next t.grains grant.grain.0 row_of on there) in
+    let forth : (n : GrainId) (x : Grain) → row t.grains n.0 ≡ Some x → MayTouch t nodes new n x = λ n x is. inl (push_old_row t.grains (grain ∷ []) n.0 x is) in
+    let back : (n : GrainId) (x : Grain) → row new n.0 ≡ Some x → MayTouch t nodes t.grains n x = λ n x is.
+    (elim (row_pushed t.grains grain n.0 x is) [
+      | inl before ↦ inl before
+      | inr (last, same) ↦
+          let here : grain.num ≡ n = ap (λ k. grain_id k) (next ∙ sym last) in
+          let own : Contains nodes (node.User n x.owner) = subst (λ (y : Grain). Contains nodes (node.User n y.owner)) same (subst (λ (m : GrainId). Contains nodes (node.User m grain.owner)) here inside) in
+          inr (own, (λ g grant there on. absurd (none_on g grant there (ap (λ (m : GrainId). m.0) on ∙ last))), inr (λ g grant there on. none_on g grant there (ap (λ (m : GrainId). m.0) on ∙ last)))
+    ]) in
+    touches_by_grains t nodes t.grains new coherent coherent_after forth back closed
+    where
+      abbrev grain_id : ℕ → GrainId
+      grain_id n = record { 0 = n }
+
+-- ---- an account that becomes an admin or is one no longer, or is enabled or disabled
+
+abbrev account_id : ℕ → AccountId
+account_id n = record { 0 = n }
+
+module _ (t : Tables) (a : AccountId) (on : Bool) (nodes : List Node) where
+  abbrev admins : List Account
+  admins = change_row (with_admin on) t.accounts a.0
+
+  enabled_of_admin : (b : AccountId) → IsEnabled t b → IsEnabled (with_accounts t admins) b
+  enabled_of_admin b (account, is, yes) =
+      elim (same_number b.0 a.0) [
+        | inl same ↦
+            let there : row t.accounts a.0 ≡ Some account = subst (λ (k : ℕ). row t.accounts k ≡ Some account) same is in
+            (with_admin on account, subst (λ (k : ℕ). row admins k ≡ Some (with_admin on account)) (sym same) (row_changed (with_admin on) t.accounts a.0 account there), yes)
+        | inr apart ↦ (account, change_row_other (with_admin on) t.accounts a.0 b.0 apart ∙ is, yes)
+      ]

@@ -1,0 +1,9 @@
+//! Who holds what, kept along the history of events.
+#![tactic(auto)]
+
+mod adding;
+mod region;
+mod solution;
+
+pub use region::Region;
+pub use solution::{Solution, solve};

@@ -1,0 +1,107 @@
+//! The solution of tables, kept along the history of events.
+
+ghost use Rattle.std.specs.Prelude.{◌≡◌, ◌↔◌, ◌≤◌, ◌+◌, IfOk, OnErr, vec_len};
+ghost use Rattle.share_graph.specs.declared.event.Event.{Event};
+ghost use Rattle.share_graph.specs.declared.facts.Fact.{Fact};
+ghost use Rattle.share_graph.specs.declared.facts.Node.{Node};
+ghost use Rattle.share_graph.specs.declared.state.State.{State};
+ghost use Rattle.share_graph.specs.Checked.{IsChecked};
+ghost use Rattle.share_graph.specs.EventFits.{EventFits};
+ghost use Rattle.share_graph.specs.History.{after};
+ghost use Rattle.share_graph.specs.Trees.{HasTree};
+ghost use Rattle.share_graph.specs.WellFormed.{IsWithinLimits, IsWellFormed};
+ghost use Rattle.least_access.specs.Solved.{HeldAt};
+ghost use Rattle.region_work.specs.Starting.{needs_by, most_tests};
+ghost use Rattle.live_access.specs.Kept.{IsSolvedFor};
+ghost use Rattle.live_access.specs.Ready.{IsReadyFor};
+
+use crate::region::Region;
+use host_base::Memory;
+use least_access::Solved;
+use region_work::Probe;
+use region_work::edges::Edges;
+use share_graph::{Event, State, Tables};
+use std::alloc::Global;
+use std::marker::Model;
+
+/// What each node holds, with the indexes by which the region of a change is found in its own size.
+#[derive(Drop)]
+pub struct Solution {
+    solved: Solved,
+    edges: Edges,
+    arrivals: Edges,
+}
+
+impl Model for Solution {
+    ghost use Rattle.live_access.specs.Kept.{Kept};
+
+    ghost Value = { Kept };
+
+    ghost view = { λ solution. record { table = solution.solved; fed = solution.edges.entries; into = solution.arrivals.entries } };
+}
+
+/// Solves tables from scratch, in time that is near linear in what is held, needed and shared: each node holds exactly the facts of
+/// which there is a derivation, which are those that a finite tree shows.
+pub fn solve(alloc: Global, tables: &Tables) -> Result<Solution, Memory>
+    requires checked { IsChecked tables.now }
+    requires limits { IsWithinLimits tables.now }
+    ensures solved { IfOk result (IsSolvedFor tables.now) }
+    ensures trees { IfOk result (λ solution. (at : Node) (fact : Fact) → HeldAt solution.table at fact ↔ HasTree tables.now at fact) }
+{
+    todo!()
+}
+
+impl Solution {
+    /// What each node holds.
+    pub fn solved(&self) -> &Solved
+        ensures { result.now ≡ self.now.table }
+    {
+        &self.solved
+    }
+
+    /// What each node holds, without the indexes.
+    pub fn into_solved(self) -> Solved
+        ensures { result ≡ self.table }
+    {
+        self.solved
+    }
+
+    /// Makes ready for an event: finds its region, takes all room that solving it again wants, clears it, and adds the edges of a
+    /// new grant. Want of memory leaves the solution what it was.
+    pub fn prepare(&mut self, alloc: Global, state: &State, event: &Event) -> Result<Region, Memory>
+        requires formed { IsWellFormed state.now }
+        requires fits { EventFits state.now event.now }
+        requires solved { IsSolvedFor state.now.tables self.old }
+        ensures ok { IfOk result (IsReadyFor state.now event.now self.new) }
+        ensures err { OnErr result (IsSolvedFor state.now.tables self.new) }
+    {
+        todo!()
+    }
+
+    /// Solves the region again, by the state after the event. It takes no memory.
+    pub fn settle(&mut self, state: &State, region: Region)
+        requires { (s : State) × (e : Event) × IsReadyFor s e self.old region × (state.now ≡ after s e) }
+        ensures { IsSolvedFor state.now.tables self.new }
+    {
+        todo!()
+    }
+
+    /// The same over any probe of the tables, with the bound on its tests: `65 * (G + R) + G`, where the region has G grants with R
+    /// needs.
+    pub fn settle_by<V: Probe>(&mut self, probe: &mut V, region: Region)
+        requires { (s : State) × (e : Event) × IsReadyFor s e self.old region × (V.tables probe.old ≡ (after s e).tables) }
+        ensures same { V.tables probe.new ≡ V.tables probe.old }
+        ensures solved { IsSolvedFor (V.tables probe.old) self.new }
+        ensures bound { V.count probe.new ≤ V.count probe.old + most_tests (vec_len region.grants) (needs_by (V.tables probe.old) region.grants.items) }
+    {
+        todo!()
+    }
+
+    /// Takes back what was made ready: the solution is what it was.
+    pub fn take_back(&mut self, region: Region)
+        requires { (s : State) × (e : Event) × IsReadyFor s e self.old region }
+        ensures { (s : State) (e : Event) → IsReadyFor s e self.old region → IsSolvedFor s.tables self.new }
+    {
+        todo!()
+    }
+}
