@@ -6,7 +6,7 @@ mod changed;
 mod preparing;
 mod staged;
 
-pub use applying::{ROOT_SESSIONS, after, apply};
+pub use applying::{ROOT_SESSIONS, after, apply, copy_of_event};
 pub use changed::row_of_event;
 pub use preparing::prepare;
 pub use staged::Staged;

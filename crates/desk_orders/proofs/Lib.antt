@@ -1,0 +1,2 @@
+pub mod OfOrders
+pub mod Wanted

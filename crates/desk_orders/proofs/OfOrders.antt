@@ -1,0 +1,50 @@
+-- What holds of the commands holds of orders: one line a command, and nothing above speaks of commands.
+use Rattle.std.proofs.Common.{◌≡◌, ℕ, Option, Some, None, true, false, sym, subst}
+use Rattle.host_base.specs.declared.digest.Digest.{Digest}
+use Rattle.share_graph.specs.declared.desk.Caller.{Caller}
+use Rattle.share_graph.specs.declared.desk.Made.{Made}
+use Rattle.share_graph.specs.declared.event.Event.{Event}
+use Rattle.share_graph.specs.declared.state.State.{State}
+use Rattle.share_graph.specs.EventFits.{EventFits}
+use Rattle.share_graph.specs.Forms.{IsOne}
+use Rattle.share_graph.specs.WellFormed.{IsWellFormed}
+use Rattle.desk_base.specs.Accepting.{Accepts}
+use Rattle.desk_base.specs.Fitting.{RowFits}
+use Rattle.desk_base.specs.Steps.{Step, Plain, Drawn}
+use Rattle.account_desk.proofs.OneRows.{add_account_one, set_admin_one, set_enabled_one, add_app_one, new_grain_one, trash_one}
+use Rattle.account_desk.proofs.FitRows.{add_account_fits, set_admin_fits, set_enabled_fits, add_app_fits, new_grain_fits, trash_fits}
+use Rattle.desk_orders.specs.declared.order.Command.{Command}
+use Rattle.desk_orders.specs.declared.order.Command.TheVariants as command
+use Rattle.desk_orders.specs.Commands.{Asked, IsStated}
+use Rattle.desk_orders.specs.Orders.{RowBy, RowOf}
+
+one_by : (s : State) → IsWellFormed s → (who : Caller) (c : Command) → IsOne (RowBy s who c)
+one_by s formed who (command.AddAccount handle name) = add_account_one s formed who handle name
+one_by s formed who (command.SetAdmin a on) = set_admin_one s formed who a on
+one_by s formed who (command.SetEnabled a on) = set_enabled_one s formed who a on
+one_by s formed who (command.AddApp manifest) = add_app_one s formed who manifest
+one_by s formed who (command.NewGrain app title) = new_grain_one s formed who app title
+one_by s formed who (command.Trash n) = trash_one s formed who n true
+one_by s formed who (command.Untrash n) = trash_one s formed who n false
+
+pub order_one : (s : State) → IsWellFormed s → (order : Asked) → IsOne (RowOf s order)
+unfolding RowOf
+order_one s formed order = one_by s formed order.caller order.command
+
+fits_by : (s : State) → IsWellFormed s → (who : Caller) (c : Command) → IsStated c → RowFits s (RowBy s who c)
+fits_by s formed who (command.AddAccount handle name) stated = add_account_fits s formed who handle name stated
+fits_by s formed who (command.SetAdmin a on) stated = set_admin_fits s formed who a on
+fits_by s formed who (command.SetEnabled a on) stated = set_enabled_fits s formed who a on
+fits_by s formed who (command.AddApp manifest) stated = add_app_fits s formed who manifest stated
+fits_by s formed who (command.NewGrain app title) stated = new_grain_fits s formed who app title
+fits_by s formed who (command.Trash n) stated = trash_fits s formed who n true
+fits_by s formed who (command.Untrash n) stated = trash_fits s formed who n false
+
+pub order_fits : (s : State) → IsWellFormed s → (order : Asked) → IsStated order.command → RowFits s (RowOf s order)
+unfolding RowOf
+order_fits s formed order stated = fits_by s formed order.caller order.command stated
+
+-- what is accepted fits
+pub accepted_fits : (s : State) (n : ℕ) (drawn : Option Digest) (Row : Step → Type 0) (e : Event) (made : Made) → RowFits s Row → Accepts s n drawn Row e made → EventFits s e
+accepted_fits s n None Row e made fits (is, less) = fits.fits (Plain e) made is
+accepted_fits s n (Some d) Row e made fits (f, (is, less), same, unused) = subst (λ (x : Event). EventFits s x) (sym same) (fits.fits (Drawn f) made is d unused)

@@ -1,0 +1,24 @@
+ghost use Rattle.std.specs.Prelude.{◌≡◌, length, IfOk};
+ghost use Rattle.hub_core.specs.Book.{Book, TakesNone, Judged, Ordered};
+
+use desk_orders::{Order, OrderFault, Reply};
+use host_base::{Key, Memory, Verdict};
+use std::alloc::Global;
+
+/// What judges keys and answers orders. Others may add entries to its history at any call.
+pub trait Desk {
+    ghost book: { Self → Book };
+
+    /// How many entries of the history were seen.
+    fn place(&self) -> u64
+        ensures { result ≡ length (book self.now).seen };
+
+    /// The verdict on a key, and its place in the history. No command is accepted by it.
+    fn verdict(&mut self, alloc: Global, key: &Key) -> Result<(u64, Verdict), Memory>
+        ensures none { TakesNone (book self.old) (book self.new) }
+        ensures judged { IfOk result (λ r. Judged (length (book self.old).seen) (book self.new) key.now r.0 r.1) };
+
+    /// Answers an order, at a place of the history: where it changes something, its event is the entry at that place.
+    fn order(&mut self, alloc: Global, order: Order) -> (u64, Result<Reply, OrderFault>)
+        ensures { Ordered (book self.old) (book self.new) order result.0 result.1 };
+}

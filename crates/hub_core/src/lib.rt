@@ -1,0 +1,13 @@
+//! The hub: one value that holds the state, its history and what each node holds, and answers keys and orders by them.
+#![tactic(auto)]
+
+mod adding;
+mod answering;
+mod desk;
+mod locked;
+mod solo;
+
+pub use desk::Desk;
+pub use desk_orders::{Command, Listed, Order, OrderFault, Reply};
+pub use locked::{Locked, NotOpened, OpenFault};
+pub use solo::SoloDesk;

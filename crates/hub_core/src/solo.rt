@@ -1,0 +1,60 @@
+//! A desk that owns its history.
+
+ghost use Rattle.std.specs.Prelude.{◌≡◌, length, IfOk};
+ghost use Rattle.hub_core.specs.Book.{TakesNone, Judged, Ordered};
+ghost use Rattle.hub_core.specs.Sharing.{book_of};
+
+use crate::desk::Desk;
+use crate::locked::Locked;
+use desk_orders::{Order, OrderFault, Reply};
+use host_base::{Key, Memory, Secrets, Verdict};
+use std::alloc::Global;
+use std::marker::Model;
+
+/// A desk that owns its history: nobody else adds to it, so its places are all of it.
+#[derive(Drop)]
+pub struct SoloDesk<S> {
+    locked: Locked<S>,
+}
+
+impl<S> Model for SoloDesk<S> {
+    ghost use Rattle.hub_core.specs.Sharing.{Sharing};
+
+    ghost Value = { Sharing S };
+
+    ghost view = { λ desk. desk.locked };
+}
+
+impl<S: Secrets> SoloDesk<S> {
+    /// A desk that owns a history.
+    pub fn new(locked: Locked<S>) -> Self
+        ensures { result ≡ locked }
+    {
+        SoloDesk { locked }
+    }
+
+    /// The history, handed back.
+    pub fn into_locked(self) -> Locked<S>
+        ensures { result ≡ self }
+    {
+        self.locked
+    }
+}
+
+impl<S: Secrets> Desk for SoloDesk<S> {
+    ghost book = { λ sharing. book_of sharing.start sharing.history (S.drawer sharing.secrets) };
+
+    fn place(&self) -> u64 {
+        self.locked.entries()
+    }
+
+    fn verdict(&mut self, alloc: Global, key: &Key) -> Result<(u64, Verdict), Memory> {
+        let verdict = self.locked.verdict(alloc, key)?;
+        Ok((self.locked.entries(), verdict))
+    }
+
+    fn order(&mut self, alloc: Global, order: Order) -> (u64, Result<Reply, OrderFault>) {
+        let place = self.locked.entries();
+        (place, self.locked.order(alloc, order))
+    }
+}
