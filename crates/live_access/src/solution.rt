@@ -1,6 +1,6 @@
 //! The solution of tables, kept along the history of events.
 
-ghost use Rattle.std.specs.Prelude.{◌≡◌, ◌↔◌, ◌<◌, ◌≤◌, ◌+◌, IfOk, OnErr, vec_len};
+ghost use Rattle.std.specs.Prelude.{◌≡◌, ◌↔◌, ◌<◌, ◌≤◌, ◌+◌, IfOk, OnErr, length};
 ghost use Rattle.share_graph.specs.declared.event.Event.{Event};
 ghost use Rattle.share_graph.specs.declared.facts.Fact.{Fact};
 ghost use Rattle.share_graph.specs.declared.facts.Node.{Node};
@@ -168,7 +168,7 @@ impl Solution {
         requires { (s : State) × (e : Event) × IsReadyFor s e self.old region × (V.tables probe.old ≡ (after s e).tables) }
         ensures same { V.tables probe.new ≡ V.tables probe.old }
         ensures solved { IsSolvedFor (V.tables probe.old) self.new }
-        ensures bound { V.count probe.new ≤ V.count probe.old + most_tests (vec_len region.grants) (needs_by (V.tables probe.old) region.grants.items) }
+        ensures bound { V.count probe.new ≤ V.count probe.old + most_tests (length region.grants.items) (needs_by (V.tables probe.old) region.grants.items) }
     {
         solve_region(
             probe,
