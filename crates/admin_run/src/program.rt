@@ -8,7 +8,7 @@ use crate::words::is_play;
 use cloud_serve::{Desk, End, SoloDesk, serve_conn};
 use grain_supervise::Link;
 use host_base::{Memory, Sink, Source, WriteFailed};
-use least_access::solve;
+use live_access::solve;
 use small_book::small_book;
 use std::alloc::Global;
 
@@ -48,8 +48,8 @@ fn small_desk(alloc: Global) -> Result<SoloDesk, Memory>
     ensures { IfOk result (λ desk. ⟦<SoloDesk as Desk>⟧.book desk ≡ play_book) }
 {
     let book = small_book(alloc)?;
-    let solved = solve(alloc, &book.tables)?;
-    Ok(SoloDesk::new(book, solved))
+    let solution = solve(alloc, &book.tables)?;
+    Ok(SoloDesk::new(book, solution.into_solved()))
 }
 
 /// All that the program does. `play` serves one connection from the small book; any other words get the usage line.

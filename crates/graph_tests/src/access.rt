@@ -6,7 +6,8 @@ ghost use Rattle.least_access.specs.Solved.{IsSolutionOf};
 
 use crate::fault::NoAnswer;
 use host_base::Key;
-use least_access::{Solved, solve};
+use least_access::Solved;
+use live_access::solve;
 use session_table::verdict;
 use share_graph::{State, Tables, is_node};
 use state_text::{AsSet, Words};
@@ -22,7 +23,7 @@ fn solved(alloc: Global, tables: &Tables) -> Result<Solved, NoAnswer>
     if !is_within_limits(tables) {
         return Err(NoAnswer::BeyondLimit);
     }
-    Ok(solve(alloc, tables)?)
+    Ok(solve(alloc, tables)?.into_solved())
 }
 
 /// What a node holds.

@@ -11,7 +11,7 @@ abbrev pub IsIn : Held → Fact → Type 0
 IsIn held Open = held.entry ≡ true
 IsIn held (Perm p) = Has held.perms p
 
--- Of the measure by which the rounds end: how many more positions the set can gain, and how much more can be held.
+-- Of the measure by which solving ends: how many more positions the set can gain, and how much more can be held.
 unfoldable pub gain : PermSet → ℕ
 gain set = 64 - length (positions set)
 

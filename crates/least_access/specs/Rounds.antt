@@ -1,5 +1,5 @@
--- An aid for the proof of solving: what rounds over a table keep and gain.
-use Rattle.std.specs.Prelude.{ℕ, IsSome, sum_by}
+-- An aid for the proofs of solving: what a table has so far, and how much more it can have.
+use Rattle.std.specs.Prelude.{ℕ, sum_by}
 use Rattle.std.specs.Map.{values_of}
 use Rattle.host_base.specs.declared.ids.GrainId.{GrainId}
 use Rattle.host_base.specs.declared.ids.GrantId.{GrantId}
@@ -11,10 +11,9 @@ use Rattle.share_graph.specs.declared.rows.App.{App}
 use Rattle.share_graph.specs.declared.rows.Grain.{Grain}
 use Rattle.share_graph.specs.declared.state.Tables.{Tables}
 use Rattle.share_graph.specs.Derivation.{Owns, IsFactOf, Holds, Follows}
-use Rattle.share_graph.specs.Nodes.{node_of}
 use Rattle.share_graph.specs.Rows.{IsGrant}
 use Rattle.least_access.specs.Held.{room}
-use Rattle.least_access.specs.Solved.{Table, held_at, HeldAt}
+use Rattle.least_access.specs.Solved.{Table, HeldAt}
 
 -- how much more the nodes of the table can hold
 abbrev pub total_room : Table → ℕ
@@ -27,15 +26,6 @@ IsSound t table = (at : Node) (fact : Fact) → HeldAt table at fact → Holds t
 -- the table has what the owners of grains hold
 abbrev pub HasOwners : Tables → Table → Type 0
 HasOwners t table = (n : GrainId) (grain : Grain) (app : App) (fact : Fact) → Owns t n grain app → IsFactOf app fact → HeldAt table (node.User n grain.owner) fact
-
--- the table has a place for the node of each grant
-abbrev pub HasNodes : Tables → Table → Type 0
-HasNodes t table = (g : GrantId) (grant : Grant) → IsGrant t g grant → IsSome (held_at table (node_of g grant))
-
--- the second table has what the first has, and a place for each of its nodes
-pub record Grows (old new : Table) : Type 0 where
-  pub facts : (at : Node) (fact : Fact) → HeldAt old at fact → HeldAt new at fact
-  pub nodes : (at : Node) → IsSome (held_at old at) → IsSome (held_at new at)
 
 -- what follows by the grant from what the table has, the table has
 abbrev pub IsClosedAt : Tables → Table → GrantId → Grant → Type 0

@@ -1,4 +1,4 @@
-ghost use Rattle.std.specs.Prelude.{◌≡◌, ◌≤◌, ◌↔◌, ◌⊎◌, IsTrue};
+ghost use Rattle.std.specs.Prelude.{◌≡◌, ◌≤◌, ◌↔◌, ◌⊎◌};
 ghost use Rattle.share_graph.specs.declared.facts.Fact.{Fact};
 
 use perm_roles::PermSet;
@@ -21,16 +21,6 @@ impl Held {
             entry: false,
             perms: PermSet::empty(),
         }
-    }
-
-    /// Whether this holds all that the other holds.
-    pub fn contains(&self, other: &Held) -> bool
-        ensures { IsTrue result ↔ ((fact : Fact) → IsIn other.now fact → IsIn self.now fact) }
-    {
-        if other.entry && !self.entry {
-            return false;
-        }
-        self.perms.contains(&other.perms)
     }
 
     /// What either holds.

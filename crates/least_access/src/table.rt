@@ -6,7 +6,7 @@ ghost use Rattle.share_graph.specs.declared.facts.Node.{Node};
 ghost use Rattle.least_access.specs.declared.held.Held.{Held};
 ghost use Rattle.least_access.specs.Held.{IsIn, room};
 ghost use Rattle.least_access.specs.Solved.{held_at, HeldAt};
-ghost use Rattle.least_access.specs.Rounds.{total_room, Grows};
+ghost use Rattle.least_access.specs.Rounds.{total_room};
 
 use crate::held::Held;
 use host_base::Memory;
@@ -50,16 +50,4 @@ pub fn set(table: &mut Table, node: Node, held: Held) -> Result<(), Memory>
         Ok(_) => Ok(()),
         Err(_) => Err(Memory),
     }
-}
-
-/// Makes a place for a node that the table hasn't yet. It holds nothing there.
-pub fn make_place(table: &mut Table, node: Node) -> Result<(), Memory>
-    ensures there { OnOk result (IsSome (held_at table.new.entries node)) }
-    ensures grows { OnOk result (Grows table.old.entries table.new.entries) }
-    ensures facts { OnOk result ((at : Node) (fact : Fact) → HeldAt table.new.entries at fact → HeldAt table.old.entries at fact) }
-{
-    if table.contains_key(&node) {
-        return Ok(());
-    }
-    set(table, node, Held::none())
 }

@@ -1,6 +1,7 @@
 -- Rows with one more at their end.
 use Rattle.std.proofs.Common.{◌≡◌, ◌≢◌, ◌⊎◌, ◌+◌, ◌≤◌, ℕ, zero, suc, List, [], ◌∷◌, ◌++◌, Some, length, slice_get, refl, ap, inl, inr, arith, add-one}
 use Rattle.share_graph.specs.Rows.{row}
+use Rattle.share_graph.specs.WellFormed.{AreNumbered}
 use Rattle.least_access.proofs.Turns.{row_within}
 use Rattle.state_step.proofs.Each.{push_cases}
 
@@ -31,3 +32,7 @@ row_pushed xs y (suc k) z is = elim (push_cases xs y k z is) [ inl (less, there)
 -- no row has the next number
 pub none_next : {X : Type 0} (xs : List X) (n : ℕ) (x : X) → n ≡ length xs + 1 → row xs n ≡ Some x → ⊥
 none_next xs n x next is = let within : n ≤ length xs = row_within xs n x is in omega arith
+
+-- where rows are numbered, the last has the number of its place
+pub next_number : {X : Type 0} (num : X → ℕ) (xs : List X) (y : X) → AreNumbered num (xs ++ y ∷ []) → num y ≡ length xs + 1
+next_number num xs y numbered = numbered (length xs) y (push_new xs y)

@@ -1,5 +1,5 @@
 -- What each event touches, in its own words.
-use Rattle.std.proofs.Common.{◌≡◌, ◌≢◌, ◌⊎◌, ◌+◌, ℕ, Bool, List, [], ◌∷◌, ◌++◌, Some, Contains, length, refl, sym, ◌∙◌, ap, subst, inl, inr, arith}
+use Rattle.std.proofs.Common.{◌≡◌, ◌≢◌, ◌⊎◌, ◌+◌, ℕ, List, [], ◌∷◌, ◌++◌, Some, Contains, length, sym, ◌∙◌, ap, subst, inl, inr}
 use Rattle.host_base.specs.declared.ids.AccountId.{AccountId}
 use Rattle.host_base.specs.declared.ids.GrainId.{GrainId}
 use Rattle.host_base.specs.declared.ids.GrantId.{GrantId}
@@ -13,17 +13,17 @@ use Rattle.share_graph.specs.Changing.{change_row}
 use Rattle.share_graph.specs.Coherent.{IsCoherent}
 use Rattle.share_graph.specs.Nodes.{node_of}
 use Rattle.share_graph.specs.Revoking.{revoke_in}
-use Rattle.share_graph.specs.Rows.{row, IsGrain, IsGrant, IsEnabled, IsAdmin}
-use Rattle.share_graph.specs.Setting.{with_admin, with_enabled, revoked}
+use Rattle.share_graph.specs.Rows.{row, IsGrant, IsEnabled, IsAdmin}
+use Rattle.share_graph.specs.Setting.{revoked}
 use Rattle.share_graph.proofs.Marked.{change_row_other}
 use Rattle.least_access.proofs.Turns.{grant_id}
 use Rattle.state_step.proofs.Each.{push_old_row}
 use Rattle.region_work.specs.Prepared.{LeadsNowhere, Touches}
 use Rattle.region_access.proofs.ManyAccounts.{with_accounts, HasOwnNodes, HasNeeding, touches_by_accounts}
-use Rattle.region_access.proofs.ManyGrains.{with_grains, MayTouch, touches_by_grains}
+use Rattle.region_access.proofs.ManyGrains.{MayTouch, touches_by_grains}
 use Rattle.region_access.proofs.OneGrant.{touches, closed_since}
 use Rattle.region_access.proofs.Trashed.{row_changed, row_changed_back, same_number}
-use Rattle.live_access.proofs.Pushed.{row_before, row_new, row_pushed, none_next}
+use Rattle.live_access.proofs.Pushed.{row_before, row_pushed, none_next}
 
 -- ---- a grant that is added
 
@@ -54,6 +54,9 @@ grant_revoked_touches t g nodes coherent coherent_after was closed =
 
 -- ---- a grain that is added
 
+abbrev grain_id : ℕ → GrainId
+grain_id n = record { 0 = n }
+
 pub grain_added_touches : (t : Tables) (grain : Grain) (nodes : List Node) → grain.num.0 ≡ length t.grains + 1 → IsCoherent t → IsCoherent (record t { grains = t.grains ++ grain ∷ [] })
     → Contains nodes (node.User grain.num grain.owner) → LeadsNowhere t nodes → Touches nodes t (record t { grains = t.grains ++ grain ∷ [] })
 grain_added_touches t grain nodes next coherent coherent_after inside closed =
@@ -70,24 +73,69 @@ grain_added_touches t grain nodes next coherent coherent_after inside closed =
           inr (own, (λ g grant there on. absurd (none_on g grant there (ap (λ (m : GrainId). m.0) on ∙ last))), inr (λ g grant there on. none_on g grant there (ap (λ (m : GrainId). m.0) on ∙ last)))
     ]) in
     touches_by_grains t nodes t.grains new coherent coherent_after forth back closed
-    where
-      abbrev grain_id : ℕ → GrainId
-      grain_id n = record { 0 = n }
 
 -- ---- an account that becomes an admin or is one no longer, or is enabled or disabled
 
 abbrev account_id : ℕ → AccountId
 account_id n = record { 0 = n }
 
-module _ (t : Tables) (a : AccountId) (on : Bool) (nodes : List Node) where
-  abbrev admins : List Account
-  admins = change_row (with_admin on) t.accounts a.0
+-- the change of an account's row leaves whether it is enabled, or the nodes have its own nodes
+abbrev pub MayEnable : Tables → List Node → AccountId → (Account → Account) → Type 0
+MayEnable t nodes a f = ((account : Account) → (f account).enabled ≡ account.enabled) ⊎ HasOwnNodes t nodes a
 
-  enabled_of_admin : (b : AccountId) → IsEnabled t b → IsEnabled (with_accounts t admins) b
-  enabled_of_admin b (account, is, yes) =
+module _ (t : Tables) (a : AccountId) (f : Account → Account) (nodes : List Node) (own : MayEnable t nodes a f) (needing : HasNeeding t nodes a) where
+  abbrev set : List Account
+  set = change_row f t.accounts a.0
+
+  abbrev after_set : Tables
+  after_set = with_accounts t set
+
+  own_of : (b : AccountId) → b.0 ≡ a.0 → HasOwnNodes t nodes a → HasOwnNodes t nodes b
+  own_of b same has = let one : b ≡ a = ap (λ n. account_id n) same in subst (λ (k : AccountId). HasOwnNodes t nodes k) (sym one) has
+
+  needing_of : (b : AccountId) → b.0 ≡ a.0 → HasNeeding t nodes b
+  needing_of b same = let one : b ≡ a = ap (λ n. account_id n) same in subst (λ (k : AccountId). HasNeeding t nodes k) (sym one) needing
+
+  enabled : (b : AccountId) → IsEnabled t b → IsEnabled after_set b ⊎ HasOwnNodes t nodes b
+  enabled b (account, is, is_enabled) =
       elim (same_number b.0 a.0) [
         | inl same ↦
-            let there : row t.accounts a.0 ≡ Some account = subst (λ (k : ℕ). row t.accounts k ≡ Some account) same is in
-            (with_admin on account, subst (λ (k : ℕ). row admins k ≡ Some (with_admin on account)) (sym same) (row_changed (with_admin on) t.accounts a.0 account there), yes)
-        | inr apart ↦ (account, change_row_other (with_admin on) t.accounts a.0 b.0 apart ∙ is, yes)
+            elim own [
+              | inl keeps ↦
+                  let there : row t.accounts a.0 ≡ Some account = subst (λ (k : ℕ). row t.accounts k ≡ Some account) same is in
+                  let now : row set a.0 ≡ Some (f account) = row_changed f t.accounts a.0 account there in
+                  inl (f account, subst (λ (k : ℕ). row set k ≡ Some (f account)) (sym same) now, keeps account ∙ is_enabled)
+              | inr has ↦ inr (own_of b same has)
+            ]
+        | inr apart ↦ inl (account, change_row_other f t.accounts a.0 b.0 apart ∙ is, is_enabled)
       ]
+
+  enabled_before : (b : AccountId) → IsEnabled after_set b → IsEnabled t b ⊎ HasOwnNodes t nodes b
+  enabled_before b (account, is, is_enabled) =
+      elim (same_number b.0 a.0) [
+        | inl same ↦
+            elim own [
+              | inl keeps ↦
+                  let (was, there, now) = row_changed_back f t.accounts a.0 account (subst (λ (k : ℕ). row set k ≡ Some account) same is) in
+                  inl (was, subst (λ (k : ℕ). row t.accounts k ≡ Some was) (sym same) there, sym (keeps was) ∙ ap (λ (x : Account). x.enabled) now ∙ is_enabled)
+              | inr has ↦ inr (own_of b same has)
+            ]
+        | inr apart ↦ inl (account, sym (change_row_other f t.accounts a.0 b.0 apart) ∙ is, is_enabled)
+      ]
+
+  admin : (b : AccountId) → IsAdmin t b → IsAdmin after_set b ⊎ HasNeeding t nodes b
+  admin b (account, is, is_enabled, is_admin) =
+      elim (same_number b.0 a.0) [
+        | inl same ↦ inr (needing_of b same)
+        | inr apart ↦ inl (account, change_row_other f t.accounts a.0 b.0 apart ∙ is, is_enabled, is_admin)
+      ]
+
+  admin_before : (b : AccountId) → IsAdmin after_set b → IsAdmin t b ⊎ HasNeeding t nodes b
+  admin_before b (account, is, is_enabled, is_admin) =
+      elim (same_number b.0 a.0) [
+        | inl same ↦ inr (needing_of b same)
+        | inr apart ↦ inl (account, sym (change_row_other f t.accounts a.0 b.0 apart) ∙ is, is_enabled, is_admin)
+      ]
+
+  pub account_set_touches : IsCoherent t → IsCoherent after_set → LeadsNowhere t nodes → Touches nodes t after_set
+  account_set_touches coherent coherent_after closed = touches_by_accounts t nodes t.accounts set coherent coherent_after enabled enabled_before admin admin_before closed

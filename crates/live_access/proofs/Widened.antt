@@ -1,5 +1,5 @@
 -- Accounts and applications that are added, where grains and grants stay, touch no node: no row names one that wasn't there.
-use Rattle.std.proofs.Common.{◌≡◌, Bool, true, List, Option, Some, Contains, sym, ◌∙◌, subst}
+use Rattle.std.proofs.Common.{◌≡◌, List, Some, Contains, sym, ◌∙◌, subst}
 use Rattle.std.proofs.lemmas.List.Elements.{All-contains}
 use Rattle.host_base.specs.declared.ids.AccountId.{AccountId}
 use Rattle.host_base.specs.declared.ids.AppId.{AppId}
@@ -15,14 +15,13 @@ use Rattle.share_graph.specs.declared.grants.Target.{Target}
 use Rattle.share_graph.specs.declared.grants.Target.TheVariants as target
 use Rattle.share_graph.specs.declared.rows.Account.{Account}
 use Rattle.share_graph.specs.declared.rows.App.{App}
-use Rattle.share_graph.specs.declared.rows.Grain.{Grain}
 use Rattle.share_graph.specs.declared.state.Tables.{Tables}
 use Rattle.share_graph.specs.Coherent.{IsCoherent}
 use Rattle.share_graph.specs.Derivation.{IsLive, AsksNow}
 use Rattle.share_graph.specs.Known.{HasAccount, HasApp, KnowsTarget, KnowsNeed}
 use Rattle.share_graph.specs.Nodes.{MayReceive, Gives}
 use Rattle.share_graph.specs.Region.{GivesOutside}
-use Rattle.share_graph.specs.Rows.{row, IsAccount, IsApp, IsGrain, IsGrant, IsEnabled, IsAdmin, IsKept}
+use Rattle.share_graph.specs.Rows.{row, IsAccount, IsApp, IsGrant, IsEnabled, IsKept}
 use Rattle.region_work.specs.Prepared.{LeadsNowhere, Touches}
 
 -- The accounts and applications of the first tables are in the second, which have the same grains and grants.

@@ -1,6 +1,6 @@
 //! The solution of tables, kept along the history of events.
 
-ghost use Rattle.std.specs.Prelude.{◌≡◌, ◌↔◌, ◌≤◌, ◌+◌, IfOk, OnErr, vec_len};
+ghost use Rattle.std.specs.Prelude.{◌≡◌, ◌↔◌, ◌<◌, ◌≤◌, ◌+◌, IfOk, OnErr, length};
 ghost use Rattle.share_graph.specs.declared.event.Event.{Event};
 ghost use Rattle.share_graph.specs.declared.facts.Fact.{Fact};
 ghost use Rattle.share_graph.specs.declared.facts.Node.{Node};
@@ -15,14 +15,17 @@ ghost use Rattle.region_work.specs.Starting.{needs_by, most_tests};
 ghost use Rattle.live_access.specs.Kept.{IsSolvedFor};
 ghost use Rattle.live_access.specs.Ready.{IsReadyFor};
 
+use crate::adding::added_by;
 use crate::region::Region;
 use host_base::Memory;
 use least_access::Solved;
-use region_work::Probe;
+use region_access::{arrivals_of, collect, edges_of, seeds_of, solve_anew};
 use region_work::edges::Edges;
+use region_work::{Counted, Probe, Steps, solve_region};
 use share_graph::{Event, State, Tables};
 use std::alloc::Global;
-use std::marker::Model;
+use std::marker::{Brand, Model};
+use std::sync::ledger::{Blank, Ledger};
 
 /// What each node holds, with the indexes by which the region of a change is found in its own size.
 #[derive(Drop)]
@@ -48,7 +51,14 @@ pub fn solve(alloc: Global, tables: &Tables) -> Result<Solution, Memory>
     ensures solved { IfOk result (IsSolvedFor tables.now) }
     ensures trees { IfOk result (λ solution. (at : Node) (fact : Fact) → HeldAt solution.table at fact ↔ HasTree tables.now at fact) }
 {
-    todo!()
+    let edges = edges_of(alloc, tables)?;
+    let arrivals = arrivals_of(alloc, tables)?;
+    let table = solve_anew::<Brand>(alloc, tables, &edges, Blank::new(1))?;
+    Ok(Solution {
+        solved: Solved { table },
+        edges,
+        arrivals,
+    })
 }
 
 impl Solution {
@@ -66,6 +76,72 @@ impl Solution {
         self.solved
     }
 
+    // Makes ready for an event, over a count that nobody reads.
+    fn make_ready<L: Ledger>(
+        &mut self,
+        alloc: Global,
+        state: &State,
+        event: &Event,
+        blank: Blank,
+    ) -> Result<Region, Memory>
+        requires name { blank.name ≡ L.name }
+        requires parts { blank.parts ≡ L.parts }
+        requires some { 0 < blank.parts }
+        requires formed { IsWellFormed state.now }
+        requires fits { EventFits state.now event.now }
+        requires solved { IsSolvedFor state.now.tables self.old }
+        ensures ok { IfOk result (IsReadyFor state.now event.now self.new) }
+        ensures err { OnErr result (IsSolvedFor state.now.tables self.new) }
+    {
+        let seeds = seeds_of(alloc, &state.tables, event)?;
+        let added = added_by(alloc, event)?;
+        let probe = Counted {
+            tables: &state.tables,
+            steps: Steps::<L>::new(blank),
+        };
+        let room = region_access::prepare(
+            alloc,
+            &probe,
+            &mut self.solved.table,
+            &mut self.edges,
+            &mut self.arrivals,
+            seeds.as_slice(),
+            &added,
+        )?;
+        match collect(alloc, &self.arrivals, room.nodes.as_slice()) {
+            Ok(grants) => Ok(Region {
+                room,
+                grants,
+                added,
+            }),
+            Err(fault) => {
+                region_access::take_back(
+                    &mut self.solved.table,
+                    &mut self.edges,
+                    &mut self.arrivals,
+                    room,
+                    &added,
+                );
+                Err(fault)
+            }
+        }
+    }
+
+    // Solves the region again, over a count that nobody reads.
+    fn settle_tables<L: Ledger>(&mut self, tables: &Tables, region: Region, blank: Blank)
+        requires name { blank.name ≡ L.name }
+        requires parts { blank.parts ≡ L.parts }
+        requires some { 0 < blank.parts }
+        requires ready { (s : State) × (e : Event) × IsReadyFor s e self.old region × (tables.now ≡ (after s e).tables) }
+        ensures { IsSolvedFor tables.now self.new }
+    {
+        let mut probe = Counted {
+            tables,
+            steps: Steps::<L>::new(blank),
+        };
+        self.settle_by(&mut probe, region);
+    }
+
     /// Makes ready for an event: finds its region, takes all room that solving it again wants, clears it, and adds the edges of a
     /// new grant. Want of memory leaves the solution what it was.
     pub fn prepare(&mut self, alloc: Global, state: &State, event: &Event) -> Result<Region, Memory>
@@ -75,7 +151,7 @@ impl Solution {
         ensures ok { IfOk result (IsReadyFor state.now event.now self.new) }
         ensures err { OnErr result (IsSolvedFor state.now.tables self.new) }
     {
-        todo!()
+        self.make_ready::<Brand>(alloc, state, event, Blank::new(1))
     }
 
     /// Solves the region again, by the state after the event. It takes no memory.
@@ -83,18 +159,25 @@ impl Solution {
         requires { (s : State) × (e : Event) × IsReadyFor s e self.old region × (state.now ≡ after s e) }
         ensures { IsSolvedFor state.now.tables self.new }
     {
-        todo!()
+        self.settle_tables::<Brand>(&state.tables, region, Blank::new(1));
     }
 
     /// The same over any probe of the tables, with the bound on its tests: `65 * (G + R) + G`, where the region has G grants with R
     /// needs.
-    pub fn settle_by<V: Probe>(&mut self, probe: &mut V, region: Region)
+    pub fn settle_by<V: Probe>(&mut self, probe: &mut V, mut region: Region)
         requires { (s : State) × (e : Event) × IsReadyFor s e self.old region × (V.tables probe.old ≡ (after s e).tables) }
         ensures same { V.tables probe.new ≡ V.tables probe.old }
         ensures solved { IsSolvedFor (V.tables probe.old) self.new }
-        ensures bound { V.count probe.new ≤ V.count probe.old + most_tests (vec_len region.grants) (needs_by (V.tables probe.old) region.grants.items) }
+        ensures bound { V.count probe.new ≤ V.count probe.old + most_tests (length region.grants.items) (needs_by (V.tables probe.old) region.grants.items) }
     {
-        todo!()
+        solve_region(
+            probe,
+            &mut self.solved.table,
+            &mut region.room.waiting,
+            &self.edges,
+            region.room.nodes.as_slice(),
+            region.grants.as_slice(),
+        );
     }
 
     /// Takes back what was made ready: the solution is what it was.
@@ -102,6 +185,12 @@ impl Solution {
         requires { (s : State) × (e : Event) × IsReadyFor s e self.old region }
         ensures { (s : State) (e : Event) → IsReadyFor s e self.old region → IsSolvedFor s.tables self.new }
     {
-        todo!()
+        region_access::take_back(
+            &mut self.solved.table,
+            &mut self.edges,
+            &mut self.arrivals,
+            region.room,
+            &region.added,
+        );
     }
 }

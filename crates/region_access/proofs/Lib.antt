@@ -5,7 +5,6 @@ pub mod Cleared
 pub mod OneGrant
 pub mod Roomy
 pub mod Arrived
-pub mod Revoked
 pub mod ManyAccounts
 pub mod TakenOut
 pub mod After

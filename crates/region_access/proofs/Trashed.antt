@@ -19,7 +19,7 @@ changed f [] i x is = cc is
 changed f (y ∷ xs) zero x is = let e : y ≡ x = cc is in ap (λ (z : _). Some (f z)) e
 changed f (y ∷ xs) (suc i) x is = changed f xs i x is
 
-row_changed : {X : Type 0} (f : X → X) (xs : List X) (n : ℕ) (x : X) → row xs n ≡ Some x → row (change_row f xs n) n ≡ Some (f x)
+pub row_changed : {X : Type 0} (f : X → X) (xs : List X) (n : ℕ) (x : X) → row xs n ≡ Some x → row (change_row f xs n) n ≡ Some (f x)
 row_changed f xs zero x is = cc is
 row_changed f xs (suc i) x is = changed f xs i x is
 
@@ -28,14 +28,14 @@ changed_back f [] i y is = cc is
 changed_back f (x ∷ xs) zero y is = (x, refl, cc is)
 changed_back f (x ∷ xs) (suc i) y is = changed_back f xs i y is
 
-row_changed_back : {X : Type 0} (f : X → X) (xs : List X) (n : ℕ) (y : X) → row (change_row f xs n) n ≡ Some y → (x : X) × (row xs n ≡ Some x) × (f x ≡ y)
+pub row_changed_back : {X : Type 0} (f : X → X) (xs : List X) (n : ℕ) (y : X) → row (change_row f xs n) n ≡ Some y → (x : X) × (row xs n ≡ Some x) × (f x ≡ y)
 row_changed_back f xs zero y is = cc is
 row_changed_back f xs (suc i) y is = changed_back f xs i y is
 
 abbrev grain_id : ℕ → GrainId
 grain_id n = record { 0 = n }
 
-same_number : (m n : ℕ) → (m ≡ n) ⊎ (m ≢ n)
+pub same_number : (m n : ℕ) → (m ≡ n) ⊎ (m ≢ n)
 same_number m n = grind arith
 
 module _ (t : Tables) (n : GrainId) (on : Bool) (nodes : List Node)

@@ -11,10 +11,12 @@ ghost use Rattle.share_graph.specs.Coherent.{IsCoherent, HasNumbers};
 ghost use Rattle.share_graph.specs.Nodes.{node_of as the_node_of};
 ghost use Rattle.share_graph.specs.Rows.{IsGrain, IsGrant};
 ghost use Rattle.least_access.specs.Solved.{IsSolutionOf};
+ghost use Rattle.region_work.specs.Fed.{fed_in};
+ghost use Rattle.region_work.specs.Working.{IsIndexOf};
 
-use crate::indexing::edges_of;
 use host_base::{GrainId, GrantId, Memory};
 use least_access::table::Table;
+use region_work::edges::Edges;
 use region_work::emptying::empty_at;
 use region_work::{Counted, Steps, Waiting, solve_region};
 use share_graph::{Node, Tables, node_of};
@@ -63,19 +65,24 @@ fn numbers_of(alloc: Global, tables: &Tables) -> Result<Vec<GrantId>, Memory>
     Ok(nums)
 }
 
-/// The solution of tables, in time that is near linear in what is held, needed and shared.
-pub fn solve_anew<L: Ledger>(alloc: Global, tables: &Tables, blank: Blank) -> Result<Table, Memory>
+/// The solution of tables by their edges, in time that is near linear in what is held, needed and shared.
+pub fn solve_anew<L: Ledger>(
+    alloc: Global,
+    tables: &Tables,
+    edges: &Edges,
+    blank: Blank,
+) -> Result<Table, Memory>
     requires name { blank.name ≡ L.name }
     requires parts { blank.parts ≡ L.parts }
     requires some { 0 < blank.parts }
     requires coherent { IsCoherent tables.now }
     requires numbers { HasNumbers tables.now }
+    requires index { IsIndexOf tables.now (fed_in edges.now.entries) }
     ensures { IfOk result (λ table. IsSolutionOf tables.now table.entries) }
 {
     let mut nodes = owners_of(alloc, tables)?;
     add_grant_nodes(tables, &mut nodes)?;
     let nums = numbers_of(alloc, tables)?;
-    let edges = edges_of(alloc, tables)?;
     let mut table = empty_at(alloc, nodes.as_slice())?;
     let mut waiting = Waiting::new(alloc, nodes.as_slice())?;
     let mut probe = Counted {
@@ -86,7 +93,7 @@ pub fn solve_anew<L: Ledger>(alloc: Global, tables: &Tables, blank: Blank) -> Re
         &mut probe,
         &mut table,
         &mut waiting,
-        &edges,
+        edges,
         nodes.as_slice(),
         nums.as_slice(),
     );

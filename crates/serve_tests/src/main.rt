@@ -5,7 +5,7 @@
 use cloud_serve::{ConnEnd, SoloDesk, serve_conn};
 use grain_supervise::EchoLink;
 use host_base::{AccountId, Fails, GrainId, MemSink, MemSource, Memory};
-use least_access::solve;
+use live_access::solve;
 use share_graph::{State, account, grain, live_run};
 use small_book::small_book;
 use std::alloc::{AllocError, Global};
@@ -21,8 +21,8 @@ fn bytes_of(alloc: Global, text: &str) -> Result<Vec<u8>, AllocError> {
 // A server of the small book.
 fn desk(alloc: Global) -> Result<SoloDesk, Memory> {
     let book = small_book(alloc)?;
-    let solved = solve(alloc, &book.tables)?;
-    Ok(SoloDesk::new(book, solved))
+    let solution = solve(alloc, &book.tables)?;
+    Ok(SoloDesk::new(book, solution.into_solved()))
 }
 
 // The end of a connection on which these bytes come.

@@ -8,7 +8,8 @@ use crate::stepping::put_step;
 use account_desk::{
     add_account, add_account_ready, add_app, new_grain, set_admin, set_enabled, trash, untrash,
 };
-use least_access::{Solved, solve};
+use least_access::Solved;
+use live_access::solve;
 use share_graph::{Caller, DeskFault, Made, Outcome, State};
 use std::alloc::{AllocError, Global};
 use std::fmt::Write;
@@ -113,8 +114,8 @@ pub(crate) fn put_command(
     if !is_well_formed(state) {
         return Err(NoAnswer::IllFormed);
     }
-    let solved = solve(alloc, &state.tables)?;
-    put_readiness(out, state, &solved, caller, command)?;
-    let outcome = decided(state, &solved, caller, command)?;
+    let solution = solve(alloc, &state.tables)?;
+    put_readiness(out, state, solution.solved(), caller, command)?;
+    let outcome = decided(state, solution.solved(), caller, command)?;
     put_outcome(alloc, out, state, outcome)
 }

@@ -7,6 +7,13 @@
 //! each 5 to 40 account u% %   adds a row for each number, whose four hexadecimal digits stand for `%`
 //! event EVENT                 performs an event: the row that it names, and the rows that are others then, before and after
 //! WHO COMMAND                 gives a command to the desk of accounts, and performs its event
+//! solve                       solves the state as it is, and keeps a copy of it solved
+//! live EVENT                  performs an event on that copy: the size of its region, and with how many tests it was solved again
+//! keep EVENT                  the same, without a count of the tests
+//! ready EVENT                 makes the copy ready for an event, and takes that back
+//! access NODE                 asks what a node of the copy holds
+//! seeds EVENT                 asks for the seeds of an event by the copy's tables
+//! feeds NODE                  asks for the grants that a node feeds, and for those that go to it
 //! clash DIGEST                asks which row has a digest
 //! seq N                       draws the first secrets in sequence
 //! behind N draws N            draws secrets in sequence behind the one of a number
@@ -38,18 +45,20 @@ mod differing;
 mod drawing;
 mod events;
 mod fault;
+mod live;
 mod playing;
+mod regions;
 mod stepping;
+mod tally;
 
-use crate::playing::{Played, play};
-use share_graph::State;
+use crate::playing::{Board, Played, play};
 use state_text::{Unread, empty_state};
 use std::alloc::{AllocError, Global};
 use std::io;
 
 // Plays a line, and prints what it is to.
-fn play_line(rt: &impl Print, alloc: Global, state: &mut State, line: &str) -> io::Result<()> {
-    match play(alloc, state, line) {
+fn play_line(rt: &impl Print, alloc: Global, board: &mut Board, line: &str) -> io::Result<()> {
+    match play(alloc, board, line) {
         Ok(Played::Rows) => Ok(()),
         Ok(Played::Begun) => println!(rt; "{line}"),
         Ok(Played::Answered(answer)) => println!(rt; "{line}\n    {answer}"),
@@ -60,10 +69,13 @@ fn play_line(rt: &impl Print, alloc: Global, state: &mut State, line: &str) -> i
 
 fn main(rt: HostRuntime) -> io::Result<()> {
     let alloc = rt.alloc();
-    let mut state = empty_state(alloc);
+    let mut board = Board {
+        state: empty_state(alloc),
+        live: None,
+    };
     for line in rt.lines(alloc) {
         let line = line?;
-        play_line(&rt, alloc, &mut state, line.as_str())?;
+        play_line(&rt, alloc, &mut board, line.as_str())?;
     }
     Ok(())
 }

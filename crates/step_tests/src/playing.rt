@@ -5,12 +5,21 @@ use crate::deciding::put_command;
 use crate::drawing::{digest, put_behind, put_first, put_key, put_listed, put_token};
 use crate::events::event;
 use crate::fault::NoAnswer;
+use crate::live::Live;
+use crate::regions::{put_feeding, put_seeds};
 use crate::stepping::put_step;
-use share_graph::{State, clash};
+use share_graph::{State, clash, copy_of};
 use small_book::small_book;
 use state_text::{Unread, Words, empty_state, read_row};
 use std::alloc::{AllocError, Global};
 use std::fmt::Write;
+
+/// The state that is played with, and the one that is kept solved.
+#[derive(Drop)]
+pub(crate) struct Board {
+    pub state: State,
+    pub live: Option<Live>,
+}
 
 /// What a line did.
 #[derive(Drop)]
@@ -49,6 +58,45 @@ fn put_decision(
     put_command(alloc, out, state, &caller, &command)
 }
 
+// Solves the state as it is, and keeps it solved.
+fn begin_live(alloc: Global, out: &mut String, board: &mut Board) -> Result<(), NoAnswer> {
+    board.live = Some(Live::new(alloc, copy_of(&board.state)?)?);
+    Ok(out.push_str("solved")?)
+}
+
+// Appends what an event that words state comes to in the state that is kept solved.
+fn put_live(
+    alloc: Global,
+    out: &mut String,
+    live: &mut Live,
+    asked: &str,
+    words: &mut Words<'_>,
+) -> Result<(), NoAnswer> {
+    let event = event(alloc, live.state(), words)?;
+    words.end()?;
+    match asked {
+        "live" => live.perform(alloc, out, &event),
+        "keep" => live.keep(alloc, out, &event),
+        "ready" => live.try_ready(alloc, out, &event),
+        _ => put_seeds(alloc, out, live.state(), &event),
+    }
+}
+
+// Appends the answer to a question about the state that is kept solved.
+fn put_live_answer(
+    alloc: Global,
+    out: &mut String,
+    board: &mut Board,
+    asked: &str,
+    words: &mut Words<'_>,
+) -> Result<(), NoAnswer> {
+    match &mut board.live {
+        Some(live) if asked == "access" => live.put_access(out, words.node()),
+        Some(live) => put_live(alloc, out, live, asked, words),
+        None => Err(NoAnswer::Unread),
+    }
+}
+
 // Appends the kind and the number of the row that has a digest.
 fn put_clash(
     alloc: Global,
@@ -67,31 +115,36 @@ fn put_clash(
 fn put_answer(
     alloc: Global,
     out: &mut String,
-    state: &mut State,
+    board: &mut Board,
     asked: &str,
     words: &mut Words<'_>,
 ) -> Result<(), NoAnswer> {
     match asked {
-        "event" => put_event(alloc, out, state, words),
-        "clash" => put_clash(alloc, out, state, words),
+        "solve" => begin_live(alloc, out, board),
+        "live" | "keep" | "ready" | "seeds" | "access" => {
+            put_live_answer(alloc, out, board, asked, words)
+        }
+        "feeds" => put_feeding(alloc, out, &board.state, words.node()),
+        "event" => put_event(alloc, out, &mut board.state, words),
+        "clash" => put_clash(alloc, out, &board.state, words),
         "seq" => Ok(put_first(out, words)?),
         "behind" => Ok(put_behind(out, words)?),
         "list" => Ok(put_listed(alloc, out, words)?),
         "token" => put_token(alloc, out, words),
         "key" => put_key(alloc, out, words),
-        _ => put_decision(alloc, out, state, asked, words),
+        _ => put_decision(alloc, out, &mut board.state, asked, words),
     }
 }
 
 // The answer to a question.
 fn answer(
     alloc: Global,
-    state: &mut State,
+    board: &mut Board,
     asked: &str,
     words: &mut Words<'_>,
 ) -> Result<String, Unread> {
     let mut out = String::new(alloc);
-    let answered = put_answer(alloc, &mut out, state, asked, words);
+    let answered = put_answer(alloc, &mut out, board, asked, words);
     words.end()?;
     match answered {
         Ok(()) => Ok(out),
@@ -128,7 +181,14 @@ fn add_each(alloc: Global, state: &mut State, words: &mut Words<'_>) -> Result<(
 fn is_question(word: &str) -> bool {
     matches!(
         word,
-        "event"
+        "solve"
+            | "live"
+            | "keep"
+            | "ready"
+            | "seeds"
+            | "access"
+            | "feeds"
+            | "event"
             | "clash"
             | "seq"
             | "behind"
@@ -144,29 +204,29 @@ fn is_question(word: &str) -> bool {
 }
 
 /// Plays a line.
-pub(crate) fn play(alloc: Global, state: &mut State, line: &str) -> Result<Played, Unread> {
+pub(crate) fn play(alloc: Global, board: &mut Board, line: &str) -> Result<Played, Unread> {
     let mut words = Words::new(line);
     let word = words.word();
     if is_question(word) {
-        return Ok(Played::Answered(answer(alloc, state, word, &mut words)?));
+        return Ok(Played::Answered(answer(alloc, board, word, &mut words)?));
     }
     match word {
         "book" => {
             words.end()?;
-            *state = small_book(alloc)?;
+            board.state = small_book(alloc)?;
             Ok(Played::Begun)
         }
         "empty" => {
             words.end()?;
-            *state = empty_state(alloc);
+            board.state = empty_state(alloc);
             Ok(Played::Begun)
         }
         "each" => {
-            add_each(alloc, state, &mut words)?;
+            add_each(alloc, &mut board.state, &mut words)?;
             Ok(Played::Rows)
         }
         _ => {
-            read_row(alloc, state, line)?;
+            read_row(alloc, &mut board.state, line)?;
             Ok(Played::Rows)
         }
     }

@@ -1,7 +1,7 @@
 //! What an event does.
 
-ghost use Rattle.std.specs.Prelude.{IsTrue};
-ghost use Rattle.share_graph.specs.EventFits.{HasChanged};
+ghost use Rattle.std.specs.Prelude.{IsTrue, IfOk};
+ghost use Rattle.share_graph.specs.EventFits.{HasChanged, EventFits};
 
 use crate::differing::{are_same, put_differences};
 use crate::fault::NoAnswer;
@@ -36,14 +36,18 @@ fn has_changed(state: &State, event: &Event) -> bool
     }
 }
 
-// The row that an event names, where it fits the state.
-fn named(state: &State, event: &Event) -> Result<Option<(Kind, u32)>, NoAnswer> {
+/// Whether an event fits a state.
+pub(crate) fn fits(state: &State, event: &Event) -> Result<bool, NoAnswer>
+    ensures { IfOk result (λ fits. IsTrue fits → EventFits state.now event.now) }
+{
     let mut later = copy_of(state)?;
     after(&mut later, event)?;
-    if !has_changed(state, event) {
-        return Err(NoAnswer::Unfit);
-    }
-    if !is_well_formed(&later) {
+    Ok(has_changed(state, event) && is_well_formed(&later))
+}
+
+// The row that an event names, where it fits the state.
+fn named(state: &State, event: &Event) -> Result<Option<(Kind, u32)>, NoAnswer> {
+    if !fits(state, event)? {
         return Err(NoAnswer::Unfit);
     }
     Ok(row_of_event(state, event))

@@ -1,0 +1,6 @@
+pub mod Pushed
+pub mod Widened
+pub mod Touched
+pub mod NewRow
+pub mod Law
+pub mod Settled
