@@ -13,6 +13,11 @@ use Rattle.share_graph.specs.WellFormed.{AreNumbered}
 pub contains_at : {X : Type 0} (rows : List X) (k : ℕ) (x : X) → slice_get rows k ≡ Some x → Contains rows x
 contains_at rows k x is = (k, slice_get_within rows k x is, get_or_from_slice_get rows k x x is)
 
+-- one row alone contains no other
+pub only : {X : Type 0} (x y : X) → Contains (x ∷ []) y → x ≡ y
+only x y (zero, less, same) = same
+only x y (suc k, less, same) = absurd (omega arith)
+
 -- and what is contained stands at a place
 pub place_of : {X : Type 0} (rows : List X) (x : X) → Contains rows x → (k : ℕ) × (slice_get rows k ≡ Some x)
 place_of rows x (k, less, is) = (k, slice_get_read rows (length rows) k x refl less (sym is))

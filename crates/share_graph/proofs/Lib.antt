@@ -9,6 +9,8 @@ pub mod TreesAgree
 pub mod Coherence
 pub mod Apart
 pub mod Unused
+pub mod FirstOf
+pub mod FirstRows
 pub mod WayEnds
 pub mod WaysOne
 pub mod Marked

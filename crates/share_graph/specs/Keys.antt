@@ -1,4 +1,4 @@
-use Rattle.std.specs.Prelude.{◌≡◌, ℕ, Contains, List, Some, false}
+use Rattle.std.specs.Prelude.{◌≡◌, ◌++◌, ◌∷◌, ℕ, Contains, List, Some, false}
 use Rattle.host_base.specs.declared.digest.Digest.{Digest}
 use Rattle.host_base.specs.declared.ids.GrainId.{GrainId}
 use Rattle.host_base.specs.declared.ids.RunId.{RunId}
@@ -15,6 +15,14 @@ use Rattle.share_graph.specs.declared.sessions.Session.{Session}
 pub record IsOneOf {X : Type 0} (rows : List X) (P : X → Type 0) (row : X) : Type 0 where
   pub listed : Contains rows row
   pub is : P row
+
+-- the first of the rows of which this is so: it is of none of those before it
+pub record IsFirstOf {X : Type 0} (rows : List X) (P : X → Type 0) (row : X) : Type 0 where
+  pub before : List X
+  pub after : List X
+  pub listed : rows ≡ before ++ row ∷ after
+  pub is : P row
+  pub earlier : (other : X) → Contains before other → P other → ⊥
 
 -- none of the rows is so
 abbrev pub IsNoneOf : {X : Type 0} → List X → (X → Type 0) → Type 0

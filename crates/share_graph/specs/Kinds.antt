@@ -5,6 +5,7 @@ use Rattle.host_base.specs.declared.digest.Digest.{Digest}
 use Rattle.share_graph.specs.declared.fault.Kind.{Kind}
 use Rattle.share_graph.specs.declared.fault.Kind.TheVariants as kind
 use Rattle.share_graph.specs.declared.state.State.{State}
+use Rattle.share_graph.specs.Keys.{IsFirstOf}
 
 -- the number of a kind
 abbrev pub kind_number : Kind → ℕ
@@ -36,6 +37,10 @@ digests_of s =
 -- the digest is that of the row of this kind and number
 abbrev pub HasDigest : State → Digest → Kind → ℕ → Type 0
 HasDigest s d k n = Contains (digests_of s) (record { kind = k; num = n; digest = d })
+
+-- the row of this kind and number is the first that has the digest, in the order of kinds and then of the rows
+abbrev pub IsFirstWith : State → Digest → Kind → ℕ → Type 0
+IsFirstWith s d k n = IsFirstOf (digests_of s) (λ known. known.digest ≡ d) (record { kind = k; num = n; digest = d })
 
 -- no row has the digest
 abbrev pub IsUnused : State → Digest → Type 0

@@ -1,8 +1,9 @@
 ghost use Rattle.std.specs.Prelude.{◌≡◌, ◌↔◌, IsTrue, MatchOption};
-ghost use Rattle.share_graph.specs.Keys.{IsOneOf, IsNoneOf, HasLogin, HasToken, HasReference, HasKey, HasRunToken, IsLiveRun, IsHandleOf, IsBearerOf};
+ghost use Rattle.share_graph.specs.Keys.{IsOneOf, IsFirstOf, IsNoneOf, HasLogin, HasToken, HasReference, HasKey, HasRunToken, IsLiveRun, IsHandleOf, IsBearerOf};
 
 use crate::asking::is_bearer;
 use crate::grants::Grant;
+use crate::row_list::Rows;
 use crate::rows::{Account, Saved};
 use crate::sessions::{Handle, Run, Session};
 use crate::state::{State, Tables};
@@ -56,16 +57,34 @@ fn is_handle_of(handle: &Handle, run: RunId, num: u32) -> bool
     handle.run == run && handle.num == num
 }
 
+// The first account whose login has the digest.
+pub(crate) fn first_login<'a>(accounts: &'a Rows<Account>, digest: &Digest) -> Option<&'a Account>
+    ensures { MatchOption result (IsNoneOf accounts.now (HasLogin digest.now))
+        (λ account. IsFirstOf accounts.now (HasLogin digest.now) account.now) }
+{
+    accounts
+        .as_slice()
+        .iter()
+        .find(|account| has_login(account, digest))
+}
+
 /// The account whose login has the digest.
 pub fn by_login<'a>(tables: &'a Tables, digest: &Digest) -> Option<&'a Account>
     ensures { MatchOption result (IsNoneOf tables.now.accounts (HasLogin digest.now))
         (λ account. IsOneOf tables.now.accounts (HasLogin digest.now) account.now) }
 {
-    tables
-        .accounts
+    first_login(&tables.accounts, digest)
+}
+
+// The first grant whose token has the digest.
+pub(crate) fn first_token<'a>(grants: &'a Rows<Grant>, digest: &Digest) -> Option<&'a Grant>
+    ensures { MatchOption result (IsNoneOf grants.now (HasToken digest.now))
+        (λ grant. IsFirstOf grants.now (HasToken digest.now) grant.now) }
+{
+    grants
         .as_slice()
         .iter()
-        .find(|account| has_login(account, digest))
+        .find(|grant| has_token(grant, digest))
 }
 
 /// The grant whose token has the digest.
@@ -73,11 +92,7 @@ pub fn by_grant_token<'a>(tables: &'a Tables, digest: &Digest) -> Option<&'a Gra
     ensures { MatchOption result (IsNoneOf tables.now.grants (HasToken digest.now))
         (λ grant. IsOneOf tables.now.grants (HasToken digest.now) grant.now) }
 {
-    tables
-        .grants
-        .as_slice()
-        .iter()
-        .find(|grant| has_token(grant, digest))
+    first_token(&tables.grants, digest)
 }
 
 /// The bearer's grant whose token has the digest.
@@ -92,16 +107,34 @@ pub fn by_bearer_token<'a>(tables: &'a Tables, digest: &Digest) -> Option<&'a Gr
         .find(|grant| is_bearer_of(grant, digest))
 }
 
+// The first saved reference whose token has the digest.
+pub(crate) fn first_reference<'a>(references: &'a Rows<Saved>, digest: &Digest) -> Option<&'a Saved>
+    ensures { MatchOption result (IsNoneOf references.now (HasReference digest.now))
+        (λ saved. IsFirstOf references.now (HasReference digest.now) saved.now) }
+{
+    references
+        .as_slice()
+        .iter()
+        .find(|saved| has_reference(saved, digest))
+}
+
 /// The saved reference whose token has the digest.
 pub fn by_saved_token<'a>(tables: &'a Tables, digest: &Digest) -> Option<&'a Saved>
     ensures { MatchOption result (IsNoneOf tables.now.saved (HasReference digest.now))
         (λ saved. IsOneOf tables.now.saved (HasReference digest.now) saved.now) }
 {
-    tables
-        .saved
+    first_reference(&tables.saved, digest)
+}
+
+// The first session whose key has the digest.
+pub(crate) fn first_key<'a>(sessions: &'a Rows<Session>, digest: &Digest) -> Option<&'a Session>
+    ensures { MatchOption result (IsNoneOf sessions.now (HasKey digest.now))
+        (λ session. IsFirstOf sessions.now (HasKey digest.now) session.now) }
+{
+    sessions
         .as_slice()
         .iter()
-        .find(|saved| has_reference(saved, digest))
+        .find(|session| has_key(session, digest))
 }
 
 /// The session whose key has the digest.
@@ -109,11 +142,17 @@ pub fn by_session_key<'a>(state: &'a State, digest: &Digest) -> Option<&'a Sessi
     ensures { MatchOption result (IsNoneOf state.now.sessions (HasKey digest.now))
         (λ session. IsOneOf state.now.sessions (HasKey digest.now) session.now) }
 {
-    state
-        .sessions
-        .as_slice()
+    first_key(&state.sessions, digest)
+}
+
+// The first run whose token has the digest.
+pub(crate) fn first_run_token<'a>(runs: &'a Rows<Run>, digest: &Digest) -> Option<&'a Run>
+    ensures { MatchOption result (IsNoneOf runs.now (HasRunToken digest.now))
+        (λ run. IsFirstOf runs.now (HasRunToken digest.now) run.now) }
+{
+    runs.as_slice()
         .iter()
-        .find(|session| has_key(session, digest))
+        .find(|run| has_run_token(run, digest))
 }
 
 /// The run whose token has the digest, whether it is stopped or not.
@@ -121,11 +160,7 @@ pub fn by_run_token<'a>(state: &'a State, digest: &Digest) -> Option<&'a Run>
     ensures { MatchOption result (IsNoneOf state.now.runs (HasRunToken digest.now))
         (λ run. IsOneOf state.now.runs (HasRunToken digest.now) run.now) }
 {
-    state
-        .runs
-        .as_slice()
-        .iter()
-        .find(|run| has_run_token(run, digest))
+    first_run_token(&state.runs, digest)
 }
 
 /// The live run of a grain.

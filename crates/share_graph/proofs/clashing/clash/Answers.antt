@@ -1,31 +1,54 @@
-use Rattle.std.proofs.Common.{◌≡◌, rules, refl}
+use Rattle.std.proofs.Common.{◌≡◌, ℕ, sym, subst, rules}
+use Rattle.host_base.specs.declared.digest.Digest.{Digest}
+use Rattle.share_graph.specs.declared.fault.Kind.{Kind}
 use Rattle.share_graph.specs.declared.fault.Kind.TheVariants as kind
-use Rattle.share_graph.proofs.Apart.{token_known, reference_known, key_known, run_token_known, known_by}
+use Rattle.share_graph.specs.declared.state.State.{State}
+use Rattle.share_graph.specs.Kinds.{HasDigest, IsFirstWith, digests_of}
+use Rattle.share_graph.proofs.FirstOf.{one_of}
+use Rattle.share_graph.proofs.FirstRows.{login_first, token_first, reference_first, key_first, run_token_first}
 use Rattle.share_graph.proofs.Unused.{unused}
 use Rattle.share_graph.proofs.clashing.clash.Goals as goal
 
-pub returns-in-Some-by_grant_token : goal.returns-in-Some-by_grant_token
-returns-in-Some-by_grant_token c =
-    let row = c.in-Some-by_grant_token.grant.now in
-    let num : c.from-in-Some-by_grant_token.result ≡ row.num.0 = search rules in
-    known_by c.args.state.now c.args.digest.now c.args.digest.now kind.Grant _ _ refl num (token_known c.args.state.now row c.args.digest.now c.in-Some-by_grant_token.ensures.listed c.in-Some-by_grant_token.ensures.is)
+-- by equal numbers; and the first row that has the digest has it
+numbered : (s : State) (d : Digest) (k : Kind) (n m : ℕ) → n ≡ m → IsFirstWith s d k m → IsFirstWith s d k n
+numbered s d k n m same first = subst (λ i. IsFirstWith s d k i) (sym same) first
 
-pub returns-in-Some-by_saved_token : goal.returns-in-Some-by_saved_token
-returns-in-Some-by_saved_token c =
-    let row = c.in-Some-by_saved_token.saved.now in
-    let num : c.from-in-Some-by_saved_token.result ≡ row.num.0 = search rules in
-    known_by c.args.state.now c.args.digest.now row.digest kind.Saved _ _ c.in-Some-by_saved_token.ensures.is num (reference_known c.args.state.now row c.in-Some-by_saved_token.ensures.listed)
+has : (s : State) (d : Digest) (k : Kind) (n : ℕ) → IsFirstWith s d k n → HasDigest s d k n
+has s d k n first = (one_of (digests_of s) (λ known. known.digest ≡ d) _ first).listed
 
-pub returns-in-Some-by_session_key : goal.returns-in-Some-by_session_key
-returns-in-Some-by_session_key c =
-    let row = c.in-Some-by_session_key.session.now in
-    let num : c.from-in-Some-by_session_key.result ≡ row.num.0 = search rules in
-    known_by c.args.state.now c.args.digest.now row.digest kind.Session _ _ c.in-Some-by_session_key.ensures.is num (key_known c.args.state.now row c.in-Some-by_session_key.ensures.listed)
+pub returns-in-Some : goal.returns-in-Some
+returns-in-Some c =
+    let row = c.in-Some.account.now in
+    let num : c.from.result ≡ row.num.0 = search rules in
+    let first = numbered c.args.state.now c.args.digest.now kind.Account _ _ num (login_first c.args.state.now c.args.digest.now row c.in-Some.ensures) in
+    record { found = has c.args.state.now c.args.digest.now kind.Account _ first; first = first }
 
-pub returns-in-Some-by_run_token : goal.returns-in-Some-by_run_token
-returns-in-Some-by_run_token c =
-    let row = c.in-Some-by_run_token.run'.now in
-    known_by c.args.state.now c.args.digest.now row.digest kind.Run _ _ c.in-Some-by_run_token.ensures.is refl (run_token_known c.args.state.now row c.in-Some-by_run_token.ensures.listed)
+pub returns-in-Some-first_token : goal.returns-in-Some-first_token
+returns-in-Some-first_token c =
+    let row = c.in-Some-first_token.grant.now in
+    let num : c.from-in-Some-first_token.result ≡ row.num.0 = search rules in
+    let first = numbered c.args.state.now c.args.digest.now kind.Grant _ _ num (token_first c.args.state.now c.args.digest.now (search rules) row c.in-Some-first_token.ensures) in
+    record { found = has c.args.state.now c.args.digest.now kind.Grant _ first; first = first }
 
-pub returns : goal.returns
-returns c = unused c.args.state.now c.args.digest.now c.in_default.ensures c.in_default-by_grant_token.ensures c.in_default-by_saved_token.ensures c.in_default-by_session_key.ensures c.in_default-by_run_token.ensures
+pub returns-in-Some-first_reference : goal.returns-in-Some-first_reference
+returns-in-Some-first_reference c =
+    let row = c.in-Some-first_reference.saved.now in
+    let num : c.from-in-Some-first_reference.result ≡ row.num.0 = search rules in
+    let first = numbered c.args.state.now c.args.digest.now kind.Saved _ _ num (reference_first c.args.state.now c.args.digest.now (search rules) (search rules) row c.in-Some-first_reference.ensures) in
+    record { found = has c.args.state.now c.args.digest.now kind.Saved _ first; first = first }
+
+pub returns-in-Some-first_key : goal.returns-in-Some-first_key
+returns-in-Some-first_key c =
+    let row = c.in-Some-first_key.session.now in
+    let num : c.from-in-Some-first_key.result ≡ row.num.0 = search rules in
+    let first = numbered c.args.state.now c.args.digest.now kind.Session _ _ num (key_first c.args.state.now c.args.digest.now (search rules) (search rules) (search rules) row c.in-Some-first_key.ensures) in
+    record { found = has c.args.state.now c.args.digest.now kind.Session _ first; first = first }
+
+pub returns-in-Some-first_run_token : goal.returns-in-Some-first_run_token
+returns-in-Some-first_run_token c =
+    let row = c.in-Some-first_run_token.run'.now in
+    let first = run_token_first c.args.state.now c.args.digest.now (search rules) (search rules) (search rules) (search rules) row c.in-Some-first_run_token.ensures in
+    record { found = has c.args.state.now c.args.digest.now kind.Run _ first; first = first }
+
+pub returns-clause-found : goal.returns-clause-found
+returns-clause-found c = unused c.args.state.now c.args.digest.now c.in_default.ensures c.in_default-first_token.ensures c.in_default-first_reference.ensures c.in_default-first_key.ensures c.in_default-first_run_token.ensures

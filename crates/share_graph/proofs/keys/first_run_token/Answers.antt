@@ -1,0 +1,12 @@
+use Rattle.std.proofs.Common.{rules}
+use borrow.Author.Tests.{tests}
+use Rattle.std.proofs.lemmas.Iterator.{first_from_find, YieldsList-from_slice}
+use Rattle.share_graph.specs.Keys.{HasRunToken}
+use Rattle.share_graph.proofs.FirstOf.{from_search}
+use Rattle.share_graph.proofs.keys.first_run_token.Goals as goal
+
+pub returns : goal.returns
+returns c =
+    from_search (HasRunToken c.args.digest.now) (λ row. row.now) c.args.runs.now _
+    (first_from_find _ _ _ (HasRunToken c.args.digest.now) (λ row. HasRunToken c.args.digest.now row → ⊥) c.find.ensures.ran (YieldsList-from_slice c.args.runs.now cc)
+    (λ x q k. search (rules, tests)) (λ x q k. search (rules, tests)))
