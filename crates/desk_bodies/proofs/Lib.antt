@@ -1,0 +1,4 @@
+pub mod Chosen
+pub mod Formed
+pub mod Within
+pub mod Sound
