@@ -30,6 +30,14 @@ pub fn own_text(alloc: Global, out: &mut String, text: &str) -> Result<(), Alloc
     put_text(out, text.as_str())
 }
 
+/// Appends the text that bytes are.
+pub fn read_text(alloc: Global, out: &mut String, bytes: &[u8]) -> Result<(), AllocError> {
+    match Text::from_bytes(alloc, bytes)? {
+        Some(text) => put_text(out, text.as_str()),
+        None => out.push_str("no text"),
+    }
+}
+
 /// Appends the copy of a list of numbers, and the list that is made of its items.
 pub fn copy_list(alloc: Global, out: &mut String, numbers: &str) -> Result<(), AllocError> {
     let list = numbers_of(alloc, numbers)?;

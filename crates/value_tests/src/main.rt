@@ -7,6 +7,7 @@ mod limits;
 mod manifests;
 mod names;
 mod notation;
+mod parts;
 mod queries;
 mod roles;
 mod sets;
@@ -15,6 +16,7 @@ mod sources;
 
 use crate::copies::{
     copy_bytes, copy_list, copy_name, copy_text, copy_verdict, keep_answer, own_bytes, own_text,
+    read_text,
 };
 use crate::limits::{limit_depth, limit_fields};
 use crate::manifests::{
@@ -22,6 +24,7 @@ use crate::manifests::{
 };
 use crate::names::put_name;
 use crate::notation::{bytes_of, split_word};
+use crate::parts::{place_default, place_double};
 use crate::queries::{match_copy, match_query, order_choices, read_query};
 use crate::roles::{fit_assignment, grant, name_role};
 use crate::sets::{fit_set, list_set, pair_sets, put_set, set_of};
@@ -46,6 +49,8 @@ fn answer_value(alloc: Global, out: &mut String, word: &str, rest: &str) -> Resu
         "fault" => put_fault(out, rest),
         "field" => read_field(alloc, out, rest),
         "forms" => put_forms(out, rest),
+        "double-name" => place_double(alloc, out, rest),
+        "second-default" => place_default(alloc, out, rest),
         "query" => read_query(alloc, out, rest),
         "match" => match_query(alloc, out, rest),
         "match-copy" => match_copy(alloc, out, rest),
@@ -64,6 +69,7 @@ fn answer(alloc: Global, out: &mut String, word: &str, bytes: &[u8]) -> Result<(
         "copy-name" => copy_name(alloc, out, text),
         "copy-text" => copy_text(alloc, out, text),
         "text" => own_text(alloc, out, text),
+        "text-bytes" => read_text(alloc, out, bytes),
         "copy-list" => copy_list(alloc, out, text),
         "copy-bytes" => copy_bytes(alloc, out, text),
         "bytes" => own_bytes(alloc, out, bytes),

@@ -1,6 +1,6 @@
 //! What is a name.
 
-use plain_data::Name;
+use plain_data::{Name, is_plain};
 use std::alloc::{AllocError, Global};
 use std::fmt::Write;
 
@@ -9,7 +9,7 @@ fn name_of(alloc: Global, text: &str) -> Result<Option<Name>, AllocError> {
     Ok(Name::new(String::from_str(alloc, text)?))
 }
 
-/// Appends whether bytes are a name, a text is, and a `String` is.
+/// Appends whether bytes are a name, a text is, a `String` is, and whether the text has the form of one.
 pub fn put_name(alloc: Global, out: &mut String, bytes: &[u8]) -> Result<(), AllocError> {
     let of_bytes = Name::from_bytes(alloc, bytes)?.is_some();
     let Ok(text) = str::from_utf8(bytes) else {
@@ -17,5 +17,6 @@ pub fn put_name(alloc: Global, out: &mut String, bytes: &[u8]) -> Result<(), All
     };
     let of_text = Name::from_str(alloc, text)?.is_some();
     let of_string = name_of(alloc, text)?.is_some();
-    write!(out, "{of_bytes} {of_text} {of_string}")
+    let plain = is_plain(text);
+    write!(out, "{of_bytes} {of_text} {of_string} {plain}")
 }

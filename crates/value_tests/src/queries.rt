@@ -59,11 +59,11 @@ fn query_of(alloc: Global, text: &str) -> Result<Query, ShapeFault> {
     }
 }
 
-/// Appends what the copy of a query states.
+/// Appends what the copy of a query states, or why there is none.
 pub fn read_query(alloc: Global, out: &mut String, text: &str) -> Result<(), AllocError> {
     match query_of(alloc, text) {
         Ok(query) => put_descriptors(out, query.clone()?.as_slice()),
-        Err(fault) => write!(out, "{fault:?}"),
+        Err(fault) => write!(out, "{fault:?}, {fault}"),
     }
 }
 

@@ -1,7 +1,7 @@
 //! What sinks take, in memory and over std's writers.
 
 use crate::notation::{numbers_of, put_bytes, split_number, split_word};
-use host_base::{Fails, MemSink, ReadFailed, Sink, StdSink, WriteFailed};
+use host_base::{DrawFailed, Fails, MemSink, Memory, ReadFailed, Sink, StdSink, WriteFailed};
 use std::alloc::{AllocError, Global};
 use std::fmt::Write;
 use std::io;
@@ -68,5 +68,5 @@ pub fn put_roomy(alloc: Global, out: &mut String, row: &str) -> Result<(), Alloc
 
 /// Appends what the failures say.
 pub fn put_failures(out: &mut String) -> Result<(), AllocError> {
-    write!(out, "{ReadFailed}, {WriteFailed}")
+    write!(out, "{ReadFailed}, {WriteFailed}, {DrawFailed}, {Memory}")
 }

@@ -42,9 +42,9 @@ returns-in-Err-clause-row c =
     rw c.outcome.ensures (carried_at_stop c.args.state.now c.args.digest (AddAccount c.args.state.now c.args.caller.now c.args.handle.now c.args.name.now) c.in-Err.stop c.in-Err.ensures)
 
 pub returns-in-Some-clause-row : goal.returns-in-Some-clause-row
-returns-in-Some-clause-row c = inr (_, (_, refl, c.in-Some.ensures, (_, (_, c.in-Ok.ensures))))
+returns-in-Some-clause-row c = inr (_, (_, refl, c.in-Some.ensures.found, (_, (_, c.in-Ok.ensures))))
 
 pub returns-clause-row : goal.returns-clause-row
 returns-clause-row c =
     rw (c.as_slice.ensures, c.in_ok-copy_of_name.ensures, c.in_ok-copy_of_name-2.ensures)
-    (c.in_default.ensures, ((λ d. AccountAdded (new_account c.args.state.now.tables c.args.handle.now c.args.name.now d)), c.in-Ok.ensures, refl))
+    (c.in_default.ensures.found, ((λ d. AccountAdded (new_account c.args.state.now.tables c.args.handle.now c.args.name.now d)), c.in-Ok.ensures, refl))
