@@ -1,22 +1,20 @@
 //! Answering an order at the end of a history.
 
-ghost use Rattle.std.specs.Prelude.{◌≡◌, ◌<◌, ◌≤◌, ◌++◌, ◌∷◌, [], List, length, IfOk, IfErr, Ok, Err};
-ghost use Rattle.host_base.specs.Drawing.{Drawer, Draws};
-ghost use Rattle.host_base.specs.Outside.{Rose};
+ghost use Rattle.std.specs.Prelude.{◌≡◌, ◌<◌, ◌≤◌, ◌++◌, ◌∷◌, [], length, true, IfOk, IfErr};
 ghost use Rattle.share_graph.specs.declared.state.State.{State};
 ghost use Rattle.share_graph.specs.EventFits.{EventFits};
 ghost use Rattle.share_graph.specs.History as history;
 ghost use Rattle.share_graph.specs.WellFormed.{IsWellFormed};
 ghost use Rattle.live_access.specs.Kept.{IsSolvedFor};
 ghost use Rattle.desk_base.specs.Accepting.{WantsSecret};
+ghost use Rattle.desk_orders.specs.Commands as commands;
 ghost use Rattle.desk_orders.specs.Orders.{RowOf};
-ghost use Rattle.desk_orders.specs.Secrets.{secret_text};
-ghost use Rattle.desk_orders.specs.declared.reply.OrderFault.TheVariants as fault;
+ghost use Rattle.desk_orders.specs.Secrets.{secret_text, text_digest};
 ghost use Rattle.hub_core.specs.Sharing.{Holds, Answered};
 
 use crate::adding::add_entry;
 use desk_orders::{Decision, Order, OrderFault, Reply, decide, decide_at};
-use host_base::{Bytes, Memory, Secrets, digest_of};
+use host_base::{Bytes, Digest, Memory, Secrets, digest_of};
 use live_access::Solution;
 use share_graph::{Event, Made, State};
 use share_tokens::{Secret, token_text};
@@ -46,11 +44,20 @@ fn accept(
     }
 }
 
-// The text of a secret.
-fn text_of(alloc: Global, secret: [u8; 32]) -> Result<Bytes, Memory>
-    ensures { IfOk result (λ text. text ≡ secret_text secret) }
+// The text of a secret, and the digest by which it is known.
+fn text_of(alloc: Global, secret: [u8; 32]) -> Result<(Bytes, Digest), Memory>
+    ensures { IfOk result (λ drawn. (drawn.0 ≡ secret_text secret) × (drawn.1 ≡ text_digest (secret_text secret))) }
 {
-    token_text(alloc, &Secret(secret))
+    let text = token_text(alloc, &Secret(secret))?;
+    let digest = digest_of(text.as_slice());
+    Ok((text, digest))
+}
+
+// How many entries there are.
+fn count_of(entries: &Vec<Event>) -> u64
+    ensures { result ≡ length entries.now.items }
+{
+    entries.len() as u64
 }
 
 // Answers an order that gets as far as drawing a secret.
@@ -65,6 +72,7 @@ fn answer_drawn<S: Secrets>(
     requires formed { IsWellFormed state.old }
     requires solved { IsSolvedFor state.old.tables solution.old }
     requires few { length entries.old.items ≤ 1000000 }
+    requires draws { commands.draws order.now.command ≡ true }
     requires wants { WantsSecret (length entries.old.items) (RowOf state.old order.now) }
     ensures kept { (start : State) → state.old ≡ history.replay start entries.old.items → Holds start state.new entries.new.items solution.new }
     ensures answered { Answered state.old entries.old.items entries.new.items (S.drawer secrets.old) (S.drawer secrets.new) order.now result }
@@ -72,11 +80,10 @@ fn answer_drawn<S: Secrets>(
     let Ok(secret) = secrets.draw() else {
         return Err(OrderFault::Secrets);
     };
-    let Ok(text) = text_of(alloc, secret) else {
+    let Ok((text, digest)) = text_of(alloc, secret) else {
         return Err(OrderFault::Memory);
     };
-    let digest = digest_of(text.as_slice());
-    let count = entries.len() as u64;
+    let count = count_of(entries);
     match decide_at(state, solution.solved(), count, order, digest) {
         Decision::Refused(refusal) => Ok(Reply::Refused(refusal)),
         Decision::Same(_) => unreachable!(),
@@ -103,7 +110,7 @@ pub fn answer<S: Secrets>(
     ensures kept { (start : State) → state.old ≡ history.replay start entries.old.items → Holds start state.new entries.new.items solution.new }
     ensures answered { Answered state.old entries.old.items entries.new.items (S.drawer secrets.old) (S.drawer secrets.new) order.now result }
 {
-    let count = entries.len() as u64;
+    let count = count_of(entries);
     match decide(state, solution.solved(), count, order) {
         Decision::Refused(refusal) => Ok(Reply::Refused(refusal)),
         Decision::Same(made) => Ok(Reply::Made(made, None)),

@@ -42,9 +42,14 @@ pub struct Locked<S> {
 }
 
 impl<S> Model for Locked<S> {
+    ghost use Rattle.std.specs.Coded.{codes};
+    ghost use Rattle.share_graph.specs.contracts.event.Event as event_type;
+    ghost use Rattle.share_graph.specs.contracts.state.State as state_type;
     ghost use Rattle.hub_core.specs.Sharing.{Sharing, Holds};
 
     ghost Value = { Sharing S };
+
+    ghost coded = { Prim.hlevel (codes, state_type.the_row.coded, event_type.the_row.coded) };
 
     ghost view = { λ locked. record { start = locked.start; history = locked.history.items; secrets = locked.secrets } };
 

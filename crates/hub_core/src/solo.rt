@@ -18,9 +18,14 @@ pub struct SoloDesk<S> {
 }
 
 impl<S> Model for SoloDesk<S> {
+    ghost use Rattle.std.specs.Coded.{codes};
+    ghost use Rattle.share_graph.specs.contracts.event.Event as event_type;
+    ghost use Rattle.share_graph.specs.contracts.state.State as state_type;
     ghost use Rattle.hub_core.specs.Sharing.{Sharing};
 
     ghost Value = { Sharing S };
+
+    ghost coded = { Prim.hlevel (codes, state_type.the_row.coded, event_type.the_row.coded) };
 
     ghost view = { λ desk. desk.locked };
 }

@@ -1,0 +1,30 @@
+use Rattle.std.proofs.Common.{ℕ, [], None, subst, refl, arith}
+use Rattle.desk_base.specs.Accepting.{Ready, Accepts}
+use Rattle.desk_base.specs.Steps.{Refuses, Keeps}
+use Rattle.desk_orders.specs.Orders.{RowOf}
+use Rattle.hub_core.proofs.Replies.{answered_refused, answered_same, answered_change}
+use Rattle.hub_core.proofs.answering.answer.Goals as goal
+
+pub returns-in-Refused-clause-answered : goal.returns-in-Refused-clause-answered
+returns-in-Refused-clause-answered g c =
+    let s = c.args.state.now in
+    let drawer = g.S.Secrets.drawer c.args.secrets.now in
+    let r = c.in-Refused.refusal in
+    answered_refused s c.args.entries.now.items drawer drawer c.args.order.now [] refl (omega arith) r
+    (subst (λ (n : ℕ). Ready n (RowOf s c.args.order.now) (Refuses r)) c.count_of-count.ensures c.in-Refused.ensures.decided)
+
+pub returns-in-Same-clause-answered : goal.returns-in-Same-clause-answered
+returns-in-Same-clause-answered g c =
+    let s = c.args.state.now in
+    let made = c.in-Same.made in
+    answered_same s c.args.entries.now.items (g.S.Secrets.drawer c.args.secrets.now) c.args.order.now made
+    (subst (λ (n : ℕ). Ready n (RowOf s c.args.order.now) (Keeps made)) c.count_of-count.ensures c.in-Same.ensures.decided)
+
+pub returns-in-Change-clause-answered : goal.returns-in-Change-clause-answered
+returns-in-Change-clause-answered g c =
+    let s = c.args.state.now in
+    let drawer = g.S.Secrets.drawer c.args.secrets.now in
+    let e = c.in-Change.event in
+    let made = c.in-Change.made in
+    answered_change s c.args.entries.now.items drawer drawer c.args.order.now [] refl (omega arith) c.accept.new.entries.items e made None refl
+    (subst (λ (n : ℕ). Accepts s n None (RowOf s c.args.order.now) e made) c.count_of-count.ensures c.in-Change.ensures.decided) c.accept.result c.accept.ensures.ok c.accept.ensures.err

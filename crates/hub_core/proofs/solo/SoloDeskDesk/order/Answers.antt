@@ -1,0 +1,9 @@
+use Rattle.hub_core.proofs.Placing.{ordered_here}
+use Rattle.hub_core.proofs.solo.SoloDeskDesk.order.Goals as goal
+
+pub returns : goal.returns
+returns g c =
+    let old = c.self.inside.locked in
+    let new = c.order.new.self in
+    rw (← c.self.view_is, c.entries-place.ensures, c.order.ensures.start) (
+    ordered_here old.start old.history new.history (g.S.Secrets.drawer old.secrets) (g.S.Secrets.drawer new.secrets) c.args.order c.order.result c.order.ensures.answered)
