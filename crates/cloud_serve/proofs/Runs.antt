@@ -19,7 +19,7 @@ use Rattle.cloud_serve.specs.Effects.{AskedOf}
 use Rattle.cloud_serve.specs.Turns.{Turn, IsLawfulBy, IsLawful, AreLawful}
 use Rattle.cloud_serve.specs.Served.{World, InHand, Nothing, Refusing, Answering, Broken, NoRoom, request_in, asked_in, HandAt, CauseAt, IsOver, StreamAt, Stands, Complete, limit, Splits, Served}
 use Rattle.cloud_serve.specs.Serving.{ClosesWith, OneMore, Stops, SoFar}
-use Rattle.cloud_serve.specs.Texts.{memory_text}
+use Rattle.reply_texts.specs.Texts.{memory_text}
 use Rattle.cloud_serve.proofs.Serving.{stops_no_room}
 use Rattle.cloud_serve.proofs.Growth.{later_longer, takes_none_refl, takes_none_trans, asked_none, asked_trans, judged_later, judged_within}
 

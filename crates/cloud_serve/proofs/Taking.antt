@@ -18,7 +18,7 @@ use Rattle.cloud_serve.specs.Book.{Book, Judged}
 use Rattle.cloud_serve.specs.Effects.{TakesNone}
 use Rattle.cloud_serve.specs.Routes.{Shows}
 use Rattle.cloud_serve.specs.Taking.{AsksBy, Asks, ForwardBy, Forwards, Answers, BreaksOff}
-use Rattle.cloud_serve.specs.Texts.{wants_head, own_text, denial_text}
+use Rattle.reply_texts.specs.Texts.{wants_head, own_text, denial_text}
 use Rattle.cloud_serve.specs.Turns.{Turn, AnswersBack, IsLawfulBy, IsBegunBy}
 use Rattle.cloud_serve.proofs.Growth.{later_refl, takes_none_refl, asked_none, judged_later}
 

@@ -1,6 +1,5 @@
 pub mod Book
 pub mod Routes
-pub mod Texts
 pub mod Turns
 pub mod Effects
 pub mod Taking

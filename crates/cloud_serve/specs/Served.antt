@@ -11,7 +11,7 @@ use Rattle.cloud_serve.specs.declared.serve.End.{End}
 use Rattle.cloud_serve.specs.declared.serve.End.TheVariants as end
 use Rattle.cloud_serve.specs.Book.{Book}
 use Rattle.cloud_serve.specs.Effects.{AskedOf, TakesNone}
-use Rattle.cloud_serve.specs.Texts.{wants_head, refusal_status, refused_text, memory_text}
+use Rattle.reply_texts.specs.Texts.{wants_head, refusal_status, refused_text, memory_text}
 use Rattle.cloud_serve.specs.Turns.{Turn, IsLawful, IsBegun, AreLawful}
 
 -- what source, sink, link and desk tell at one moment

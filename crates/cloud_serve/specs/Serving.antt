@@ -14,7 +14,7 @@ use Rattle.cloud_serve.specs.declared.serve.End.{End}
 use Rattle.cloud_serve.specs.declared.serve.End.TheVariants as end
 use Rattle.cloud_serve.specs.Book.{Book}
 use Rattle.cloud_serve.specs.Effects.{AskedOf, TakesNone}
-use Rattle.cloud_serve.specs.Texts.{refusal_status, refused_text, memory_text}
+use Rattle.reply_texts.specs.Texts.{refusal_status, refused_text, memory_text}
 use Rattle.cloud_serve.specs.Turns.{Turn, IsLawful, AreLawful}
 use Rattle.cloud_serve.specs.Served.{World, InHand, request_in, asked_in, text_in, IsLawfulIn, HandAt, CauseAt, StreamAt, WrittenAt, CountAt, limit, Splits}
 

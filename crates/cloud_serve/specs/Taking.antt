@@ -10,7 +10,7 @@ use Rattle.grain_supervise.specs.Line.{Line}
 use Rattle.cloud_serve.specs.declared.turn.Answered.{Answered}
 use Rattle.cloud_serve.specs.Book.{Book}
 use Rattle.cloud_serve.specs.Effects.{AskedOf, TakesNone}
-use Rattle.cloud_serve.specs.Texts.{wants_head}
+use Rattle.reply_texts.specs.Texts.{wants_head}
 use Rattle.cloud_serve.specs.Turns.{Turn, IsLawful, IsBegun, AnswersBack, ask_of}
 
 -- what asking this once came to: the answer to what came back, or want of memory before or behind it

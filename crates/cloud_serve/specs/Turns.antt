@@ -15,7 +15,7 @@ use Rattle.cloud_serve.specs.declared.showing.Showing.{Showing}
 use Rattle.cloud_serve.specs.declared.showing.Showing.TheVariants as showing
 use Rattle.cloud_serve.specs.Book.{Book, Judged}
 use Rattle.cloud_serve.specs.Routes.{Shows}
-use Rattle.cloud_serve.specs.Texts.{wants_head, own_text, denial_text}
+use Rattle.reply_texts.specs.Texts.{wants_head, own_text, denial_text}
 
 -- One request and all that came of it: its place in the history, how far the connection has counted the history then,
 -- what was asked of the link, and the answer.

@@ -4,9 +4,9 @@ ghost use Rattle.host_base.specs.Outside.{Outlet};
 ghost use Rattle.cloud_serve.specs.Serving.{ClosesWith, RefusesBy, Halts};
 
 use crate::serve::End;
-use crate::texts::{refused_reply, status_of_refusal};
 use front_http::{FrontFault, Refusal, memory_reply};
 use host_base::{Memory, Sink, WriteFailed};
+use reply_texts::{refused_reply, status_of_refusal};
 use std::alloc::Global;
 
 /// Writes the last text of a connection.

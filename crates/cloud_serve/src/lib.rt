@@ -5,7 +5,6 @@ mod desk;
 mod ending;
 mod serve;
 mod showing;
-mod texts;
 mod turn;
 
 pub use desk::{Desk, SoloDesk};

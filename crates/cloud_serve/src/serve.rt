@@ -9,12 +9,12 @@ ghost use Rattle.cloud_serve.specs.Serving.{TakesOne, Steps};
 
 use crate::desk::Desk;
 use crate::ending::{close_with, halt};
-use crate::texts::wants_head;
 use crate::turn::take_turn;
 use front_http::{RequestReader, Routes, memory_reply};
 use grain_supervise::Link;
 use host_base::{Memory, Request, Sink, Source, WriteFailed};
 use plain_data::List as Row;
+use reply_texts::wants_head;
 use std::alloc::Global;
 
 /// How a connection ended.

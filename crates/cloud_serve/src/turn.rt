@@ -8,13 +8,13 @@ ghost use Rattle.cloud_serve.specs.declared.showing.Showing.TheVariants as shown
 
 use crate::desk::Desk;
 use crate::showing::{Showing, find_showing};
-use crate::texts::{denial_reply, own_reply, wants_head};
 use bridge_headers::{RelayFault, answer_text, grain_text};
 use front_http::Routes;
 use grain_supervise::{AskFault, Link, LongAnswer, whole_answer};
 use host_base::{
     ANSWER_READ, Answer, Bytes, Denial, GrainId, Key, Memory, Permit, Request, RunId, Verdict,
 };
+use reply_texts::{denial_reply, own_reply, wants_head};
 use std::alloc::Global;
 
 /// The place and the text of an answer.

@@ -1,5 +1,5 @@
 use Rattle.std.proofs.Common.{ℕ, ◌++◌, List, ◌∙◌, ap, Some, take}
-use Rattle.cloud_serve.specs.Texts.{memory_text}
+use Rattle.reply_texts.specs.Texts.{memory_text}
 use Rattle.cloud_serve.proofs.Serving.{took_one, stops_answer, stops_broken}
 use Rattle.cloud_serve.proofs.serve.answer_one.Goals as goal
 

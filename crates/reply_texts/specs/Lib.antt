@@ -1,0 +1,5 @@
+pub mod Numbers
+pub mod Texts
+pub mod Refusals
+pub mod Faults
+pub mod Done
