@@ -27,17 +27,6 @@ number_member key number = member key (decimal number)
 abbrev pub text_member : List ℕ → List ℕ → List ℕ
 text_member key text = member key (codes "\"" ++ text ++ codes "\"")
 
--- a member that is there, with a comma before it
-abbrev pub with_comma : Option (List ℕ) → List ℕ
-with_comma None = []
-with_comma (Some text) = 44 ∷ text
-
-abbrev pub number_part : List ℕ → Option ℕ → List ℕ
-number_part key number = with_comma (option_map (number_member key) number)
-
-abbrev pub text_part : List ℕ → Option (List ℕ) → List ℕ
-text_part key text = with_comma (option_map (text_member key) text)
-
 -- what an answer may show, in the order of the keys' bytes
 unfoldable pub members : Made → Handed → List (Option (List ℕ))
 members made handed =
