@@ -5,7 +5,8 @@ use Rattle.std.specs.List.{filter_map, join_with_byte}
 use Rattle.std.proofs.lemmas.List.{append-nil}
 use Rattle.share_graph.specs.declared.desk.Made.{Made}
 use Rattle.reply_texts.specs.declared.done.Handed.{Handed}
-use Rattle.reply_texts.specs.Done.{with_comma, number_part, text_part, key_of, token_of, members}
+use Rattle.reply_texts.specs.Done.{key_of, token_of, members}
+use Rattle.reply_texts.specs.DoneParts.{with_comma, number_part, text_part}
 
 -- behind a member
 behind : (m : List ℕ) (ms : List (Option (List ℕ))) → m ++ flat_map with_comma ms ≡ join_with_byte 44 (m ∷ filter_map (λ found. found) ms)

@@ -5,7 +5,7 @@ use Rattle.std.specs.List.{filter_map, join_with_byte}
 use Rattle.share_graph.specs.declared.desk.Made.{Made}
 use Rattle.front_http.specs.Texts.{reply_text}
 use Rattle.reply_texts.specs.declared.done.Handed.{Handed}
-use Rattle.reply_texts.specs.declared.done.Handed.TheVariants.{Nothing, Token, Key}
+use Rattle.reply_texts.specs.declared.done.Handed.TheVariants.{Token, Key}
 
 -- the text of a secret that is handed out as a token, and as a session's key
 abbrev pub token_of : Handed → Option (List ℕ)
@@ -26,17 +26,6 @@ number_member key number = member key (decimal number)
 -- The text stands as it is: those of secrets have letters, digits, `-` and `_` alone.
 abbrev pub text_member : List ℕ → List ℕ → List ℕ
 text_member key text = member key (codes "\"" ++ text ++ codes "\"")
-
--- a member that is there, with a comma before it
-abbrev pub with_comma : Option (List ℕ) → List ℕ
-with_comma None = []
-with_comma (Some text) = 44 ∷ text
-
-abbrev pub number_part : List ℕ → Option ℕ → List ℕ
-number_part key number = with_comma (option_map (number_member key) number)
-
-abbrev pub text_part : List ℕ → Option (List ℕ) → List ℕ
-text_part key text = with_comma (option_map (text_member key) text)
 
 -- what an answer may show, in the order of the keys' bytes
 unfoldable pub members : Made → Handed → List (Option (List ℕ))

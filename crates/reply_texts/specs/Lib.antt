@@ -3,3 +3,4 @@ pub mod Texts
 pub mod Refusals
 pub mod Faults
 pub mod Done
+pub mod DoneParts

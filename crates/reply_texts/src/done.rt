@@ -2,6 +2,7 @@
 
 ghost use Rattle.std.specs.Prelude.{◌≡◌, ◌++◌, codes, drop, flat_map, option_map, OnOk, IfOk};
 ghost use Rattle.reply_texts.specs.Done as done;
+ghost use Rattle.reply_texts.specs.DoneParts.{with_comma, number_part, text_part};
 
 use front_http::reply_text;
 use host_base::{Bytes, Memory};
@@ -28,7 +29,7 @@ fn put_key(members: &mut Bytes, key: &str) -> Result<(), Memory>
 
 // A comma and a member with a number, where there is one.
 fn put_number(members: &mut Bytes, key: &str, number: Option<u32>) -> Result<(), Memory>
-    ensures { OnOk result (members.new ≡ members.old ++ done.number_part key.now number) }
+    ensures { OnOk result (members.new ≡ members.old ++ number_part key.now number) }
 {
     let Some(number) = number else {
         return Ok(());
@@ -41,7 +42,7 @@ fn put_number(members: &mut Bytes, key: &str, number: Option<u32>) -> Result<(),
 // A comma and a member with a text, where there is one.
 fn put_text(members: &mut Bytes, key: &str, text: Option<&Bytes>) -> Result<(), Memory>
     ensures { OnOk result (members.new ≡ members.old
-        ++ done.text_part key.now (option_map (λ t. t.now) text.entry)) }
+        ++ text_part key.now (option_map (λ t. t.now) text.entry)) }
 {
     let Some(text) = text else {
         return Ok(());
@@ -72,9 +73,9 @@ fn key_of(handed: &Handed) -> Option<&Bytes>
 
 fn put_rows(members: &mut Bytes, made: &Made) -> Result<(), Memory>
     ensures { OnOk result (members.new ≡ members.old
-        ++ done.number_part (codes "account") made.now.account
-        ++ done.number_part (codes "app") made.now.app
-        ++ done.number_part (codes "grain") made.now.grain) }
+        ++ number_part (codes "account") made.now.account
+        ++ number_part (codes "app") made.now.app
+        ++ number_part (codes "grain") made.now.grain) }
 {
     put_number(members, "account", made.account)?;
     put_number(members, "app", made.app)?;
@@ -83,9 +84,9 @@ fn put_rows(members: &mut Bytes, made: &Made) -> Result<(), Memory>
 
 fn put_shares(members: &mut Bytes, made: &Made, handed: &Handed) -> Result<(), Memory>
     ensures { OnOk result (members.new ≡ members.old
-        ++ done.number_part (codes "grant") made.now.grant
-        ++ done.number_part (codes "handle") made.now.handle
-        ++ done.text_part (codes "key") (done.key_of handed.now)) }
+        ++ number_part (codes "grant") made.now.grant
+        ++ number_part (codes "handle") made.now.handle
+        ++ text_part (codes "key") (done.key_of handed.now)) }
 {
     put_number(members, "grant", made.grant)?;
     put_number(members, "handle", made.handle)?;
@@ -94,9 +95,9 @@ fn put_shares(members: &mut Bytes, made: &Made, handed: &Handed) -> Result<(), M
 
 fn put_others(members: &mut Bytes, made: &Made, handed: &Handed) -> Result<(), Memory>
     ensures { OnOk result (members.new ≡ members.old
-        ++ done.number_part (codes "saved") made.now.saved
-        ++ done.number_part (codes "session") made.now.session
-        ++ done.text_part (codes "token") (done.token_of handed.now)) }
+        ++ number_part (codes "saved") made.now.saved
+        ++ number_part (codes "session") made.now.session
+        ++ text_part (codes "token") (done.token_of handed.now)) }
 {
     put_number(members, "saved", made.saved)?;
     put_number(members, "session", made.session)?;
@@ -106,7 +107,7 @@ fn put_others(members: &mut Bytes, made: &Made, handed: &Handed) -> Result<(), M
 // The members in the order of their keys, each with a comma before it.
 #[tactic(auto, using(crate::proofs::Members::in_order))]
 fn put_members(members: &mut Bytes, made: &Made, handed: &Handed) -> Result<(), Memory>
-    ensures { OnOk result (members.new ≡ members.old ++ flat_map done.with_comma (done.members made.now handed.now)) }
+    ensures { OnOk result (members.new ≡ members.old ++ flat_map with_comma (done.members made.now handed.now)) }
 {
     put_rows(members, made)?;
     put_shares(members, made, handed)?;
