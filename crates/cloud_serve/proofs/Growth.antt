@@ -10,27 +10,24 @@ use Rattle.share_graph.specs.History.{replay}
 use Rattle.session_table.specs.Verdict.{IsVerdict}
 use Rattle.grain_supervise.specs.declared.ask.Ask.{Ask}
 use Rattle.grain_supervise.specs.Line.{Line}
-use Rattle.cloud_serve.specs.Book.{Book, Later, Judged}
-use Rattle.cloud_serve.specs.Effects.{Grew, failures, AskedOf, TakesNone}
+use Rattle.hub_core.specs.Book.{Book, Later, Judged}
+use Rattle.cloud_serve.specs.Effects.{Grew, failures, AskedOf}
 
 pub later_trans : (old mid new : Book) → Later old mid → Later mid new → Later old new
 later_trans old mid new a b = record {
   start = b.start ∙ a.start;
   more = a.more ++ b.more;
   seen = b.seen ∙ ap (λ (xs : List Event). xs ++ b.more) a.seen ∙ append_assoc old.seen a.more b.more;
+  store = omega (arith, a.store, b.store);
+  secrets = omega (arith, a.secrets, b.secrets);
+  starts = omega (arith, a.starts, b.starts);
 }
 
 pub later_refl : (book : Book) → Later book book
-later_refl book = record { start = refl; more = []; seen = sym (append-nil book.seen) }
+later_refl book = record { start = refl; more = []; seen = sym (append-nil book.seen); store = omega arith; secrets = omega arith; starts = omega arith }
 
 pub later_longer : (old new : Book) → Later old new → length old.seen ≤ length new.seen
 later_longer old new a = omega (arith, ap length a.seen, length-append old.seen a.more)
-
-pub takes_none_refl : (book : Book) → TakesNone book book
-takes_none_refl book = record { later = later_refl book; accepted = refl }
-
-pub takes_none_trans : (old mid new : Book) → TakesNone old mid → TakesNone mid new → TakesNone old new
-takes_none_trans old mid new a b = record { later = later_trans old mid new a.later b.later; accepted = b.accepted ∙ a.accepted }
 
 pub grew_trans : (a b c n m : ℕ) → b ≤ c → Grew a b n → Grew b c m → Grew a c (n + m)
 grew_trans a b c n m le f h = λ lt. let first : a + n ≤ b = f (omega arith) in let second : b + m ≤ c = h lt in omega arith

@@ -1,5 +1,6 @@
 pub mod Growth
-pub mod Sites
+pub mod Orders
 pub mod Taking
 pub mod Serving
 pub mod Runs
+pub mod Sites

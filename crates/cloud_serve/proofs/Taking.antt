@@ -14,7 +14,7 @@ use Rattle.grain_supervise.specs.declared.ask.Ask.{Ask}
 use Rattle.grain_supervise.specs.Line.{Line}
 use Rattle.cloud_serve.specs.declared.showing.Showing.{Showing}
 use Rattle.cloud_serve.specs.declared.showing.Showing.TheVariants as showing
-use Rattle.cloud_serve.specs.Book.{Book, Judged}
+use Rattle.hub_core.specs.Book.{Book, Judged}
 use Rattle.cloud_serve.specs.Effects.{TakesNone}
 use Rattle.cloud_serve.specs.Routes.{Shows}
 use Rattle.cloud_serve.specs.Taking.{AsksBy, Asks, ForwardBy, Forwards, Answers, BreaksOff}

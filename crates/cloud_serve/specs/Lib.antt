@@ -1,4 +1,5 @@
-pub mod Book
+pub mod Acts
+pub mod Commands
 pub mod Routes
 pub mod Turns
 pub mod Effects

@@ -9,8 +9,9 @@ use Rattle.grain_supervise.specs.declared.ask.Ask.{Ask}
 use Rattle.grain_supervise.specs.Line.{Line}
 use Rattle.cloud_serve.specs.declared.serve.End.{End}
 use Rattle.cloud_serve.specs.declared.serve.End.TheVariants as end
-use Rattle.cloud_serve.specs.Book.{Book}
-use Rattle.cloud_serve.specs.Effects.{AskedOf, TakesNone}
+use Rattle.hub_core.specs.Book.{Book}
+use Rattle.cloud_serve.specs.Acts.{Act}
+use Rattle.cloud_serve.specs.Effects.{AskedOf, OrderedOf}
 use Rattle.reply_texts.specs.Texts.{wants_head, refusal_status, refused_text, memory_text}
 use Rattle.cloud_serve.specs.Turns.{Turn, IsLawful, IsBegun, AreLawful}
 
@@ -43,6 +44,13 @@ asked_in (Broken turn) = turn.asked
 asked_in Nothing = []
 asked_in (Refusing refusal at) = []
 asked_in NoRoom = []
+
+abbrev pub acts_in : InHand → List Act
+acts_in (Answering turn) = turn.acts
+acts_in (Broken turn) = turn.acts
+acts_in Nothing = []
+acts_in (Refusing refusal at) = []
+acts_in NoRoom = []
 
 -- the text that was being written
 abbrev pub text_in : InHand → List ℕ
@@ -144,9 +152,9 @@ pub record Served (old new : World) (end : End) (from : ℕ) (places : List ℕ)
   pub hand : InHand
   pub high : ℕ
   pub last : ℕ
-  -- Places begin at what the desk had seen. The history goes on from there, and no command of this connection is in it.
+  -- Places begin at what the desk had seen. The history goes on from there, and the desk was given the turns' orders and no others.
   pub from_is : from ≡ length old.book.seen
-  pub none_taken : TakesNone old.book new.book
+  pub ordered_of : OrderedOf old.book new.book (flat_map (λ turn. turn.acts) turns ++ acts_in hand)
   -- Each turn is lawful in that one history, and counts what those before it reached.
   pub lawful : AreLawful new.book from from turns high last
   pub in_hand : IsLawfulIn hand new.book high last

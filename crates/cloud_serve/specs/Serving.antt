@@ -12,11 +12,11 @@ use Rattle.front_http.specs.Stream.{Requests, IsStream}
 use Rattle.grain_supervise.specs.Line.{Line}
 use Rattle.cloud_serve.specs.declared.serve.End.{End}
 use Rattle.cloud_serve.specs.declared.serve.End.TheVariants as end
-use Rattle.cloud_serve.specs.Book.{Book}
-use Rattle.cloud_serve.specs.Effects.{AskedOf, TakesNone}
+use Rattle.hub_core.specs.Book.{Book}
+use Rattle.cloud_serve.specs.Effects.{AskedOf, OrderedOf}
 use Rattle.reply_texts.specs.Texts.{refusal_status, refused_text, memory_text}
 use Rattle.cloud_serve.specs.Turns.{Turn, IsLawful, AreLawful}
-use Rattle.cloud_serve.specs.Served.{World, InHand, request_in, asked_in, text_in, IsLawfulIn, HandAt, CauseAt, StreamAt, WrittenAt, CountAt, limit, Splits}
+use Rattle.cloud_serve.specs.Served.{World, InHand, request_in, asked_in, acts_in, text_in, IsLawfulIn, HandAt, CauseAt, StreamAt, WrittenAt, CountAt, limit, Splits}
 
 -- a text was closed with: the end that was meant, or a write fault and a prefix of it
 abbrev pub ClosesWith : Outlet → Outlet → List ℕ → End → End → Type 0
@@ -46,7 +46,7 @@ pub record TookOne (low last counted counts : ℕ) (request : Request) (out out'
   pub request_is : turn.request ≡ request
   pub place_is : turn.place ≡ place
   pub lawful : IsLawful new low last turn
-  pub none_taken : TakesNone old new
+  pub ordered_of : OrderedOf old new turn.acts
   pub asked_of : AskedOf line line' turn.asked
   pub counts_is : counts ≡ counted + length turn.asked
   pub written : (text : List ℕ) → out.written ≡ Some text → out'.written ≡ Some (text ++ turn.answer)
@@ -56,7 +56,7 @@ pub record StopsOne (low last counted counts : ℕ) (request : Request) (out out
   pub hand : InHand
   pub request_is : request_in hand ≡ request ∷ []
   pub lawful : IsLawfulIn hand new low last
-  pub none_taken : TakesNone old new
+  pub ordered_of : OrderedOf old new (acts_in hand)
   pub asked_of : AskedOf line line' (asked_in hand)
   pub counts_is : counts ≡ counted + length (asked_in hand)
   pub written : (text : List ℕ) → out.written ≡ Some text → WrittenAt end text (text_in hand) out'.written
@@ -74,7 +74,7 @@ pub record OneMore (low last counted counts : ℕ) (reading reading' : Reading) 
   pub turn : Turn
   pub place_is : turn.place ≡ place
   pub lawful : IsLawful new.book low last turn
-  pub none_taken : TakesNone old.book new.book
+  pub ordered_of : OrderedOf old.book new.book turn.acts
   pub asked_of : AskedOf old.line new.line turn.asked
   pub counts_is : counts ≡ counted + length turn.asked
   pub stream : (left : List ℕ) → old.inlet.left ≡ Some left → (rest : List ℕ) × (new.inlet.left ≡ Some rest)
@@ -85,7 +85,7 @@ pub record OneMore (low last counted counts : ℕ) (reading reading' : Reading) 
 pub record Stops (low last counted counts : ℕ) (reading : Reading) (old new : World) (end : End) : Type 0 where
   pub hand : InHand
   pub lawful : IsLawfulIn hand new.book low last
-  pub none_taken : TakesNone old.book new.book
+  pub ordered_of : OrderedOf old.book new.book (acts_in hand)
   pub asked_of : AskedOf old.line new.line (asked_in hand)
   pub counts_is : counts ≡ counted + length (asked_in hand)
   pub stream : (left : List ℕ) → old.inlet.left ≡ Some left → (all : Requests) → IsRemaining reading left all → (more : Requests) × Splits all (request_in hand) more × StreamAt end hand more
@@ -105,7 +105,7 @@ pub record SoFar (old now : World) (reading : Reading) (from last : ℕ) (places
   pub high : ℕ
   pub high_within : high ≤ length now.book.seen
   pub lawful : AreLawful now.book from from turns high last
-  pub none_taken : TakesNone old.book now.book
+  pub ordered_of : OrderedOf old.book now.book (flat_map (λ turn. turn.acts) turns)
   pub places_are : places ≡ map (λ turn. turn.place) turns
   pub served_is : served ≡ length turns
   pub asked_of : AskedOf old.line now.line (flat_map (λ turn. turn.asked) turns)

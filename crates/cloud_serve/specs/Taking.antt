@@ -7,9 +7,12 @@ use Rattle.host_base.specs.declared.permit.Permit.{Permit}
 use Rattle.host_base.specs.declared.request.Request.{Request}
 use Rattle.grain_supervise.specs.declared.ask.Ask.{Ask}
 use Rattle.grain_supervise.specs.Line.{Line}
+use Rattle.desk_orders.specs.declared.reply.OrderFault.{OrderFault}
+use Rattle.desk_orders.specs.declared.reply.Reply.{Reply}
+use Rattle.desk_orders.specs.declared.reply.Reply.TheVariants as reply
 use Rattle.cloud_serve.specs.declared.turn.Answered.{Answered}
-use Rattle.cloud_serve.specs.Book.{Book}
-use Rattle.cloud_serve.specs.Effects.{AskedOf, TakesNone}
+use Rattle.hub_core.specs.Book.{Book}
+use Rattle.cloud_serve.specs.Effects.{AskedOf, OrderedOf}
 use Rattle.reply_texts.specs.Texts.{wants_head}
 use Rattle.cloud_serve.specs.Turns.{Turn, IsLawful, IsBegun, AnswersBack, ask_of}
 
@@ -46,7 +49,7 @@ pub record Answers (old new : Book) (before after : Line) (counted counts low la
   pub lawful : IsLawful new low last turn
   pub asked_of : AskedOf before after turn.asked
   pub counts_is : counts ≡ counted + length turn.asked
-  pub none_taken : TakesNone old new
+  pub ordered_of : OrderedOf old new turn.acts
 
 -- memory ran out on a turn on this request
 pub record BreaksOff (old new : Book) (before after : Line) (counted counts low : ℕ) (request : Request) : Type 0 where
@@ -55,9 +58,21 @@ pub record BreaksOff (old new : Book) (before after : Line) (counted counts low 
   pub begun : IsBegun new low turn
   pub asked_of : AskedOf before after turn.asked
   pub counts_is : counts ≡ counted + length turn.asked
-  pub none_taken : TakesNone old new
+  pub ordered_of : OrderedOf old new turn.acts
 
 -- what taking a turn came to
 abbrev pub Takes : Book → Book → Line → Line → ℕ → ℕ → ℕ → ℕ → Request → Result Answered Memory → Type 0
 Takes old new before after counted counts low last request (Ok answered) = Answers old new before after counted counts low last request answered.place answered.text
 Takes old new before after counted counts low last request (Err m) = BreaksOff old new before after counted counts low request
+
+-- an answer that isn't a list
+abbrev pub IsNoList : Result Reply OrderFault → Type 0
+IsNoList (Ok (reply.Options list)) = ⊥
+IsNoList (Ok (reply.Made made text)) = Unit {0}
+IsNoList (Ok (reply.Refused why)) = Unit {0}
+IsNoList (Err fault) = Unit {0}
+
+-- the answer at a place, where there is a text
+abbrev pub answered_at : ℕ → Result (List ℕ) Memory → Result Answered Memory
+answered_at place (Ok text) = Ok (record { place = place; text = text })
+answered_at place (Err m) = Err m

@@ -1,5 +1,5 @@
 -- What one request comes to: its turn, and when a turn is lawful.
-use Rattle.std.specs.Prelude.{◌≡◌, ◌≢◌, ℕ, ◌⊎◌, Bool, List, [], ◌∷◌, Option, Some, None, Result, Ok, Err, length, codes}
+use Rattle.std.specs.Prelude.{◌≡◌, ◌≢◌, ℕ, ◌+◌, ◌⊎◌, Bool, List, [], ◌∷◌, Option, Some, None, Result, Ok, Err, length, codes}
 use Rattle.host_base.specs.declared.key.Key.{Key}
 use Rattle.host_base.specs.declared.permit.Permit.{Permit}
 use Rattle.host_base.specs.declared.request.Request.{Request}
@@ -13,17 +13,31 @@ use Rattle.bridge_headers.specs.declared.fault.RelayFault.TheVariants as fault
 use Rattle.grain_supervise.specs.declared.ask.Ask.{Ask}
 use Rattle.cloud_serve.specs.declared.showing.Showing.{Showing}
 use Rattle.cloud_serve.specs.declared.showing.Showing.TheVariants as showing
-use Rattle.cloud_serve.specs.Book.{Book, Judged}
+use Rattle.share_graph.specs.declared.refusal.Refusal.TheVariants as refusal
+use Rattle.desk_orders.specs.declared.reply.OrderFault.{OrderFault}
+use Rattle.desk_orders.specs.declared.reply.OrderFault.TheVariants as order_fault
+use Rattle.desk_orders.specs.declared.reply.Reply.{Reply}
+use Rattle.desk_orders.specs.declared.reply.Reply.TheVariants as reply
+use Rattle.desk_orders.specs.Commands.{Asked}
+use Rattle.hub_core.specs.Book.{Book, Judged, Placed}
+use Rattle.reply_texts.specs.declared.done.Handed.{Handed}
+use Rattle.reply_texts.specs.declared.done.Handed.TheVariants as handed
+use Rattle.reply_texts.specs.declared.faults.OwnFault.TheVariants as own
+use Rattle.reply_texts.specs.Done.{done_text}
+use Rattle.reply_texts.specs.Faults.{fault_text}
+use Rattle.reply_texts.specs.Refusals.{command_text}
+use Rattle.cloud_serve.specs.Acts.{Act}
 use Rattle.cloud_serve.specs.Routes.{Shows}
 use Rattle.reply_texts.specs.Texts.{wants_head, own_text, denial_text}
 
 -- One request and all that came of it: its place in the history, how far the connection has counted the history then,
--- what was asked of the link, and the answer.
+-- what was asked of the link, the orders that it made, and the answer.
 pub record Turn : Type 0 where
   pub request : Request
   pub place : ℕ
   pub reached : ℕ
   pub asked : List Ask
+  pub acts : List Act
   pub answer : List ℕ
 
 -- a request is asked of the run that its permit names, by the grain's text
@@ -52,11 +66,27 @@ Follows (verdict.Forward permit) turn =
     (back : Option (List ℕ)) × (turn.asked ≡ ask_of permit turn.request back ∷ []) × AnswersBack (wants_head turn.request) back turn.answer
 Follows (verdict.Site tag item) turn = ⊥
 
--- Answered before the desk, with this text: the place is the one before it, and nothing is asked.
+-- what an answer hands out, beside numbers: the text of a secret as a token
+abbrev pub handed_of : Option (List ℕ) → Handed
+handed_of None = handed.Nothing
+handed_of (Some text) = handed.Token text
+
+-- The text of the answer to an order. Want of memory has no text here: it breaks the turn off.
+abbrev pub AnswersOrder : Result Reply OrderFault → Bool → List ℕ → Type 0
+AnswersOrder (Ok (reply.Made made text)) head_only answer = answer ≡ done_text made (handed_of text) head_only
+AnswersOrder (Ok (reply.Refused why)) head_only answer = answer ≡ command_text why head_only
+AnswersOrder (Ok (reply.Options list)) head_only answer = ⊥
+AnswersOrder (Err order_fault.Store) head_only answer = answer ≡ fault_text own.StoreFailed head_only
+AnswersOrder (Err order_fault.Secrets) head_only answer = answer ≡ fault_text own.SecretsFailed head_only
+AnswersOrder (Err order_fault.Start) head_only answer = answer ≡ fault_text own.StartFailed head_only
+AnswersOrder (Err order_fault.Memory) head_only answer = ⊥
+
+-- Answered before the desk, with this text: the place is the one before it, and nothing is asked or ordered.
 pub record IsPlain (low last : ℕ) (text : List ℕ) (turn : Turn) : Type 0 where
   pub place_is : turn.place ≡ last
   pub reached_is : turn.reached ≡ low
   pub unasked : turn.asked ≡ []
+  pub unordered : turn.acts ≡ []
   pub answer_is : turn.answer ≡ text
 
 -- Answered by the verdict on a key at the turn's place, and what follows from it.
@@ -64,27 +94,52 @@ pub record IsKeyed (book : Book) (low : ℕ) (key : Key) (turn : Turn) : Type 0 
   pub verdict : Verdict
   pub judged : Judged low book key turn.place verdict
   pub reached_is : turn.reached ≡ turn.place
+  pub unordered : turn.acts ≡ []
   pub follows : Follows verdict turn
+
+-- THE ORDER is made, at the turn's place: its answer is lawful there, what it adds is the entry at that place, and the connection
+-- counts it from then on.
+pub record IsMade (book : Book) (low : ℕ) (order : Asked) (turn : Turn) (act : Act) : Type 0 where
+  pub acts_are : turn.acts ≡ act ∷ []
+  pub order_is : act.order ≡ order
+  pub placed : Placed low book order act.place act.answer act.drawn act.added
+  pub place_is : turn.place ≡ act.place
+  pub reached_is : turn.reached ≡ act.place + length act.added
+  pub unasked : turn.asked ≡ []
+
+-- Answered by what became of an order.
+pub record IsOrdered (book : Book) (low : ℕ) (order : Asked) (turn : Turn) : Type 0 where
+  pub act : Act
+  pub made : IsMade book low order turn act
+  pub answered : AnswersOrder act.answer (wants_head turn.request) turn.answer
 
 -- A lawful turn, where the connection had counted `low` entries and the place before it was `last`.
 abbrev pub IsLawfulBy : Showing → Book → ℕ → ℕ → Turn → Type 0
 IsLawfulBy showing.NoRoute book low last turn = IsPlain low last (own_text 404 (codes "NoRoute") [] (wants_head turn.request)) turn
 IsLawfulBy showing.NoCredential book low last turn = IsPlain low last (denial_text denial.UnknownKey (wants_head turn.request)) turn
+IsLawfulBy (showing.BadBody field) book low last turn = IsPlain low last (fault_text (own.BadBody field) (wants_head turn.request)) turn
+IsLawfulBy (showing.BadManifest bad) book low last turn = IsPlain low last (command_text (refusal.Manifest bad) (wants_head turn.request)) turn
 IsLawfulBy (showing.Keyed key) book low last turn = IsKeyed book low key turn
+IsLawfulBy (showing.Wants order) book low last turn = IsOrdered book low order turn
 
 abbrev pub IsLawful : Book → ℕ → ℕ → Turn → Type 0
 IsLawful book low last turn = (shown : Showing) × Shows turn.request shown × IsLawfulBy shown book low last turn
 
--- A turn that memory ran out on: nothing was asked, or the one text of a request that goes through.
+-- What may have been done on a turn that memory ran out on: the one text of a request that goes through was asked, or the order was
+-- made.
 abbrev pub IsBegunBy : Showing → Book → ℕ → Turn → Type 0
-IsBegunBy showing.NoRoute book low turn = turn.asked ≡ []
-IsBegunBy showing.NoCredential book low turn = turn.asked ≡ []
 IsBegunBy (showing.Keyed key) book low turn =
-    (turn.asked ≡ [])
-    ⊎ ((permit : Permit) × (back : Option (List ℕ)) × Judged low book key turn.place (verdict.Forward permit) × (turn.asked ≡ ask_of permit turn.request back ∷ []))
+    (permit : Permit) × (back : Option (List ℕ)) × Judged low book key turn.place (verdict.Forward permit) × (turn.asked ≡ ask_of permit turn.request back ∷ []) × (turn.acts ≡ [])
+IsBegunBy (showing.Wants order) book low turn = (act : Act) × IsMade book low order turn act
+IsBegunBy showing.NoRoute book low turn = ⊥
+IsBegunBy showing.NoCredential book low turn = ⊥
+IsBegunBy (showing.BadBody field) book low turn = ⊥
+IsBegunBy (showing.BadManifest bad) book low turn = ⊥
 
 abbrev pub IsBegun : Book → ℕ → Turn → Type 0
-IsBegun book low turn = (shown : Showing) × Shows turn.request shown × IsBegunBy shown book low turn
+IsBegun book low turn =
+    ((turn.asked ≡ []) × (turn.acts ≡ []))
+    ⊎ ((shown : Showing) × Shows turn.request shown × IsBegunBy shown book low turn)
 
 -- Lawful turns, one after another: each counts what the one before it reached, and knows the place before it. `high` and `place`
 -- are how far they counted, and the last place.

@@ -1,11 +1,10 @@
 //! One connection, from the bytes that come in to the bytes that go out.
 #![tactic(auto)]
 
-mod desk;
+mod commands;
 mod ending;
 mod serve;
 mod showing;
 mod turn;
 
-pub use desk::{Desk, SoloDesk};
 pub use serve::{ConnEnd, End, Places, REQUEST_LIMIT, serve_conn};

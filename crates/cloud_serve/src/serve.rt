@@ -3,16 +3,16 @@ ghost use Rattle.std.specs.Prelude.{◌≡◌, ℕ, ◌⊎◌, ◌+◌, ◌<◌,
 ghost use Rattle.host_base.specs.Outside.{Inlet, Outlet};
 ghost use Rattle.front_http.specs.Stream.{Requests, IsStream};
 ghost use Rattle.grain_supervise.specs.Line.{Line};
-ghost use Rattle.cloud_serve.specs.Book.{Book};
+ghost use Rattle.hub_core.specs.Book.{Book};
 ghost use Rattle.cloud_serve.specs.Served.{World, Served, Stands, Complete, limit};
 ghost use Rattle.cloud_serve.specs.Serving.{TakesOne, Steps};
 
-use crate::desk::Desk;
 use crate::ending::{close_with, halt};
 use crate::turn::take_turn;
 use front_http::{RequestReader, Routes, memory_reply};
 use grain_supervise::Link;
 use host_base::{Memory, Request, Sink, Source, WriteFailed};
+use hub_core::Desk;
 use plain_data::List as Row;
 use reply_texts::wants_head;
 use std::alloc::Global;

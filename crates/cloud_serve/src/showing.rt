@@ -1,19 +1,31 @@
 //! What a request shows, and so how it is answered.
-ghost use Rattle.std.specs.Prelude.{◌≡◌};
-ghost use Rattle.cloud_serve.specs.Routes.{Shows, bearer_showing, showing_at as shown_at};
+ghost use Rattle.std.specs.Prelude.{◌≡◌, IfOk};
+ghost use Rattle.cloud_serve.specs.Commands.{command_at};
+ghost use Rattle.cloud_serve.specs.Routes.{Shows, ShowsAt, IsAtDesk, bearer_showing};
+ghost use Rattle.std.specs.Option.{is_some};
 
+use crate::commands::{is_answered, ordering};
+use app_manifest::ManifestFault;
 use front_http::{Route, Routes};
-use host_base::{Digest, Key, Request};
+use host_base::{Digest, Key, Memory, Request};
+use hub_core::Order;
+use std::alloc::Global;
 
 /// What a request shows.
-#[derive(Clone, Copy, Debug, PartialEq, Eq)]
+#[derive(Drop)]
 pub enum Showing {
     /// It asks for nothing that is there.
     NoRoute,
     /// It has no credential, and needs one.
     NoCredential,
+    /// The field of that number in its body isn't as it should be, or at 0 the body is no object.
+    BadBody(u8),
+    /// Its body is a manifest that has this fault.
+    BadManifest(ManifestFault),
     /// It shows a key, and is answered by the verdict on it.
     Keyed(Key),
+    /// It wants this of the desk.
+    Wants(Order),
 }
 
 fn credential(bearer: &Option<Digest>) -> Showing
@@ -25,23 +37,49 @@ fn credential(bearer: &Option<Digest>) -> Showing
     }
 }
 
+// What is shown on a route of the desk.
+fn at_desk(
+    alloc: Global,
+    route: Route,
+    bearer: &Option<Digest>,
+    body: &[u8],
+) -> Result<Showing, Memory>
+    ensures { IfOk result (IsAtDesk bearer.now (command_at route body.now)) }
+{
+    match bearer {
+        Some(digest) => ordering(alloc, *digest, route, body),
+        None => {
+            if is_answered(route) {
+                Ok(Showing::NoCredential)
+            } else {
+                Ok(Showing::NoRoute)
+            }
+        }
+    }
+}
+
 // What is shown on a route.
-fn showing_at(route: Route, bearer: &Option<Digest>) -> Showing
-    ensures { result ≡ shown_at route bearer.now }
+fn showing_at(
+    alloc: Global,
+    route: Route,
+    bearer: &Option<Digest>,
+    body: &[u8],
+) -> Result<Showing, Memory>
+    ensures { IfOk result (ShowsAt route bearer.now body.now) }
 {
     match route {
-        Route::Session(digest) => Showing::Keyed(Key::Session(digest)),
-        Route::Api => credential(bearer),
-        _ => Showing::NoRoute,
+        Route::Session(digest) => Ok(Showing::Keyed(Key::Session(digest))),
+        Route::Api => Ok(credential(bearer)),
+        _ => at_desk(alloc, route, bearer, body),
     }
 }
 
 /// What a request shows.
-pub fn find_showing(routes: &Routes, request: &Request) -> Showing
-    ensures { Shows request.now result }
+pub fn find_showing(alloc: Global, routes: &Routes, request: &Request) -> Result<Showing, Memory>
+    ensures { IfOk result (Shows request.now) }
 {
     match routes.route(request) {
-        Some(found) => showing_at(found, &request.bearer),
-        None => Showing::NoRoute,
+        Some(found) => showing_at(alloc, found, &request.bearer, request.body.as_slice()),
+        None => Ok(Showing::NoRoute),
     }
 }

@@ -1,12 +1,12 @@
 //! One turn: what a request comes to.
 ghost use Rattle.std.specs.Prelude.{◌≡◌, ℕ, ◌+◌, ◌<◌, ◌≤◌, Some, length, IfOk};
-ghost use Rattle.cloud_serve.specs.Book.{Book};
+ghost use Rattle.hub_core.specs.Book.{Book};
 ghost use Rattle.cloud_serve.specs.Routes.{Shows};
-ghost use Rattle.cloud_serve.specs.Taking.{Asks, Forwards, Takes};
-ghost use Rattle.cloud_serve.specs.Turns.{AnswersBack};
+ghost use Rattle.grain_supervise.specs.Line.{Line};
+ghost use Rattle.cloud_serve.specs.Taking.{Asks, Forwards, Takes, IsNoList, answered_at};
+ghost use Rattle.cloud_serve.specs.Turns.{AnswersBack, AnswersOrder};
 ghost use Rattle.cloud_serve.specs.declared.showing.Showing.TheVariants as shown;
 
-use crate::desk::Desk;
 use crate::showing::{Showing, find_showing};
 use bridge_headers::{RelayFault, answer_text, grain_text};
 use front_http::Routes;
@@ -14,7 +14,11 @@ use grain_supervise::{AskFault, Link, LongAnswer, whole_answer};
 use host_base::{
     ANSWER_READ, Answer, Bytes, Denial, GrainId, Key, Memory, Permit, Request, RunId, Verdict,
 };
-use reply_texts::{denial_reply, own_reply, wants_head};
+use hub_core::{Desk, Order, OrderFault, Reply};
+use reply_texts::{
+    Handed, OwnFault, command_reply, denial_reply, done_reply, fault_reply, own_reply, wants_head,
+};
+use share_graph::Refusal;
 use std::alloc::Global;
 
 /// The place and the text of an answer.
@@ -125,8 +129,63 @@ fn keyed<D: Desk, L: Link>(
     }
 }
 
-/// Takes one turn: finds what a request shows, judges its key, asks the link where the request goes through, and makes its answer.
-/// `last` is the place before it.
+// The text of the answer to an order, which isn't a list.
+fn order_text(
+    alloc: Global,
+    answer: Result<Reply, OrderFault>,
+    head_only: bool,
+) -> Result<Bytes, Memory>
+    requires { IsNoList answer }
+    ensures { IfOk result (AnswersOrder answer head_only) }
+{
+    match answer {
+        Ok(reply) => match reply {
+            Reply::Made(made, text) => match text {
+                Some(text) => done_reply(alloc, &made, &Handed::Token(text), head_only),
+                None => done_reply(alloc, &made, &Handed::Nothing, head_only),
+            },
+            Reply::Options(_) => unreachable!(),
+            Reply::Refused(refusal) => command_reply(alloc, &refusal, head_only),
+        },
+        Err(fault) => match fault {
+            OrderFault::Store => fault_reply(alloc, OwnFault::StoreFailed, head_only),
+            OrderFault::Secrets => fault_reply(alloc, OwnFault::SecretsFailed, head_only),
+            OrderFault::Start => fault_reply(alloc, OwnFault::StartFailed, head_only),
+            OrderFault::Memory => Err(Memory),
+        },
+    }
+}
+
+// A turn on a request that wants something of the desk.
+fn ordered<D: Desk>(
+    alloc: Global,
+    request: &Request,
+    order: Order,
+    desk: &mut D,
+) -> Result<Answered, Memory>
+    requires shown { Shows request.now (shown.Wants order) }
+    ensures takes { (low last counted : ℕ) (line : Line) → low ≤ length (D.book desk.old).seen →
+        Takes (D.book desk.old) (D.book desk.new) line line counted counted low last request.now result }
+{
+    let (place, answer) = desk.order(alloc, order);
+    match order_text(alloc, answer, wants_head(request)) {
+        Ok(text) => Ok(Answered { place, text }),
+        Err(Memory) => Err(Memory),
+    }
+}
+
+// An answer that needs no desk, at the place before it.
+fn answered(place: u64, text: Result<Bytes, Memory>) -> Result<Answered, Memory>
+    ensures { result ≡ answered_at place text }
+{
+    match text {
+        Ok(text) => Ok(Answered { place, text }),
+        Err(Memory) => Err(Memory),
+    }
+}
+
+/// Takes one turn: finds what a request shows, judges its key or gives the desk its order, asks the link where the request goes
+/// through, and makes its answer. `last` is the place before it.
 pub fn take_turn<D: Desk, L: Link>(
     alloc: Global,
     routes: &Routes,
@@ -141,17 +200,22 @@ pub fn take_turn<D: Desk, L: Link>(
     ensures takes { (low : ℕ) → low ≤ length (D.book desk.old).seen →
         Takes (D.book desk.old) (D.book desk.new) (L.line link.old) (L.line link.new) forwarded.old forwarded.new low last request.now result }
 {
-    match find_showing(routes, request) {
-        Showing::NoRoute => match own_reply(alloc, 404, "NoRoute", &[], wants_head(request)) {
-            Ok(text) => Ok(Answered { place: last, text }),
-            Err(Memory) => Err(Memory),
-        },
-        Showing::NoCredential => {
-            match denial_reply(alloc, &Denial::UnknownKey, wants_head(request)) {
-                Ok(text) => Ok(Answered { place: last, text }),
-                Err(Memory) => Err(Memory),
+    let head_only = wants_head(request);
+    match find_showing(alloc, routes, request) {
+        Err(Memory) => Err(Memory),
+        Ok(showing) => match showing {
+            Showing::NoRoute => answered(last, own_reply(alloc, 404, "NoRoute", &[], head_only)),
+            Showing::NoCredential => {
+                answered(last, denial_reply(alloc, &Denial::UnknownKey, head_only))
             }
-        }
-        Showing::Keyed(key) => keyed(alloc, request, &key, desk, link, forwarded),
+            Showing::BadBody(field) => {
+                answered(last, fault_reply(alloc, OwnFault::BadBody(field), head_only))
+            }
+            Showing::BadManifest(bad) => {
+                answered(last, command_reply(alloc, &Refusal::Manifest(bad), head_only))
+            }
+            Showing::Keyed(key) => keyed(alloc, request, &key, desk, link, forwarded),
+            Showing::Wants(order) => ordered(alloc, request, order, desk),
+        },
     }
 }

@@ -3,7 +3,7 @@ use Rattle.host_base.specs.declared.verdict.Verdict.{Verdict}
 use Rattle.host_base.specs.declared.verdict.Verdict.TheVariants as verdict
 use Rattle.share_graph.specs.History.{replay}
 use Rattle.cloud_serve.specs.declared.showing.Showing.TheVariants as showing
-use Rattle.cloud_serve.specs.Book.{Judged}
+use Rattle.hub_core.specs.Book.{Judged}
 use Rattle.cloud_serve.proofs.Sites.{no_site}
 use Rattle.cloud_serve.proofs.Taking.{breaks_first, answers_denied, answers_forwarded, breaks_forwarded}
 use Rattle.cloud_serve.proofs.turn.keyed.Goals as goal

@@ -1,0 +1,147 @@
+-- Orders one after another, and what stands at their places.
+use Rattle.std.proofs.Common.{◌≡◌, ℕ, ◌+◌, ◌≤◌, ◌++◌, Bool, List, [], ◌∷◌, cond, Option, Result, Ok, Err, length, count_by, refl, sym, ◌∙◌, ap, subst, arith, append_assoc, append-nil, length-append}
+use Rattle.std.specs.List.{flat_map}
+use Rattle.std.proofs.lemmas.Grind.{flat_map-append}
+use Rattle.std.proofs.lemmas.List.Sums.{sum_by-append}
+use Rattle.host_base.specs.Drawing.{Draws}
+use Rattle.share_graph.specs.declared.event.Event.{Event}
+use Rattle.share_graph.specs.declared.state.State.{State}
+use Rattle.share_graph.specs.History.{replay}
+use Rattle.desk_orders.specs.declared.reply.OrderFault.{OrderFault}
+use Rattle.desk_orders.specs.declared.reply.OrderFault.TheVariants as fault
+use Rattle.desk_orders.specs.declared.reply.Reply.{Reply}
+use Rattle.desk_orders.specs.Answers.{IsAnswer}
+use Rattle.desk_orders.specs.Commands.{Asked}
+use Rattle.desk_orders.specs.Secrets.{DrawsAll}
+use Rattle.hub_core.specs.Book.{Book, Later, TakesNone, Placed, IsCounted, Ordered}
+use Rattle.cloud_serve.specs.Acts.{Act, added_by, drawn_by, is_store, is_secrets, is_start, store_failures, secret_failures, start_failures}
+use Rattle.cloud_serve.specs.Effects.{Grew, OrderedOf}
+use Rattle.cloud_serve.proofs.Growth.{later_trans, later_refl, later_longer, grew_trans}
+
+-- what was drawn in two parts
+pub draws_trans : (a b c : Option (ℕ → Option (List ℕ))) (xs ys : List (List ℕ)) → DrawsAll a b xs → DrawsAll b c ys → DrawsAll a c (xs ++ ys)
+draws_trans a b c [] ys f h = subst (λ (o : Option (ℕ → Option (List ℕ))). DrawsAll o c ys) f h
+draws_trans a b c (x ∷ xs) ys (mid, first, more) h = (mid, first, draws_trans mid b c xs ys more h)
+
+length_none : (xs : List Event) → length xs ≡ 0 → xs ≡ []
+length_none [] is = refl
+length_none (x ∷ xs) is = absurd (omega (arith, is))
+
+-- two lists that are the same joined, whose first parts are as long
+same_front : (xs ys as bs : List Event) → xs ++ as ≡ ys ++ bs → length xs ≡ length ys → (xs ≡ ys) × (as ≡ bs)
+same_front [] [] as bs same long = (refl, same)
+same_front [] (y ∷ ys) as bs same long = absurd (omega (arith, long))
+same_front (x ∷ xs) [] as bs same long = absurd (omega (arith, long))
+same_front (x ∷ xs) (y ∷ ys) as bs same long =
+    let heads : x ≡ y = cc in
+    let tails : xs ++ as ≡ ys ++ bs = cc in
+    let (fronts, backs) = same_front xs ys as bs tails (omega (arith, long)) in
+    (ap (λ (z : Event). z ∷ xs) heads ∙ ap (λ (zs : List Event). y ∷ zs) fronts, backs)
+
+-- nothing was ordered
+pub ordered_none : (old new : Book) → TakesNone old new → OrderedOf old new []
+ordered_none old new none = record {
+  later = none.later;
+  accepted = omega (arith, none.accepted);
+  draws = none.coming;
+  store = λ lt. omega (arith, none.later.store);
+  secrets = λ lt. omega (arith, none.later.secrets);
+  starts = λ lt. omega (arith, none.later.starts);
+  grows = omega (arith, later_longer old new none.later);
+  alone = λ same. none.later.seen ∙ ap (λ (xs : List Event). old.seen ++ xs) (length_none none.later.more (omega (arith, same, ap length none.later.seen, length-append old.seen none.later.more)));
+}
+
+pub ordered_refl : (book : Book) → OrderedOf book book []
+ordered_refl book = ordered_none book book (record { later = later_refl book; accepted = refl; coming = refl })
+
+abbrev fails_of : (Result Reply OrderFault → Bool) → List Act → ℕ
+fails_of is acts = count_by (λ (act : Act). is act.answer) acts
+
+fails_trans : (is : Result Reply OrderFault → Bool) (a b c : ℕ) (xs ys : List Act) → b ≤ c → Grew a b (fails_of is xs) → Grew b c (fails_of is ys) → Grew a c (fails_of is (xs ++ ys))
+fails_trans is a b c xs ys less f h = subst (λ (n : ℕ). Grew a c n) (sym (sum_by-append (λ (act : Act). cond (is act.answer) 1 0) xs ys)) (grew_trans a b c (fails_of is xs) (fails_of is ys) less f h)
+
+pub ordered_trans : (old mid new : Book) (xs ys : List Act) → OrderedOf old mid xs → OrderedOf mid new ys → OrderedOf old new (xs ++ ys)
+ordered_trans old mid new xs ys f h =
+    let added : added_by (xs ++ ys) ≡ added_by xs ++ added_by ys = flat_map-append (λ (act : Act). act.added) xs ys in
+    let drawn : drawn_by (xs ++ ys) ≡ drawn_by xs ++ drawn_by ys = flat_map-append (λ (act : Act). act.drawn) xs ys in
+    let long : length (added_by (xs ++ ys)) ≡ length (added_by xs) + length (added_by ys) = ap length added ∙ length-append (added_by xs) (added_by ys) in
+    record {
+      later = later_trans old mid new f.later h.later;
+      accepted = omega (arith, f.accepted, h.accepted, long);
+      draws = subst (λ (ds : List (List ℕ)). DrawsAll old.coming new.coming ds) (sym drawn) (draws_trans old.coming mid.coming new.coming (drawn_by xs) (drawn_by ys) f.draws h.draws);
+      store = fails_trans is_store old.store_faults mid.store_faults new.store_faults xs ys h.later.store f.store h.store;
+      secrets = fails_trans is_secrets old.secret_faults mid.secret_faults new.secret_faults xs ys h.later.secrets f.secrets h.secrets;
+      starts = fails_trans is_start old.start_faults mid.start_faults new.start_faults xs ys h.later.starts f.starts h.starts;
+      grows = omega (arith, f.grows, h.grows, long);
+      alone = λ same.
+          let first : length mid.seen ≡ length old.seen + length (added_by xs) = omega (arith, f.grows, h.grows, long, same) in
+          let second : length new.seen ≡ length mid.seen + length (added_by ys) = omega (arith, f.grows, h.grows, long, same) in
+          h.alone second ∙ ap (λ (zs : List Event). zs ++ added_by ys) (f.alone first) ∙ append_assoc old.seen (added_by xs) (added_by ys) ∙ ap (λ (zs : List Event). old.seen ++ zs) (sym added);
+    }
+
+-- an order as an act
+abbrev pub act_of : Asked → ℕ → Result Reply OrderFault → List (List ℕ) → List Event → Act
+act_of order place answer drawn added = record { order = order; place = place; answer = answer; drawn = drawn; added = added }
+
+store_one : (old new : Book) (order : Asked) (place : ℕ) (drawn : List (List ℕ)) (added : List Event) (answer : Result Reply OrderFault) → old.store_faults ≤ new.store_faults → IsCounted old new answer → Grew old.store_faults new.store_faults (store_failures (act_of order place answer drawn added ∷ []))
+store_one old new order place drawn added (Ok reply) less counted = λ lt. omega (arith, less)
+store_one old new order place drawn added (Err fault.Store) less counted = λ lt. omega (arith, less, counted (omega (arith, less, lt)))
+store_one old new order place drawn added (Err fault.Secrets) less counted = λ lt. omega (arith, less)
+store_one old new order place drawn added (Err fault.Start) less counted = λ lt. omega (arith, less)
+store_one old new order place drawn added (Err fault.Memory) less counted = λ lt. omega (arith, less)
+
+secret_one : (old new : Book) (order : Asked) (place : ℕ) (drawn : List (List ℕ)) (added : List Event) (answer : Result Reply OrderFault) → old.secret_faults ≤ new.secret_faults → IsCounted old new answer → Grew old.secret_faults new.secret_faults (secret_failures (act_of order place answer drawn added ∷ []))
+secret_one old new order place drawn added (Ok reply) less counted = λ lt. omega (arith, less)
+secret_one old new order place drawn added (Err fault.Secrets) less counted = λ lt. omega (arith, less, counted (omega (arith, less, lt)))
+secret_one old new order place drawn added (Err fault.Store) less counted = λ lt. omega (arith, less)
+secret_one old new order place drawn added (Err fault.Start) less counted = λ lt. omega (arith, less)
+secret_one old new order place drawn added (Err fault.Memory) less counted = λ lt. omega (arith, less)
+
+start_one : (old new : Book) (order : Asked) (place : ℕ) (drawn : List (List ℕ)) (added : List Event) (answer : Result Reply OrderFault) → old.start_faults ≤ new.start_faults → IsCounted old new answer → Grew old.start_faults new.start_faults (start_failures (act_of order place answer drawn added ∷ []))
+start_one old new order place drawn added (Ok reply) less counted = λ lt. omega (arith, less)
+start_one old new order place drawn added (Err fault.Start) less counted = λ lt. omega (arith, less, counted (omega (arith, less, lt)))
+start_one old new order place drawn added (Err fault.Store) less counted = λ lt. omega (arith, less)
+start_one old new order place drawn added (Err fault.Secrets) less counted = λ lt. omega (arith, less)
+start_one old new order place drawn added (Err fault.Memory) less counted = λ lt. omega (arith, less)
+
+-- Where the history grew by no more than what an order added, it is that: the entries before are those that were seen.
+alone_one : (seen now before added rest more : List Event) → now ≡ (before ++ added) ++ rest → now ≡ seen ++ more → length seen ≤ length before → length now ≡ length seen + length added → now ≡ seen ++ added
+alone_one seen now before added rest more is also less long =
+    let all : length now ≡ length before + length added + length rest = ap length is ∙ length-append (before ++ added) rest ∙ ap (λ (n : ℕ). n + length rest) (length-append before added) in
+    let none : rest ≡ [] = length_none rest (omega (arith, all, long, less)) in
+    let whole : now ≡ before ++ added = is ∙ ap (λ (zs : List Event). (before ++ added) ++ zs) none ∙ append-nil (before ++ added) in
+    let (same, _) = same_front before seen added more (sym whole ∙ also) (omega (arith, all, long, less)) in
+    whole ∙ ap (λ (zs : List Event). zs ++ added) same
+
+-- one order
+pub ordered_one : (old new : Book) (order : Asked) (place : ℕ) (answer : Result Reply OrderFault) → (o : Ordered old new order place answer) → OrderedOf old new (act_of order place answer o.drawn o.added ∷ [])
+ordered_one old new order place answer o =
+    let placed = o.placed in
+    let added : added_by (act_of order place answer o.drawn o.added ∷ []) ≡ o.added = append-nil o.added in
+    let all : length new.seen ≡ length placed.before + length o.added + length placed.rest = ap length placed.seen ∙ length-append (placed.before ++ o.added) placed.rest ∙ ap (λ (n : ℕ). n + length placed.rest) (length-append placed.before o.added) in
+    let less : length old.seen ≤ length placed.before = omega (arith, placed.low_is, placed.place_is) in
+    record {
+      later = o.later;
+      accepted = o.accepted ∙ ap (λ (zs : List Event). old.accepted + length zs) (sym added);
+      draws = subst (λ (ds : List (List ℕ)). DrawsAll old.coming new.coming ds) (sym (append-nil o.drawn)) o.draws;
+      store = store_one old new order place o.drawn o.added answer o.later.store o.counted;
+      secrets = secret_one old new order place o.drawn o.added answer o.later.secrets o.counted;
+      starts = start_one old new order place o.drawn o.added answer o.later.starts o.counted;
+      grows = omega (arith, all, less, ap length added);
+      alone = λ same. alone_one old.seen new.seen placed.before o.added placed.rest o.later.more placed.seen o.later.seen less (omega (arith, same, ap length added)) ∙ ap (λ (zs : List Event). old.seen ++ zs) (sym added);
+    }
+
+-- what stood at a place stands there later too
+pub placed_later : (old new : Book) (low lower : ℕ) (order : Asked) (place : ℕ) (answer : Result Reply OrderFault) (drawn : List (List ℕ)) (added : List Event) → Later old new → lower ≤ low
+    → Placed low old order place answer drawn added → Placed lower new order place answer drawn added
+placed_later old new low lower order place answer drawn added later less p = record {
+  before = p.before;
+  rest = p.rest ++ later.more;
+  seen = later.seen ∙ ap (λ (xs : List Event). xs ++ later.more) p.seen ∙ append_assoc (p.before ++ added) p.rest later.more;
+  place_is = p.place_is;
+  low_is = omega (arith, p.low_is);
+  lawful = subst (λ (start : State). IsAnswer (replay start p.before) place order answer drawn added) (sym later.start) p.lawful;
+}
+
+pub placed_within : (book : Book) (low : ℕ) (order : Asked) (place : ℕ) (answer : Result Reply OrderFault) (drawn : List (List ℕ)) (added : List Event) → Placed low book order place answer drawn added → place + length added ≤ length book.seen
+placed_within book low order place answer drawn added p = omega (arith, ap length p.seen, length-append (p.before ++ added) p.rest, length-append p.before added, p.place_is)

@@ -1,0 +1,55 @@
+-- The orders that a request made.
+use Rattle.std.specs.Prelude.{ℕ, Bool, true, false, List, Result, Ok, Err, count_by}
+use Rattle.std.specs.List.{flat_map}
+use Rattle.share_graph.specs.declared.event.Event.{Event}
+use Rattle.desk_orders.specs.declared.reply.OrderFault.{OrderFault}
+use Rattle.desk_orders.specs.declared.reply.OrderFault.TheVariants as fault
+use Rattle.desk_orders.specs.declared.reply.Reply.{Reply}
+use Rattle.desk_orders.specs.Commands.{Asked}
+
+-- An order with all that came of it: its place in the history, the answer, the secrets that were drawn for it, and the entries that
+-- it added, which is one where it was accepted and changed something, and else none.
+pub record Act : Type 0 where
+  pub order : Asked
+  pub place : ℕ
+  pub answer : Result Reply OrderFault
+  pub drawn : List (List ℕ)
+  pub added : List Event
+
+abbrev pub added_by : List Act → List Event
+added_by acts = flat_map (λ act. act.added) acts
+
+abbrev pub drawn_by : List Act → List (List ℕ)
+drawn_by acts = flat_map (λ act. act.drawn) acts
+
+-- whether an answer is a fault of the store, of the secrets, of the spawner
+abbrev pub is_store : Result Reply OrderFault → Bool
+is_store (Err fault.Store) = true
+is_store (Err fault.Secrets) = false
+is_store (Err fault.Start) = false
+is_store (Err fault.Memory) = false
+is_store (Ok reply) = false
+
+abbrev pub is_secrets : Result Reply OrderFault → Bool
+is_secrets (Err fault.Store) = false
+is_secrets (Err fault.Secrets) = true
+is_secrets (Err fault.Start) = false
+is_secrets (Err fault.Memory) = false
+is_secrets (Ok reply) = false
+
+abbrev pub is_start : Result Reply OrderFault → Bool
+is_start (Err fault.Store) = false
+is_start (Err fault.Secrets) = false
+is_start (Err fault.Start) = true
+is_start (Err fault.Memory) = false
+is_start (Ok reply) = false
+
+-- how many of the answers are such faults
+abbrev pub store_failures : List Act → ℕ
+store_failures acts = count_by (λ act. is_store act.answer) acts
+
+abbrev pub secret_failures : List Act → ℕ
+secret_failures acts = count_by (λ act. is_secrets act.answer) acts
+
+abbrev pub start_failures : List Act → ℕ
+start_failures acts = count_by (λ act. is_start act.answer) acts
