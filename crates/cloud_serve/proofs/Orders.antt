@@ -28,14 +28,14 @@ length_none [] is = refl
 length_none (x ∷ xs) is = absurd (omega (arith, is))
 
 -- two lists that are the same joined, whose first parts are as long
-same_front : (xs ys as bs : List Event) → xs ++ as ≡ ys ++ bs → length xs ≡ length ys → (xs ≡ ys) × (as ≡ bs)
-same_front [] [] as bs same long = (refl, same)
-same_front [] (y ∷ ys) as bs same long = absurd (omega (arith, long))
-same_front (x ∷ xs) [] as bs same long = absurd (omega (arith, long))
-same_front (x ∷ xs) (y ∷ ys) as bs same long =
+same_front : (xs ys us vs : List Event) → xs ++ us ≡ ys ++ vs → length xs ≡ length ys → (xs ≡ ys) × (us ≡ vs)
+same_front [] [] us vs same long = (refl, same)
+same_front [] (y ∷ ys) us vs same long = absurd (omega (arith, long))
+same_front (x ∷ xs) [] us vs same long = absurd (omega (arith, long))
+same_front (x ∷ xs) (y ∷ ys) us vs same long =
     let heads : x ≡ y = cc in
-    let tails : xs ++ as ≡ ys ++ bs = cc in
-    let (fronts, backs) = same_front xs ys as bs tails (omega (arith, long)) in
+    let tails : xs ++ us ≡ ys ++ vs = cc in
+    let (fronts, backs) = same_front xs ys us vs tails (omega (arith, long)) in
     (ap (λ (z : Event). z ∷ xs) heads ∙ ap (λ (zs : List Event). y ∷ zs) fronts, backs)
 
 -- nothing was ordered

@@ -15,24 +15,47 @@ use Rattle.cloud_serve.specs.declared.showing.Showing.TheVariants as showing
 use Rattle.cloud_serve.specs.declared.serve.End.{End}
 use Rattle.cloud_serve.specs.declared.serve.End.TheVariants as end
 use Rattle.hub_core.specs.Book.{Book, Later}
-use Rattle.cloud_serve.specs.Effects.{AskedOf}
+use Rattle.cloud_serve.specs.Acts.{Act}
+use Rattle.cloud_serve.specs.Effects.{AskedOf, OrderedOf}
 use Rattle.cloud_serve.specs.Turns.{Turn, IsLawfulBy, IsLawful, AreLawful}
-use Rattle.cloud_serve.specs.Served.{World, InHand, Nothing, Refusing, Answering, Broken, NoRoom, request_in, asked_in, HandAt, CauseAt, IsOver, StreamAt, Stands, Complete, limit, Splits, Served}
+use Rattle.cloud_serve.specs.Served.{World, InHand, Nothing, Refusing, Answering, Broken, NoRoom, request_in, asked_in, acts_in, HandAt, CauseAt, IsOver, StreamAt, Stands, Complete, limit, Splits, Served}
 use Rattle.cloud_serve.specs.Serving.{ClosesWith, OneMore, Stops, SoFar}
 use Rattle.reply_texts.specs.Texts.{memory_text}
 use Rattle.cloud_serve.proofs.Serving.{stops_no_room}
-use Rattle.cloud_serve.proofs.Growth.{later_longer, takes_none_refl, takes_none_trans, asked_none, asked_trans, judged_later, judged_within}
+use Rattle.cloud_serve.proofs.Growth.{later_longer, asked_none, asked_trans, judged_later, judged_within}
+use Rattle.cloud_serve.proofs.Orders.{ordered_refl, ordered_trans, placed_later, placed_within}
 
 -- what was lawful stays so when more is seen
 lawful_later : (r : Showing) (old new : Book) → Later old new → (low last : ℕ) (turn : Turn) → IsLawfulBy r old low last turn → IsLawfulBy r new low last turn
 lawful_later showing.NoRoute old new later low last turn is = is
 lawful_later showing.NoCredential old new later low last turn is = is
+lawful_later (showing.BadBody field) old new later low last turn is = is
+lawful_later (showing.BadManifest bad) old new later low last turn is = is
 lawful_later (showing.Keyed key) old new later low last turn is =
-    record { verdict = is.verdict; judged = judged_later old new low low key turn.place is.verdict later (omega arith) is.judged; reached_is = is.reached_is; follows = is.follows }
+    record { verdict = is.verdict; judged = judged_later old new low low key turn.place is.verdict later (omega arith) is.judged; reached_is = is.reached_is; unordered = is.unordered; follows = is.follows }
+lawful_later (showing.Wants order) old new later low last turn is =
+    let m = is.made in
+    let act = is.act in
+    record {
+      act = act;
+      made = record {
+        acts_are = m.acts_are;
+        order_is = m.order_is;
+        placed = placed_later old new low low order act.place act.answer act.drawn act.added later (omega arith) m.placed;
+        place_is = m.place_is;
+        reached_is = m.reached_is;
+        unasked = m.unasked;
+      };
+      answered = is.answered;
+    }
 
 reached_within : (r : Showing) (book : Book) (low last : ℕ) (turn : Turn) → low ≤ length book.seen → IsLawfulBy r book low last turn → turn.reached ≤ length book.seen
 reached_within showing.NoRoute book low last turn less is = omega (arith, is.reached_is)
 reached_within showing.NoCredential book low last turn less is = omega (arith, is.reached_is)
+reached_within (showing.BadBody field) book low last turn less is = omega (arith, is.reached_is)
+reached_within (showing.BadManifest bad) book low last turn less is = omega (arith, is.reached_is)
+reached_within (showing.Wants order) book low last turn less is =
+    let act = is.act in omega (arith, is.made.reached_is, placed_within book low order act.place act.answer act.drawn act.added is.made.placed)
 reached_within (showing.Keyed key) book low last turn less is = omega (arith, is.reached_is, judged_within book low key turn.place is.verdict is.judged)
 
 turns_later : (old new : Book) → Later old new → (low last : ℕ) (turns : List Turn) (high place : ℕ) → AreLawful old low last turns high place → AreLawful new low last turns high place
@@ -61,7 +84,7 @@ so_far_none world from is = record {
   high = from;
   high_within = omega arith;
   lawful = (refl, refl);
-  none_taken = takes_none_refl world.book;
+  ordered_of = ordered_refl world.book;
   places_are = refl;
   served_is = refl;
   asked_of = asked_none world.line;
@@ -79,9 +102,9 @@ pub so_far_more : (old now new : World) (reading reading' : Reading) (from last 
 so_far_more old now new reading reading' from last places served forwarded forwarded' place s o reads writes whole = record {
   turns = s.turns ++ o.turn ∷ [];
   high = o.turn.reached;
-  high_within = reached_within o.lawful.0 new.book s.high last o.turn (omega (arith, s.high_within, later_longer now.book new.book o.none_taken.later)) o.lawful.2;
-  lawful = subst (λ (n : ℕ). AreLawful new.book from from (s.turns ++ o.turn ∷ []) o.turn.reached n) o.place_is (turns-append new.book from from s.turns s.high last o.turn (turns_later now.book new.book o.none_taken.later from from s.turns s.high last s.lawful) o.lawful);
-  none_taken = takes_none_trans old.book now.book new.book s.none_taken o.none_taken;
+  high_within = reached_within o.lawful.0 new.book s.high last o.turn (omega (arith, s.high_within, later_longer now.book new.book o.ordered_of.later)) o.lawful.2;
+  lawful = subst (λ (n : ℕ). AreLawful new.book from from (s.turns ++ o.turn ∷ []) o.turn.reached n) o.place_is (turns-append new.book from from s.turns s.high last o.turn (turns_later now.book new.book o.ordered_of.later from from s.turns s.high last s.lawful) o.lawful);
+  ordered_of = subst (λ (xs : List Act). OrderedOf old.book new.book xs) (more_pieces (λ (t : Turn). t.acts) s.turns o.turn) (ordered_trans old.book now.book new.book (flat_map (λ (t : Turn). t.acts) s.turns) o.turn.acts s.ordered_of o.ordered_of);
   places_are = ap (λ (ps : List ℕ). ps ++ place ∷ []) s.places_are ∙ ap (λ (p : ℕ). map (λ (t : Turn). t.place) s.turns ++ p ∷ []) (sym o.place_is) ∙ sym (map-append (λ (t : Turn). t.place) s.turns (o.turn ∷ []));
   served_is = omega (arith, s.served_is, length-append s.turns (o.turn ∷ []));
   asked_of = subst (λ (xs : List Ask). AskedOf old.line new.line xs) (more_pieces (λ (t : Turn). t.asked) s.turns o.turn) (asked_trans old.line now.line new.line (flat_map (λ (t : Turn). t.asked) s.turns) o.turn.asked s.asked_of o.asked_of);
@@ -124,8 +147,8 @@ served_when old now new reading from last places served forwarded forwarded' e i
   high = s.high;
   last = last;
   from_is = is;
-  none_taken = takes_none_trans old.book now.book new.book s.none_taken o.none_taken;
-  lawful = turns_later now.book new.book o.none_taken.later from from s.turns s.high last s.lawful;
+  ordered_of = ordered_trans old.book now.book new.book (flat_map (λ (t : Turn). t.acts) s.turns) (acts_in o.hand) s.ordered_of o.ordered_of;
+  lawful = turns_later now.book new.book o.ordered_of.later from from s.turns s.high last s.lawful;
   in_hand = o.lawful;
   places_are = s.places_are;
   served_is = s.served_is;
@@ -150,7 +173,7 @@ served_spent old now reading from last places forwarded is s = record {
   high = s.high;
   last = last;
   from_is = is;
-  none_taken = s.none_taken;
+  ordered_of = subst (λ (xs : List Act). OrderedOf old.book now.book xs) (sym (append-nil (flat_map (λ (t : Turn). t.acts) s.turns))) s.ordered_of;
   lawful = s.lawful;
   in_hand = tt;
   places_are = s.places_are;

@@ -12,12 +12,14 @@ use Rattle.grain_supervise.specs.Line.{Line}
 use Rattle.cloud_serve.specs.declared.serve.End.{End}
 use Rattle.cloud_serve.specs.declared.serve.End.TheVariants as end
 use Rattle.hub_core.specs.Book.{Book}
-use Rattle.cloud_serve.specs.Effects.{AskedOf, TakesNone}
+use Rattle.cloud_serve.specs.Acts.{Act}
+use Rattle.cloud_serve.specs.Effects.{AskedOf, OrderedOf}
 use Rattle.reply_texts.specs.Texts.{wants_head, refusal_status, memory_text}
 use Rattle.cloud_serve.specs.Taking.{Answers, BreaksOff}
-use Rattle.cloud_serve.specs.Served.{World, InHand, Nothing, Refusing, Answering, Broken, NoRoom, request_in, asked_in, text_in, IsLawfulIn, HandAt, CauseAt, IsOver, IsRefusedIn, StreamAt, WrittenAt, CountAt, limit, Splits}
+use Rattle.cloud_serve.specs.Served.{World, InHand, Nothing, Refusing, Answering, Broken, NoRoom, request_in, asked_in, acts_in, text_in, IsLawfulIn, HandAt, CauseAt, IsOver, IsRefusedIn, StreamAt, WrittenAt, CountAt, limit, Splits}
 use Rattle.cloud_serve.specs.Serving.{ClosesWith, RefusesBy, Halts, TookOne, StopsOne, TakesOne, Stops, Steps}
-use Rattle.cloud_serve.proofs.Growth.{takes_none_refl, asked_none}
+use Rattle.cloud_serve.proofs.Growth.{asked_none}
+use Rattle.cloud_serve.proofs.Orders.{ordered_refl}
 
 pub took_one : (low last counted counts : ℕ) (request : Request) (out out' : Outlet) (line line' : Line) (old new : Book) (place : ℕ) (text : List ℕ) → Answers old new line line' counted counts low last request place text
     → ((before : List ℕ) → out.written ≡ Some before → out'.written ≡ Some (before ++ text)) → TookOne low last counted counts request out out' line line' old new place
@@ -26,7 +28,7 @@ took_one low last counted counts request out out' line line' old new place text 
   request_is = a.request_is;
   place_is = a.place_is;
   lawful = a.lawful;
-  none_taken = a.none_taken;
+  ordered_of = a.ordered_of;
   asked_of = a.asked_of;
   counts_is = a.counts_is;
   written = λ before is. wrote before is ∙ ap (λ (xs : List ℕ). Some (before ++ xs)) (sym a.answer_is);
@@ -38,7 +40,7 @@ stops_answer low last counted counts request out out' line line' old new place t
   hand = Answering a.turn;
   request_is = ap (λ (r : Request). r ∷ []) a.request_is;
   lawful = a.lawful;
-  none_taken = a.none_taken;
+  ordered_of = a.ordered_of;
   asked_of = a.asked_of;
   counts_is = a.counts_is;
   written = λ before is. let part = wrote before is in (part.0, part.1 ∙ ap (λ (xs : List ℕ). Some (before ++ take part.0 xs)) (sym a.answer_is));
@@ -54,7 +56,7 @@ stops_broken low last counted counts request out out' line line' old new result 
   hand = Broken b.turn;
   request_is = ap (λ (r : Request). r ∷ []) b.request_is;
   lawful = b.begun;
-  none_taken = b.none_taken;
+  ordered_of = b.ordered_of;
   asked_of = b.asked_of;
   counts_is = b.counts_is;
   written = λ before told. whole.1 before told ∙ ap (λ (xs : List ℕ). Some (before ++ xs)) (is ∙ ap (λ (r : Request). memory_text (wants_head r)) (sym b.request_is));
@@ -67,7 +69,7 @@ stops_broken low last counted counts request out out' line line' old new result 
   hand = Broken b.turn;
   request_is = ap (λ (r : Request). r ∷ []) b.request_is;
   lawful = b.begun;
-  none_taken = b.none_taken;
+  ordered_of = b.ordered_of;
   asked_of = b.asked_of;
   counts_is = b.counts_is;
   written = λ before told. let w = part.2 before told in (w.0, w.1 ∙ ap (λ (xs : List ℕ). Some (before ++ take w.0 xs)) (is ∙ ap (λ (r : Request). memory_text (wants_head r)) (sym b.request_is)));
@@ -94,7 +96,7 @@ steps_one low last counted counts reading reading' old new request (Ok place) gi
   turn = t.turn;
   place_is = t.place_is;
   lawful = t.lawful;
-  none_taken = t.none_taken;
+  ordered_of = t.ordered_of;
   asked_of = t.asked_of;
   counts_is = t.counts_is;
   stream = λ left is.
@@ -110,7 +112,7 @@ steps_one low last counted counts reading reading' old new request (Ok place) gi
 steps_one low last counted counts reading reading' old new request (Err e) gives t = record {
   hand = t.hand;
   lawful = t.lawful;
-  none_taken = t.none_taken;
+  ordered_of = t.ordered_of;
   asked_of = t.asked_of;
   counts_is = t.counts_is;
   stream = λ left is all remains.
@@ -126,16 +128,17 @@ steps_one low last counted counts reading reading' old new request (Err e) gives
 pub record IsBare (hand : InHand) : Type 0 where
   pub request : request_in hand ≡ []
   pub asked : asked_in hand ≡ []
+  pub acts : acts_in hand ≡ []
   pub lawful : (book : Book) (low last : ℕ) → IsLawfulIn hand book low last
 
 bare_nothing : IsBare Nothing
-bare_nothing = record { request = refl; asked = refl; lawful = λ book low last. tt }
+bare_nothing = record { request = refl; asked = refl; acts = refl; lawful = λ book low last. tt }
 
 bare_no_room : IsBare NoRoom
-bare_no_room = record { request = refl; asked = refl; lawful = λ book low last. tt }
+bare_no_room = record { request = refl; asked = refl; acts = refl; lawful = λ book low last. tt }
 
 bare_refusing : (why : Refusal) (at : ℕ) → IsBare (Refusing why at)
-bare_refusing why at = record { request = refl; asked = refl; lawful = λ book low last. tt }
+bare_refusing why at = record { request = refl; asked = refl; acts = refl; lawful = λ book low last. tt }
 
 -- the connection ends with no request in hand
 stops_bare : (low last counted : ℕ) (reading : Reading) (old new : World) (e : End) (hand : InHand) → IsBare hand → old.line ≡ new.line → old.book ≡ new.book
@@ -145,7 +148,7 @@ stops_bare : (low last counted : ℕ) (reading : Reading) (old new : World) (e :
 stops_bare low last counted reading old new e hand bare line book stream written at cause count = record {
   hand = hand;
   lawful = bare.lawful new.book low last;
-  none_taken = subst (λ (b : Book). TakesNone old.book b) book (takes_none_refl old.book);
+  ordered_of = rw bare.acts (subst (λ (b : Book). OrderedOf old.book b []) book (ordered_refl old.book));
   asked_of = rw bare.asked (subst (λ (l : Line). AskedOf old.line l []) line (asked_none old.line));
   counts_is = rw bare.asked (omega arith);
   stream = λ left is all remains. (all, rw bare.request (record { list = refl; end = refl }), stream left is all remains);

@@ -1,5 +1,5 @@
 -- What taking a turn comes to, over plain values.
-use Rattle.std.proofs.Common.{◌≡◌, ℕ, ◌≤◌, Bool, List, [], ◌∷◌, Option, Result, Ok, Err, IfOk, length, codes, refl, ◌∙◌, ap, subst, arith, inl, inr}
+use Rattle.std.proofs.Common.{◌≡◌, ℕ, ◌+◌, ◌≤◌, Bool, List, [], ◌∷◌, Option, Result, Ok, Err, IfOk, length, codes, refl, ◌∙◌, ap, subst, arith, inl, inr}
 use Rattle.host_base.specs.declared.bytes.Memory.{Memory}
 use Rattle.host_base.specs.declared.ids.GrainId.{GrainId}
 use Rattle.host_base.specs.declared.ids.RunId.{RunId}
@@ -14,13 +14,26 @@ use Rattle.grain_supervise.specs.declared.ask.Ask.{Ask}
 use Rattle.grain_supervise.specs.Line.{Line}
 use Rattle.cloud_serve.specs.declared.showing.Showing.{Showing}
 use Rattle.cloud_serve.specs.declared.showing.Showing.TheVariants as showing
-use Rattle.hub_core.specs.Book.{Book, Judged}
-use Rattle.cloud_serve.specs.Effects.{TakesNone}
+use Rattle.share_graph.specs.declared.event.Event.{Event}
+use Rattle.desk_orders.specs.declared.reply.OrderFault.{OrderFault}
+use Rattle.desk_orders.specs.declared.reply.Reply.{Reply}
+use Rattle.desk_orders.specs.declared.reply.Reply.TheVariants as reply
+use Rattle.desk_orders.specs.Answers.{IsAnswer}
+use Rattle.desk_orders.specs.Commands.{Asked}
+use Rattle.reply_texts.specs.declared.faults.OwnFault.TheVariants as own
+use Rattle.reply_texts.specs.Faults.{fault_text}
+use Rattle.reply_texts.specs.Refusals.{command_text}
+use Rattle.app_manifest.specs.declared.fault.ManifestFault.{ManifestFault}
+use Rattle.share_graph.specs.declared.refusal.Refusal.TheVariants as refusal
+use Rattle.share_graph.specs.declared.state.State.{State}
+use Rattle.hub_core.specs.Book.{Book, TakesNone, Judged, Ordered}
 use Rattle.cloud_serve.specs.Routes.{Shows}
-use Rattle.cloud_serve.specs.Taking.{AsksBy, Asks, ForwardBy, Forwards, Answers, BreaksOff}
+use Rattle.cloud_serve.specs.Taking.{AsksBy, Asks, ForwardBy, Forwards, Answers, BreaksOff, Takes, IsNoList, answered_at}
 use Rattle.reply_texts.specs.Texts.{wants_head, own_text, denial_text}
-use Rattle.cloud_serve.specs.Turns.{Turn, AnswersBack, IsLawfulBy, IsBegunBy}
-use Rattle.cloud_serve.proofs.Growth.{later_refl, takes_none_refl, asked_none, judged_later}
+use Rattle.cloud_serve.specs.Acts.{Act}
+use Rattle.cloud_serve.specs.Turns.{Turn, AnswersBack, AnswersOrder, IsMade, IsLawfulBy, IsBegun}
+use Rattle.cloud_serve.proofs.Growth.{later_refl, asked_none, judged_later}
+use Rattle.cloud_serve.proofs.Orders.{ordered_none, ordered_refl, ordered_one, act_of, placed_later}
 
 -- one text was asked, and what came back is answered, or memory ran out
 pub asks_by : (run : RunId) (grain : GrainId) (text : List ℕ) (head_only : Bool) (back : Option (List ℕ)) (result : Result (List ℕ) Memory) → IfOk result (λ reply. AnswersBack head_only back reply)
@@ -51,95 +64,162 @@ forwards_none line counted permit request m = record { asked = []; asked_of = as
 
 -- a turn on which nothing was done
 abbrev nothing : ℕ → Request → Turn
-nothing low request = record { request = request; place = low; reached = low; asked = []; answer = [] }
+nothing low request = record { request = request; place = low; reached = low; asked = []; acts = []; answer = [] }
 
-begun_none : (r : Showing) (book : Book) (low : ℕ) (request : Request) → IsBegunBy r book low (nothing low request)
-begun_none showing.NoRoute book low request = refl
-begun_none showing.NoCredential book low request = refl
-begun_none (showing.Keyed key) book low request = inl refl
-
--- memory ran out before anything was asked
-pub breaks_first : (old new : Book) (line : Line) (counted low : ℕ) (request : Request) (r : Showing) → Shows request r → TakesNone old new → BreaksOff old new line line counted counted low request
-breaks_first old new line counted low request r shows none = record {
+-- memory ran out before anything was asked or ordered
+pub breaks_first : (old new : Book) (line : Line) (counted low : ℕ) (request : Request) → TakesNone old new → BreaksOff old new line line counted counted low request
+breaks_first old new line counted low request none = record {
   turn = nothing low request;
   request_is = refl;
-  begun = (r, shows, begun_none r new low request);
+  begun = inl (refl, refl);
   asked_of = asked_none line;
   counts_is = omega arith;
-  none_taken = none;
+  ordered_of = ordered_none old new none;
 }
 
+pub breaks_at_once : (book : Book) (line : Line) (counted low : ℕ) (request : Request) → BreaksOff book book line line counted counted low request
+breaks_at_once book line counted low request = breaks_first book book line counted low request (record { later = later_refl book; accepted = refl; coming = refl })
+
+abbrev plain_turn : ℕ → ℕ → Request → List ℕ → Turn
+plain_turn low last request text = record { request = request; place = last; reached = low; asked = []; acts = []; answer = text }
+
 answers_plain : (text : List ℕ) (book : Book) (line : Line) (counted low last : ℕ) (request : Request) (r : Showing) → Shows request r
-    → IsLawfulBy r book low last (record { request = request; place = last; reached = low; asked = []; answer = text }) → Answers book book line line counted counted low last request last text
+    → IsLawfulBy r book low last (plain_turn low last request text) → Answers book book line line counted counted low last request last text
 answers_plain text book line counted low last request r is lawful = record {
-  turn = record { request = request; place = last; reached = low; asked = []; answer = text };
+  turn = plain_turn low last request text;
   request_is = refl;
   place_is = refl;
   answer_is = refl;
   lawful = (r, is, lawful);
   asked_of = asked_none line;
   counts_is = omega arith;
-  none_taken = takes_none_refl book;
+  ordered_of = ordered_refl book;
 }
 
--- a request without a route, and one without a credential, were answered at once
-pub answers_no_route : (text : List ℕ) (book : Book) (line : Line) (counted low last : ℕ) (request : Request) → Shows request showing.NoRoute
-    → text ≡ own_text 404 (codes "NoRoute") [] (wants_head request) → Answers book book line line counted counted low last request last text
-answers_no_route text book line counted low last request r is =
-    answers_plain text book line counted low last request showing.NoRoute r (record { place_is = refl; reached_is = refl; unasked = refl; answer_is = is })
+-- requests that need no desk were answered at once
+pub answers_no_route : (book : Book) (line : Line) (counted low last : ℕ) (request : Request) (text : Result (List ℕ) Memory) → Shows request showing.NoRoute
+    → IfOk text (λ t. t ≡ own_text 404 (codes "NoRoute") [] (wants_head request)) → Takes book book line line counted counted low last request (answered_at last text)
+answers_no_route book line counted low last request (Ok text) r is =
+    answers_plain text book line counted low last request showing.NoRoute r (record { place_is = refl; reached_is = refl; unasked = refl; unordered = refl; answer_is = is })
+answers_no_route book line counted low last request (Err m) r is = breaks_at_once book line counted low request
 
-pub answers_no_credential : (text : List ℕ) (book : Book) (line : Line) (counted low last : ℕ) (request : Request) → Shows request showing.NoCredential
-    → text ≡ denial_text denial.UnknownKey (wants_head request) → Answers book book line line counted counted low last request last text
-answers_no_credential text book line counted low last request r is =
-    answers_plain text book line counted low last request showing.NoCredential r (record { place_is = refl; reached_is = refl; unasked = refl; answer_is = is })
+pub answers_no_credential : (book : Book) (line : Line) (counted low last : ℕ) (request : Request) (text : Result (List ℕ) Memory) → Shows request showing.NoCredential
+    → IfOk text (λ t. t ≡ denial_text denial.UnknownKey (wants_head request)) → Takes book book line line counted counted low last request (answered_at last text)
+answers_no_credential book line counted low last request (Ok text) r is =
+    answers_plain text book line counted low last request showing.NoCredential r (record { place_is = refl; reached_is = refl; unasked = refl; unordered = refl; answer_is = is })
+answers_no_credential book line counted low last request (Err m) r is = breaks_at_once book line counted low request
+
+pub answers_bad_body : (book : Book) (line : Line) (counted low last : ℕ) (request : Request) (field : ℕ) (text : Result (List ℕ) Memory) → Shows request (showing.BadBody field)
+    → IfOk text (λ t. t ≡ fault_text (own.BadBody field) (wants_head request)) → Takes book book line line counted counted low last request (answered_at last text)
+answers_bad_body book line counted low last request field (Ok text) r is =
+    answers_plain text book line counted low last request (showing.BadBody field) r (record { place_is = refl; reached_is = refl; unasked = refl; unordered = refl; answer_is = is })
+answers_bad_body book line counted low last request field (Err m) r is = breaks_at_once book line counted low request
+
+pub answers_bad_manifest : (book : Book) (line : Line) (counted low last : ℕ) (request : Request) (bad : ManifestFault) (text : Result (List ℕ) Memory) → Shows request (showing.BadManifest bad)
+    → IfOk text (λ t. t ≡ command_text (refusal.Manifest bad) (wants_head request)) → Takes book book line line counted counted low last request (answered_at last text)
+answers_bad_manifest book line counted low last request bad (Ok text) r is =
+    answers_plain text book line counted low last request (showing.BadManifest bad) r (record { place_is = refl; reached_is = refl; unasked = refl; unordered = refl; answer_is = is })
+answers_bad_manifest book line counted low last request bad (Err m) r is = breaks_at_once book line counted low request
 
 -- the verdict was a denial
 pub answers_denied : (old new : Book) (line : Line) (counted low last : ℕ) (request : Request) (key : Key) (place : ℕ) (reason : Denial) (text : List ℕ) → low ≤ length old.seen → Shows request (showing.Keyed key)
     → TakesNone old new → Judged (length old.seen) new key place (verdict.Deny reason) → text ≡ denial_text reason (wants_head request) → Answers old new line line counted counted low last request place text
 answers_denied old new line counted low last request key place reason text less r none judged is =
-    let turn : Turn = record { request = request; place = place; reached = place; asked = []; answer = text } in
+    let turn : Turn = record { request = request; place = place; reached = place; asked = []; acts = []; answer = text } in
     record {
       turn = turn;
       request_is = refl;
       place_is = refl;
       answer_is = refl;
-      lawful = (showing.Keyed key, r, record { verdict = verdict.Deny reason; judged = judged_later new new (length old.seen) low key place (verdict.Deny reason) (later_refl new) less judged; reached_is = refl; follows = (refl, is) });
+      lawful = (showing.Keyed key, r, record { verdict = verdict.Deny reason; judged = judged_later new new (length old.seen) low key place (verdict.Deny reason) (later_refl new) less judged; reached_is = refl; unordered = refl; follows = (refl, is) });
       asked_of = asked_none line;
       counts_is = omega arith;
-      none_taken = none;
+      ordered_of = ordered_none old new none;
     }
 
 -- the request went through, and was answered
 pub answers_forwarded : (old new : Book) (before after : Line) (counted counts low last : ℕ) (request : Request) (key : Key) (place : ℕ) (permit : Permit) (text : List ℕ) → low ≤ length old.seen → Shows request (showing.Keyed key)
     → TakesNone old new → Judged (length old.seen) new key place (verdict.Forward permit) → Forwards before after counted counts permit request (Ok text) → Answers old new before after counted counts low last request place text
 answers_forwarded old new before after counted counts low last request key place permit text less r none judged f =
-    let turn : Turn = record { request = request; place = place; reached = place; asked = f.asked; answer = text } in
+    let turn : Turn = record { request = request; place = place; reached = place; asked = f.asked; acts = []; answer = text } in
     record {
       turn = turn;
       request_is = refl;
       place_is = refl;
       answer_is = refl;
-      lawful = (showing.Keyed key, r, record { verdict = verdict.Forward permit; judged = judged_later new new (length old.seen) low key place (verdict.Forward permit) (later_refl new) less judged; reached_is = refl; follows = f.forwarded });
+      lawful = (showing.Keyed key, r, record { verdict = verdict.Forward permit; judged = judged_later new new (length old.seen) low key place (verdict.Forward permit) (later_refl new) less judged; reached_is = refl; unordered = refl; follows = f.forwarded });
       asked_of = f.asked_of;
       counts_is = f.counts_is;
-      none_taken = none;
+      ordered_of = ordered_none old new none;
     }
 
-begun_ask : (book : Book) (low : ℕ) (request : Request) (key : Key) (place : ℕ) (permit : Permit) (m : Memory) (asked : List Ask) → Judged low book key place (verdict.Forward permit) → ForwardBy permit request (Err m) asked
-    → IsBegunBy (showing.Keyed key) book low (record { request = request; place = place; reached = place; asked = asked; answer = [] })
-begun_ask book low request key place permit m asked judged (inl none) = inl none
-begun_ask book low request key place permit m asked judged (inr one) = inr (permit, one.0, judged, one.1)
+begun_ask : (book : Book) (low : ℕ) (request : Request) (key : Key) (place : ℕ) (permit : Permit) (m : Memory) (asked : List Ask) → Shows request (showing.Keyed key) → Judged low book key place (verdict.Forward permit) → ForwardBy permit request (Err m) asked
+    → IsBegun book low (record { request = request; place = place; reached = place; asked = asked; acts = []; answer = [] })
+begun_ask book low request key place permit m asked r judged (inl none) = inl (none, refl)
+begun_ask book low request key place permit m asked r judged (inr one) = inr (showing.Keyed key, r, (permit, one.0, judged, one.1, refl))
 
 -- the request went through, and memory ran out
 pub breaks_forwarded : (old new : Book) (before after : Line) (counted counts low : ℕ) (request : Request) (key : Key) (place : ℕ) (permit : Permit) (m : Memory) → low ≤ length old.seen → Shows request (showing.Keyed key)
     → TakesNone old new → Judged (length old.seen) new key place (verdict.Forward permit) → Forwards before after counted counts permit request (Err m) → BreaksOff old new before after counted counts low request
 breaks_forwarded old new before after counted counts low request key place permit m less r none judged f =
-    let turn : Turn = record { request = request; place = place; reached = place; asked = f.asked; answer = [] } in
+    let turn : Turn = record { request = request; place = place; reached = place; asked = f.asked; acts = []; answer = [] } in
     record {
       turn = turn;
       request_is = refl;
-      begun = (showing.Keyed key, r, begun_ask new low request key place permit m f.asked (judged_later new new (length old.seen) low key place (verdict.Forward permit) (later_refl new) less judged) f.forwarded);
+      begun = begun_ask new low request key place permit m f.asked r (judged_later new new (length old.seen) low key place (verdict.Forward permit) (later_refl new) less judged) f.forwarded;
       asked_of = f.asked_of;
       counts_is = f.counts_is;
-      none_taken = none;
+      ordered_of = ordered_none old new none;
     }
+
+-- an order that was answered, as a turn
+abbrev order_turn : (request : Request) (act : Act) → List ℕ → Turn
+order_turn request act text = record { request = request; place = act.place; reached = act.place + length act.added; asked = []; acts = act ∷ []; answer = text }
+
+made_here : (old new : Book) (low : ℕ) (request : Request) (order : Asked) (place : ℕ) (answer : Result Reply OrderFault) (text : List ℕ) → low ≤ length old.seen → (o : Ordered old new order place answer)
+    → IsMade new low order (order_turn request (act_of order place answer o.drawn o.added) text) (act_of order place answer o.drawn o.added)
+made_here old new low request order place answer text less o = record {
+  acts_are = refl;
+  order_is = refl;
+  placed = placed_later new new (length old.seen) low order place answer o.drawn o.added (later_refl new) less o.placed;
+  place_is = refl;
+  reached_is = refl;
+  unasked = refl;
+}
+
+-- the desk was given the order, and its answer was answered
+pub answers_ordered : (old new : Book) (line : Line) (counted low last : ℕ) (request : Request) (order : Asked) (place : ℕ) (answer : Result Reply OrderFault) (text : List ℕ) → low ≤ length old.seen → Shows request (showing.Wants order)
+    → Ordered old new order place answer → AnswersOrder answer (wants_head request) text → Answers old new line line counted counted low last request place text
+answers_ordered old new line counted low last request order place answer text less r o is =
+    let act : Act = act_of order place answer o.drawn o.added in
+    record {
+      turn = order_turn request act text;
+      request_is = refl;
+      place_is = refl;
+      answer_is = refl;
+      lawful = (showing.Wants order, r, record { act = act; made = made_here old new low request order place answer text less o; answered = is });
+      asked_of = asked_none line;
+      counts_is = omega arith;
+      ordered_of = ordered_one old new order place answer o;
+    }
+
+-- the desk was given the order, and memory ran out
+pub breaks_ordered : (old new : Book) (line : Line) (counted low : ℕ) (request : Request) (order : Asked) (place : ℕ) (answer : Result Reply OrderFault) → low ≤ length old.seen → Shows request (showing.Wants order)
+    → Ordered old new order place answer → BreaksOff old new line line counted counted low request
+breaks_ordered old new line counted low request order place answer less r o =
+    let act : Act = act_of order place answer o.drawn o.added in
+    record {
+      turn = order_turn request act [];
+      request_is = refl;
+      begun = inr (showing.Wants order, r, (act, made_here old new low request order place answer [] less o));
+      asked_of = asked_none line;
+      counts_is = omega arith;
+      ordered_of = ordered_one old new order place answer o;
+    }
+
+-- an answer that is lawful is no list
+pub no_list : (s : State) (n : ℕ) (order : Asked) (answer : Result Reply OrderFault) (drawn : List (List ℕ)) (added : List Event) → IsAnswer s n order answer drawn added → IsNoList answer
+no_list s n order (Ok (reply.Made made text)) drawn added is = tt
+no_list s n order (Ok (reply.Refused why)) drawn added is = tt
+no_list s n order (Ok (reply.Options list)) drawn added is = absurd is
+no_list s n order (Err fault) drawn added is = tt

@@ -1,5 +1,5 @@
 -- The commands that the desk's routes and their bodies state.
-use Rattle.std.specs.Prelude.{◌≡◌, ℕ, List, Option, Some, None, Result, Ok, Err, IfOk}
+use Rattle.std.specs.Prelude.{◌≡◌, ℕ, Bool, true, false, List, Option, Some, None, Result, Ok, Err, IfOk}
 use Rattle.desk_bodies.specs.Answers.{Answers}
 use Rattle.desk_bodies.specs.Bodies.{account_body, grain_body, manifest_body, mark_body, plain_body}
 use Rattle.desk_bodies.specs.declared.fault.BodyFault.{BodyFault}
@@ -24,6 +24,17 @@ command_at route.Grains body = Some (stating (λ fields. command.NewGrain fields
 command_at (route.GrainTrash n) body = Some (stating (λ _. command.Trash (record { 0 = n })) (plain_body body))
 command_at (route.GrainUntrash n) body = Some (stating (λ _. command.Untrash (record { 0 = n })) (plain_body body))
 command_at _ body = None
+
+-- whether a route is the desk's, and answered
+abbrev pub is_of_desk : Route → Bool
+is_of_desk route.Accounts = true
+is_of_desk (route.AccountAdmin n) = true
+is_of_desk (route.AccountEnabled n) = true
+is_of_desk route.Apps = true
+is_of_desk route.Grains = true
+is_of_desk (route.GrainTrash n) = true
+is_of_desk (route.GrainUntrash n) = true
+is_of_desk _ = false
 
 -- the answer is of the command that is stated: it states it, or its body's fault, or memory ran out
 abbrev pub IsCommand : Option (Result Command BodyFault) → Result Command BodyFault → Type 0

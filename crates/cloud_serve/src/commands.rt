@@ -1,12 +1,12 @@
 //! The commands that the desk's routes and their bodies state.
-ghost use Rattle.std.specs.Prelude.{◌≡◌, ◌↔◌, IsTrue, IfOk, None, Some, MatchOption, Result, List, ℕ};
+ghost use Rattle.std.specs.Prelude.{◌≡◌, true, false, IfOk, None, Some, MatchOption, Result};
 ghost use Rattle.desk_bodies.specs.Answers.{Answers};
 ghost use Rattle.desk_bodies.specs.Bodies.{account_body, grain_body, manifest_body, mark_body, plain_body};
 ghost use Rattle.desk_bodies.specs.declared.fault.BodyFault.{BodyFault};
 ghost use Rattle.desk_orders.specs.Commands.{IsStated};
 ghost use Rattle.desk_orders.specs.declared.order.Command.{Command};
 ghost use Rattle.desk_orders.specs.declared.order.Command.TheVariants as command;
-ghost use Rattle.cloud_serve.specs.Commands.{command_at, stating, IsCommand};
+ghost use Rattle.cloud_serve.specs.Commands.{command_at, stating, is_of_desk, IsCommand};
 ghost use Rattle.cloud_serve.specs.Routes.{IsOrdering, IsAtDesk};
 
 use crate::showing::Showing;
@@ -38,8 +38,8 @@ fn mark_command(
     is_admin: bool,
     body: &[u8],
 ) -> Result<Command, BodyFault>
-    ensures admin { IsTrue is_admin → Answers (stating (λ on. command.SetAdmin account on) (mark_body body.now)) result }
-    ensures enabled { (IsTrue is_admin → ⊥) → Answers (stating (λ on. command.SetEnabled account on) (mark_body body.now)) result }
+    ensures admin { is_admin ≡ true → Answers (stating (λ on. command.SetAdmin account on) (mark_body body.now)) result }
+    ensures enabled { is_admin ≡ false → Answers (stating (λ on. command.SetEnabled account on) (mark_body body.now)) result }
     ensures form { IfOk result IsStated }
 {
     match mark_field(alloc, body) {
@@ -83,8 +83,8 @@ fn trash_command(
     is_in: bool,
     body: &[u8],
 ) -> Result<Command, BodyFault>
-    ensures into { IsTrue is_in → Answers (stating (λ _. command.Trash grain) (plain_body body.now)) result }
-    ensures out { (IsTrue is_in → ⊥) → Answers (stating (λ _. command.Untrash grain) (plain_body body.now)) result }
+    ensures into { is_in ≡ true → Answers (stating (λ _. command.Trash grain) (plain_body body.now)) result }
+    ensures out { is_in ≡ false → Answers (stating (λ _. command.Untrash grain) (plain_body body.now)) result }
     ensures form { IfOk result IsStated }
 {
     match no_fields(alloc, body) {
@@ -117,8 +117,7 @@ fn command_of(alloc: Global, route: Route, body: &[u8]) -> Option<Result<Command
 
 /// Whether a route is the desk's, and answered.
 pub fn is_answered(route: Route) -> bool
-    ensures yes { (body : List ℕ) → IsTrue result → (stated : Result Command BodyFault) × (command_at route body ≡ Some stated) }
-    ensures no { (body : List ℕ) → (IsTrue result → ⊥) → command_at route body ≡ None }
+    ensures { result ≡ is_of_desk route }
 {
     match route {
         Route::Accounts | Route::AccountAdmin(_) | Route::AccountEnabled(_) => true,

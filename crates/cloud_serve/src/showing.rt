@@ -2,7 +2,6 @@
 ghost use Rattle.std.specs.Prelude.{◌≡◌, IfOk};
 ghost use Rattle.cloud_serve.specs.Commands.{command_at};
 ghost use Rattle.cloud_serve.specs.Routes.{Shows, ShowsAt, IsAtDesk, bearer_showing};
-ghost use Rattle.std.specs.Option.{is_some};
 
 use crate::commands::{is_answered, ordering};
 use app_manifest::ManifestFault;

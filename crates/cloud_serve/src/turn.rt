@@ -175,7 +175,7 @@ fn ordered<D: Desk>(
 }
 
 // An answer that needs no desk, at the place before it.
-fn answered(place: u64, text: Result<Bytes, Memory>) -> Result<Answered, Memory>
+fn placed(place: u64, text: Result<Bytes, Memory>) -> Result<Answered, Memory>
     ensures { result ≡ answered_at place text }
 {
     match text {
@@ -204,15 +204,15 @@ pub fn take_turn<D: Desk, L: Link>(
     match find_showing(alloc, routes, request) {
         Err(Memory) => Err(Memory),
         Ok(showing) => match showing {
-            Showing::NoRoute => answered(last, own_reply(alloc, 404, "NoRoute", &[], head_only)),
+            Showing::NoRoute => placed(last, own_reply(alloc, 404, "NoRoute", &[], head_only)),
             Showing::NoCredential => {
-                answered(last, denial_reply(alloc, &Denial::UnknownKey, head_only))
+                placed(last, denial_reply(alloc, &Denial::UnknownKey, head_only))
             }
             Showing::BadBody(field) => {
-                answered(last, fault_reply(alloc, OwnFault::BadBody(field), head_only))
+                placed(last, fault_reply(alloc, OwnFault::BadBody(field), head_only))
             }
             Showing::BadManifest(bad) => {
-                answered(last, command_reply(alloc, &Refusal::Manifest(bad), head_only))
+                placed(last, command_reply(alloc, &Refusal::Manifest(bad), head_only))
             }
             Showing::Keyed(key) => keyed(alloc, request, &key, desk, link, forwarded),
             Showing::Wants(order) => ordered(alloc, request, order, desk),

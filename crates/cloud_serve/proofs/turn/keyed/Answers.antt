@@ -2,7 +2,6 @@ use Rattle.std.proofs.Common.{length, subst}
 use Rattle.host_base.specs.declared.verdict.Verdict.{Verdict}
 use Rattle.host_base.specs.declared.verdict.Verdict.TheVariants as verdict
 use Rattle.share_graph.specs.History.{replay}
-use Rattle.cloud_serve.specs.declared.showing.Showing.TheVariants as showing
 use Rattle.hub_core.specs.Book.{Judged}
 use Rattle.cloud_serve.proofs.Sites.{no_site}
 use Rattle.cloud_serve.proofs.Taking.{breaks_first, answers_denied, answers_forwarded, breaks_forwarded}
@@ -10,42 +9,37 @@ use Rattle.cloud_serve.proofs.turn.keyed.Goals as goal
 
 pub returns-in-Err-clause-takes : goal.returns-in-Err-clause-takes
 returns-in-Err-clause-takes g c low last less =
-    let all = c.verdict.ensures in
-    breaks_first _ _ _ _ low c.args.request.now (showing.Keyed c.args.key.now) c.requires.shown (record { later = all.later; accepted = all.accepted })
+    breaks_first _ _ _ _ low c.args.request.now c.verdict.ensures.none
 
 pub returns-in-Deny-clause-takes : goal.returns-in-Deny-clause-takes
 returns-in-Deny-clause-takes g c low last less =
-    let all = c.verdict.ensures in
-    breaks_first _ _ _ _ low c.args.request.now (showing.Keyed c.args.key.now) c.requires.shown (record { later = all.later; accepted = all.accepted })
+    breaks_first _ _ _ _ low c.args.request.now c.verdict.ensures.none
 
 pub returns-in-Ok-denial_reply-clause-takes : goal.returns-in-Ok-denial_reply-clause-takes
 returns-in-Ok-denial_reply-clause-takes g c low last less =
     let old = g.D.Desk.book c.args.desk.now in
     let new = g.D.Desk.book c.verdict.new.self in
-    let all = c.verdict.ensures in
     let judged : Judged (length old.seen) new c.args.key.now c.in-Ok.place (verdict.Deny c.in-Deny.reason) =
     subst (λ (v : Verdict). Judged (length old.seen) new c.args.key.now c.in-Ok.place v) c.in-Deny.is c.in-Ok.ensures.judged in
-    answers_denied old new _ _ low last c.args.request.now c.args.key.now c.in-Ok.place c.in-Deny.reason _ less c.requires.shown (record { later = all.later; accepted = all.accepted }) judged
+    answers_denied old new _ _ low last c.args.request.now c.args.key.now c.in-Ok.place c.in-Deny.reason _ less c.requires.shown c.verdict.ensures.none judged
     (rw c.wants_head.ensures at c.in-Ok-denial_reply.ensures)
 
 pub returns-in-Ok-forward-clause-takes : goal.returns-in-Ok-forward-clause-takes
 returns-in-Ok-forward-clause-takes g c low last less =
     let old = g.D.Desk.book c.args.desk.now in
     let new = g.D.Desk.book c.verdict.new.self in
-    let all = c.verdict.ensures in
     let judged : Judged (length old.seen) new c.args.key.now c.in-Ok.place (verdict.Forward c.in-Forward.permit) =
     subst (λ (v : Verdict). Judged (length old.seen) new c.args.key.now c.in-Ok.place v) c.in-Forward.is c.in-Ok.ensures.judged in
-    answers_forwarded old new _ _ _ _ low last c.args.request.now c.args.key.now c.in-Ok.place c.in-Forward.permit _ less c.requires.shown (record { later = all.later; accepted = all.accepted }) judged
+    answers_forwarded old new _ _ _ _ low last c.args.request.now c.args.key.now c.in-Ok.place c.in-Forward.permit _ less c.requires.shown c.verdict.ensures.none judged
     c.in-Ok-forward.ensures.forwards
 
 pub returns-clause-takes : goal.returns-clause-takes
 returns-clause-takes g c low last less =
     let old = g.D.Desk.book c.args.desk.now in
     let new = g.D.Desk.book c.verdict.new.self in
-    let all = c.verdict.ensures in
     let judged : Judged (length old.seen) new c.args.key.now c.in-Ok.place (verdict.Forward c.in-Forward.permit) =
     subst (λ (v : Verdict). Judged (length old.seen) new c.args.key.now c.in-Ok.place v) c.in-Forward.is c.in-Ok.ensures.judged in
-    breaks_forwarded old new _ _ _ _ low c.args.request.now c.args.key.now c.in-Ok.place c.in-Forward.permit c.in-Err-forward.field-0 less c.requires.shown (record { later = all.later; accepted = all.accepted }) judged
+    breaks_forwarded old new _ _ _ _ low c.args.request.now c.args.key.now c.in-Ok.place c.in-Forward.permit c.in-Err-forward.field-0 less c.requires.shown c.verdict.ensures.none judged
     c.in-Err-forward.ensures.forwards
 
 pub unreachable-requires : goal.unreachable-requires
