@@ -23,7 +23,7 @@ member key value = codes "\"" ++ key ++ codes "\":" ++ value
 abbrev pub number_member : List ℕ → ℕ → List ℕ
 number_member key number = member key (decimal number)
 
--- The text stands as it is: those of secrets have letters, digits, `-` and `_` alone.
+-- The text stands as it is: base64 in the URL alphabet and hexadecimal digits need no escape.
 abbrev pub text_member : List ℕ → List ℕ → List ℕ
 text_member key text = member key (codes "\"" ++ text ++ codes "\"")
 
