@@ -1,11 +1,13 @@
-// The program: serves one connection over standard input and output, from the small book.
+// The program: serves one connection over standard input and output, from the small book. Secrets are of the system's randomness.
 #![tactic(auto)]
 
 use admin_run::{World, run};
 use grain_supervise::EchoLink;
 use host_base::{Fails, Memory, StdSink, StdSource};
+use rand::rngs::SysRng;
 use std::process::ExitCode;
 use std::{env, io};
+use system_secrets::RngSecrets;
 
 // The words after the program's name. A word that isn't text stands in none of the program's lines, and neither does no word.
 fn line(rt: &HostRuntime) -> Result<Vec<String>, Memory> {
@@ -31,6 +33,7 @@ fn main(rt: HostRuntime) -> ExitCode {
     let mut out = StdSink::new(io::writer(&rt));
     let world = World {
         link: EchoLink::new(alloc, Fails::empty(alloc)),
+        secrets: RngSecrets::new(SysRng::new(&rt)),
     };
     let ran = run(alloc, words.as_slice(), &mut input, &mut out, world);
     ExitCode::from(ran.status)

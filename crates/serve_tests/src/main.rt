@@ -2,10 +2,10 @@
 //! back, and rows of the book.
 #![tactic(auto)]
 
-use cloud_serve::{ConnEnd, SoloDesk, serve_conn};
+use cloud_serve::{ConnEnd, serve_conn};
 use grain_supervise::EchoLink;
-use host_base::{AccountId, Fails, GrainId, MemSink, MemSource, Memory};
-use live_access::solve;
+use host_base::{AccountId, Fails, GrainId, MemSink, MemSource, Memory, SeqSecrets};
+use hub_core::{Locked, SoloDesk};
 use share_graph::{State, account, grain, live_run};
 use small_book::small_book;
 use std::alloc::{AllocError, Global};
@@ -19,29 +19,32 @@ fn bytes_of(alloc: Global, text: &str) -> Result<Vec<u8>, AllocError> {
 }
 
 // A server of the small book.
-fn desk(alloc: Global) -> Result<SoloDesk, Memory> {
+fn desk(alloc: Global) -> Result<SoloDesk<SeqSecrets>, Memory> {
     let book = small_book(alloc)?;
-    let solution = solve(alloc, &book.tables)?;
-    Ok(SoloDesk::new(book, solution.into_solved()))
+    match Locked::from_state(alloc, book, SeqSecrets::new()) {
+        Ok(locked) => Ok(SoloDesk::new(locked)),
+        Err(_) => Err(Memory),
+    }
 }
 
-// The end of a connection on which these bytes come.
-fn ended(alloc: Global, sent: Vec<u8>) -> Result<ConnEnd, Memory> {
+// A connection on which these bytes come: its end, and how many entries the history has then.
+fn ended(alloc: Global, sent: Vec<u8>) -> Result<(ConnEnd, u64), Memory> {
     let mut desk = desk(alloc)?;
     let mut input = MemSource::new(sent, Fails::empty(alloc));
     let mut out = MemSink::new(alloc, Fails::empty(alloc));
     let mut link = EchoLink::new(alloc, Fails::empty(alloc));
-    Ok(serve_conn(alloc, &mut input, &mut out, &mut desk, &mut link))
+    let end = serve_conn(alloc, &mut input, &mut out, &mut desk, &mut link);
+    Ok((end, desk.into_locked().entries()))
 }
 
 // Shows the end of a connection on which a text comes.
 fn served(alloc: Global, text: &str) -> Result<String, Memory> {
     let sent = bytes_of(alloc, text)?;
-    let ended = ended(alloc, sent)?;
+    let (ended, entries) = ended(alloc, sent)?;
     let (end, from, places) = (ended.end, ended.from, ended.places.as_slice());
     let (served, forwarded) = (ended.served, ended.forwarded);
     Ok(format!(in alloc;
-        "{end:?} from {from} at {places:?}, {served} served, {forwarded} forwarded"
+        "{end:?} from {from} at {places:?}, {served} served, {forwarded} forwarded, {entries} entries"
     )?)
 }
 

@@ -70,6 +70,13 @@ impl Size {
         }
     }
 
+    // The most tests that solving a region of that size may take.
+    fn most_tests(self) -> u64 {
+        let grants = self.grants as u64;
+        let tested = grants.wrapping_add(self.needs).wrapping_mul(65);
+        tested.wrapping_add(grants)
+    }
+
     fn put(self, out: &mut String) -> Result<(), AllocError> {
         let Size {
             nodes,
@@ -175,8 +182,8 @@ impl Live {
         Ok(())
     }
 
-    /// Makes ready for an event, performs it and solves its region again. Appends the size of the region, how many tests that took,
-    /// and whether the solution is then that of solving from scratch.
+    /// Makes ready for an event, performs it and solves its region again. Appends the size of the region, how many tests that took of
+    /// the most that it may, and whether the solution is then that of solving from scratch.
     pub(crate) fn perform(
         &mut self,
         alloc: Global,
@@ -202,7 +209,7 @@ impl Live {
             Blank::new(1),
         );
         size.put(out)?;
-        write!(out, ", tests {tests}, ")?;
+        write!(out, ", tests {tests} of {}, ", size.most_tests())?;
         put_agreement(alloc, out, &self.state, &self.solution)
     }
 

@@ -8,7 +8,7 @@
 //! event EVENT                 performs an event: the row that it names, and the rows that are others then, before and after
 //! WHO COMMAND                 gives a command to the desk of accounts, and performs its event
 //! solve                       solves the state as it is, and keeps a copy of it solved
-//! live EVENT                  performs an event on that copy: the size of its region, and with how many tests it was solved again
+//! live EVENT                  performs an event on that copy: the size of its region, and how many tests of the most took solving it
 //! keep EVENT                  the same, without a count of the tests
 //! ready EVENT                 makes the copy ready for an event, and takes that back
 //! access NODE                 asks what a node of the copy holds
