@@ -48,10 +48,14 @@ with_access s who n Rest =
     known_grain s n λ grain.
     entry denies s.tables (node.User n account.num) (Rest (account_on n account.num))
 
+-- the bearer that calls, on its grant's grain
+abbrev pub with_token : State → Caller → (Actor → Step → Type 0) → Step → Type 0
+with_token s who Rest = by_bearer s who λ grant. Rest (bearer_of grant)
+
 -- a login acts on the grain that it names, and a bearer, which names none, on its grant's
 abbrev pub on_grain : State → Caller → Option GrainId → (Actor → Step → Type 0) → Step → Type 0
 on_grain s (caller.Login d) (Some n) Rest step = with_access s (caller.Login d) n Rest step
-on_grain s (caller.Bearer d) None Rest step = by_bearer s (caller.Bearer d) (λ grant. Rest (bearer_of grant)) step
+on_grain s (caller.Bearer d) None Rest step = with_token s (caller.Bearer d) Rest step
 on_grain s _ _ Rest step = ⊥
 
 -- a grain is named exactly where the caller is a login; any other is a bearer

@@ -6,6 +6,7 @@ use Rattle.host_base.specs.declared.ids.SessionId.{SessionId}
 use Rattle.share_graph.specs.declared.desk.Caller.{Caller}
 use Rattle.share_graph.specs.declared.event.Event.TheVariants.{RunStarted, RunStopped, SessionOpened, SessionClosed}
 use Rattle.share_graph.specs.declared.refusal.Refusal.TheVariants.{NotOwner}
+use Rattle.share_graph.specs.declared.sessions.Root.{Root}
 use Rattle.share_graph.specs.declared.state.State.{State}
 use Rattle.share_graph.specs.Forms.{when◌then◌else◌, unless◌then◌else◌, some◌of◌or◌then◌}
 use Rattle.share_graph.specs.Keys.{IsLiveRun}
@@ -52,11 +53,14 @@ OpenSession s who n tab =
     on_grain s who n λ actor.
     adds s (open_step s actor tab)
 
--- close_session: Unknown(6, n); NotOwner of the session's grain where the caller isn't its root; same where it is closed
-abbrev pub CloseSession : State → Caller → SessionId → Step → Type 0
-CloseSession s who n =
-    by_root s who λ root.
+-- what comes of closing a session for whoever acts as that root
+abbrev pub CloseBy : State → SessionId → Root → Step → Type 0
+CloseBy s n root =
     known_session s n λ session.
     unless session.root ≡ root then (Refuses (NotOwner session.grain)) else
     when session.closed ≡ true then (Keeps nothing_made) else
     adds s (close_step n)
+
+-- close_session: Unknown(6, n); NotOwner of the session's grain where the caller isn't its root; same where it is closed
+abbrev pub CloseSession : State → Caller → SessionId → Step → Type 0
+CloseSession s who n = by_root s who (CloseBy s n)

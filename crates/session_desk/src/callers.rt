@@ -10,7 +10,7 @@ ghost use Rattle.share_graph.specs.Missing.{IsNode};
 ghost use Rattle.share_graph.specs.WellFormed.{IsWellFormed};
 ghost use Rattle.least_access.specs.Solved.{IsSolutionOf};
 ghost use Rattle.desk_base.specs.Wording as wording;
-ghost use Rattle.session_desk.specs.Calling.{by_bearer, by_root, with_access, on_grain, NamesGrain};
+ghost use Rattle.session_desk.specs.Calling.{by_bearer, by_root, with_access, with_token, on_grain, NamesGrain};
 ghost use Rattle.session_desk.specs.Passing.{Passes, Fails};
 
 use crate::actor::Actor;
@@ -53,7 +53,10 @@ fn caller_grant<'a>(
 fn is_login(state: &State, caller: &Caller) -> bool
     ensures { IsTrue result ↔ IsSomeLogin state.now (wording.secret_of caller.now) }
 {
-    by_login(&state.tables, &secret_of(caller)).is_some()
+    match by_login(&state.tables, &secret_of(caller)) {
+        Some(_) => true,
+        None => false,
+    }
 }
 
 /// The root that sessions of the caller have: an account where it shows the login of one, else the grant whose token it bears.
@@ -90,6 +93,19 @@ fn account_on(
     })
 }
 
+// The bearer that calls, on its grant's grain.
+fn bearer_on(state: &State, solved: &Solved, caller: &Caller) -> Result<Actor, Refusal>
+    requires formed { IsWellFormed state.now }
+    requires solution { IsSolutionOf state.now.tables solved.now }
+    ensures { MatchResult result (Passes (with_token state.now caller.now)) (Fails (with_token state.now caller.now)) }
+{
+    let grant = caller_grant(state, solved, caller)?;
+    Ok(Actor {
+        grain: grant.grain,
+        root: Root::Grant(grant.num),
+    })
+}
+
 /// Who acts: a login on the grain that it names, or a bearer on its grant's grain.
 pub fn actor_of(
     state: &State,
@@ -102,12 +118,8 @@ pub fn actor_of(
     requires named { NamesGrain caller.now num }
     ensures { MatchResult result (Passes (on_grain state.now caller.now num)) (Fails (on_grain state.now caller.now num)) }
 {
-    let Some(num) = num else {
-        let grant = caller_grant(state, solved, caller)?;
-        return Ok(Actor {
-            grain: grant.grain,
-            root: Root::Grant(grant.num),
-        });
-    };
-    account_on(state, solved, caller, num)
+    match num {
+        Some(num) => account_on(state, solved, caller, num),
+        None => bearer_on(state, solved, caller),
+    }
 }

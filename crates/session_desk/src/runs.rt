@@ -30,10 +30,10 @@ fn check_start_run(
     ensures { Checks (StartRun state.now caller.now num) (start_step state.now) result }
 {
     let actor = actor_of(state, solved, caller, num)?;
-    if live_run(state, actor.grain).is_some() {
-        return Err(Stop::Same(NOTHING));
+    match live_run(state, actor.grain) {
+        Some(_) => Err(Stop::Same(NOTHING)),
+        None => Ok(actor.grain),
     }
-    Ok(actor.grain)
 }
 
 /// Whether a grain that is to run gets as far as drawing the token of its run. It takes no memory.
