@@ -6,7 +6,6 @@ use Rattle.share_graph.specs.declared.desk.Caller.{Caller}
 use Rattle.share_graph.specs.declared.desk.Caller.TheVariants as caller
 use Rattle.share_graph.specs.declared.desk.Made.{Made}
 use Rattle.share_graph.specs.declared.event.Event.TheVariants.{RunStarted, RunStopped, SessionOpened, SessionClosed}
-use Rattle.share_graph.specs.declared.facts.Fact.TheVariants.{Open}
 use Rattle.share_graph.specs.declared.facts.Node.{Node}
 use Rattle.share_graph.specs.declared.grants.Grant.{Grant}
 use Rattle.share_graph.specs.declared.refusal.Refusal.TheVariants.{Denied}
@@ -16,7 +15,6 @@ use Rattle.share_graph.specs.declared.sessions.Root.TheVariants as root
 use Rattle.share_graph.specs.declared.sessions.Run.{Run}
 use Rattle.share_graph.specs.declared.state.State.{State}
 use Rattle.share_graph.specs.Callers.{entry}
-use Rattle.share_graph.specs.Derivation.{Holds}
 use Rattle.share_graph.specs.Keys.{IsOneOf, IsBearerOf}
 use Rattle.share_graph.specs.Known.{HasGrain}
 use Rattle.share_graph.specs.WellFormed.{IsWellFormed, MayRoot}

@@ -1,5 +1,5 @@
 -- The rows that the commands add, and the tests of this desk alone.
-use Rattle.std.specs.Prelude.{◌≡◌, ◌⊎◌, ℕ, List, Option, Some, None, count_by, nat_lt, if◌then◌else◌, true, false}
+use Rattle.std.specs.Prelude.{◌≡◌, ◌⊎◌, ℕ, Option, Some, None, count_by, nat_lt, if◌then◌else◌, true, false}
 use Rattle.std.specs.Option.{unwrap_or}
 use Rattle.host_base.specs.declared.digest.Digest.{Digest}
 use Rattle.host_base.specs.declared.ids.GrainId.{GrainId}

@@ -1,4 +1,4 @@
-use Rattle.std.proofs.Common.{inl, inr, refl}
+use Rattle.std.proofs.Common.{inl, inr}
 use Rattle.share_graph.specs.declared.facts.Node.TheVariants as node
 use Rattle.session_desk.proofs.Words.{handed_on, lacking}
 use Rattle.session_desk.proofs.callers.account_on.Goals as goal

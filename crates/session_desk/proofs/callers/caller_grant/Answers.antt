@@ -1,8 +1,6 @@
-use Rattle.std.proofs.Common.{inl, inr, refl, subst}
-use Rattle.host_base.specs.declared.digest.Digest.{Digest}
+use Rattle.std.proofs.Common.{inl, inr, refl}
 use Rattle.share_graph.specs.declared.grants.Grant.{Grant}
 use Rattle.share_graph.specs.declared.facts.Node.TheVariants as node
-use Rattle.share_graph.specs.Keys.{IsNoneOf, IsOneOf, IsBearerOf}
 use Rattle.share_graph.proofs.Contained.{listed_row}
 use Rattle.session_desk.proofs.Words.{bearer_is_no_user, handed_on, lacking}
 use Rattle.session_desk.proofs.callers.caller_grant.Goals as goal

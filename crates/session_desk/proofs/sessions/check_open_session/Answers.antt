@@ -8,8 +8,8 @@ use Rattle.session_desk.proofs.sessions.check_open_session.Goals as goal
 
 pub returns-in_err-actor : goal.returns-in_err-actor
 returns-in_err-actor c =
-    stopped (OpenSession c.args.state.now c.args.caller.now c.args.num c.args.tab) (λ (actor : Actor). open_step c.args.state.now actor c.args.tab) c.from_residual-in_err-actor.result
-    c.in_err-actor.field-0.0 c.from_residual-in_err-actor.ensures.1
+    stopped (OpenSession c.args.state.now c.args.caller.now c.args.num c.args.tab) (λ (actor : Actor). open_step c.args.state.now actor c.args.tab) c.from_residual.result
+    c.in_err-actor.field-0.0 c.from_residual.ensures.1
     (grain_fails c.args.state.now c.args.caller.now c.args.num (λ (actor : Actor). adds c.args.state.now (open_step c.args.state.now actor c.args.tab)) c.in_err-actor.field-0.0 c.in_err-actor.ensures)
 
 pub returns-in_err-has_session_room : goal.returns-in_err-has_session_room
