@@ -1,0 +1,4 @@
+pub mod Calling
+pub mod Rows
+pub mod Commands
+pub mod Passing
