@@ -11,8 +11,8 @@ ghost use Rattle.cloud_serve.specs.Routes.{IsOrdering, IsAtDesk};
 
 use crate::showing::Showing;
 use desk_bodies::{
-    AccountFields, BodyFault, GrainFields, account_fields, grain_fields, manifest_field, mark_field,
-    no_fields,
+    AccountFields, BodyFault, GrainFields, account_fields, grain_fields, manifest_field,
+    mark_field, no_fields,
 };
 use front_http::Route;
 use host_base::{AccountId, Digest, GrainId, Memory};
@@ -143,12 +143,7 @@ fn wanted(digest: Digest, command: Result<Command, BodyFault>) -> Result<Showing
 }
 
 /// What is wanted on a route of the desk with a credential.
-pub fn ordering(
-    alloc: Global,
-    digest: Digest,
-    route: Route,
-    body: &[u8],
-) -> Result<Showing, Memory>
+pub fn ordering(alloc: Global, digest: Digest, route: Route, body: &[u8]) -> Result<Showing, Memory>
     ensures { IfOk result (IsAtDesk (Some digest) (command_at route body.now)) }
 {
     match command_of(alloc, route, body) {

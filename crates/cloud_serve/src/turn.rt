@@ -209,10 +209,16 @@ pub fn take_turn<D: Desk, L: Link>(
                 placed(last, denial_reply(alloc, &Denial::UnknownKey, head_only))
             }
             Showing::BadBody(field) => {
-                placed(last, fault_reply(alloc, OwnFault::BadBody(field), head_only))
+                placed(
+                    last,
+                    fault_reply(alloc, OwnFault::BadBody(field), head_only),
+                )
             }
             Showing::BadManifest(bad) => {
-                placed(last, command_reply(alloc, &Refusal::Manifest(bad), head_only))
+                placed(
+                    last,
+                    command_reply(alloc, &Refusal::Manifest(bad), head_only),
+                )
             }
             Showing::Keyed(key) => keyed(alloc, request, &key, desk, link, forwarded),
             Showing::Wants(order) => ordered(alloc, request, order, desk),

@@ -19,6 +19,9 @@ pub struct Conversation {
     pub source_fails: Vec<u64>,
     pub sink_fails: Vec<u64>,
     pub link_fails: Vec<u64>,
+    pub draw_fails: Vec<u64>,
+    /// The secrets that are drawn, each 32 times this byte, where they aren't those in sequence.
+    pub secrets: Option<Vec<u8>>,
     pub status: u8,
     /// How many times over the client sends what it sends, and gets what comes back.
     pub repeats: usize,
@@ -43,6 +46,8 @@ impl Conversation {
             source_fails: Vec::new(alloc),
             sink_fails: Vec::new(alloc),
             link_fails: Vec::new(alloc),
+            draw_fails: Vec::new(alloc),
+            secrets: None,
             status: 0,
             repeats: 1,
             cuts: false,

@@ -18,6 +18,17 @@ fn put_token(alloc: Global, bytes: &mut Vec<u8>, byte: u8) -> Result<(), AllocEr
     Ok(())
 }
 
+// Appends the token of the secret of a number in the sequence of secrets: eight times its four bytes, big end first.
+fn put_seq(alloc: Global, bytes: &mut Vec<u8>, number: u32) -> Result<(), AllocError> {
+    let mut secret = Vec::new(alloc);
+    for _ in 0..8 {
+        secret.extend_from_slice(&number.to_be_bytes())?;
+    }
+    let token = URL_SAFE_NO_PAD.encode(alloc, secret.as_slice())?;
+    bytes.extend_from_slice(token.as_bytes())?;
+    Ok(())
+}
+
 // Appends what a name stands for with a value. It is false where it stands for nothing.
 fn put_named(
     alloc: Global,
@@ -29,6 +40,10 @@ fn put_named(
         "key" => put_times(bytes, 32, value)?,
         "token" => match value.parse::<u8>() {
             Ok(byte) => put_token(alloc, bytes, byte)?,
+            Err(_) => return Ok(false),
+        },
+        "seq" => match value.parse::<u32>() {
+            Ok(number) => put_seq(alloc, bytes, number)?,
             Err(_) => return Ok(false),
         },
         "hex" => match hex::decode(alloc, value) {
@@ -61,8 +76,8 @@ fn put_escaped(alloc: Global, bytes: &mut Vec<u8>, part: &str) -> Result<bool, A
 }
 
 /// Appends the bytes that a line stands for, and is false where it stands for none. A line ends with CR LF, but where its last
-/// character is a backslash. In it, `\key(1)` stands for 32 times `1`, `\token(17)` for the token of 32 bytes 17, `\hex(00ff)` for
-/// bytes, and `\times(3,ab)` for `ababab`; everything else stands for itself.
+/// character is a backslash. In it, `\key(1)` stands for 32 times `1`, `\token(17)` for the token of 32 bytes 17, `\seq(1)` for
+/// that of the first secret in sequence, `\hex(00ff)` for bytes, and `\times(3,ab)` for `ababab`; everything else stands for itself.
 pub fn put_line(alloc: Global, bytes: &mut Vec<u8>, line: &str) -> Result<bool, AllocError> {
     let open = line.strip_suffix('\\');
     for (place, part) in open.unwrap_or(line).split('\\').enumerate() {

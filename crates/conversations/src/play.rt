@@ -3,7 +3,7 @@
 use crate::conversation::Conversation;
 use admin_run::{World, run};
 use grain_supervise::{Ask, CannedLink, EchoLink, Link};
-use host_base::{Answer, MemSink, MemSource};
+use host_base::{Answer, ListSecrets, MemSink, MemSource, Secrets, SeqSecrets};
 use plain_data::List;
 use std::alloc::{AllocError, Global};
 use thiserror::Error;
@@ -127,18 +127,49 @@ fn grain_answers(alloc: Global, conversation: &Conversation) -> Result<List<Answ
     Ok(answers)
 }
 
-// Plays a part with a link: what was written, the link, and the status.
+// Plays a part with a link and secrets: what was written, the link, and the status.
+fn played_with<L: Link + Drop, S: Secrets + Drop>(
+    alloc: Global,
+    conversation: &Conversation,
+    part: &Part,
+    link: L,
+    secrets: S,
+) -> Result<(MemSink, L, u8), AllocError> {
+    let mut input = source(alloc, conversation, part)?;
+    let mut out = MemSink::new(alloc, List::new(conversation.sink_fails.clone()?));
+    let words = conversation.words.as_slice();
+    let ran = run(alloc, words, &mut input, &mut out, World { link, secrets });
+    Ok((out, ran.link, ran.status))
+}
+
+// The secrets that a conversation lists.
+fn listed(
+    alloc: Global,
+    conversation: &Conversation,
+    of: &[u8],
+) -> Result<ListSecrets, AllocError> {
+    let mut secrets = List::empty(alloc);
+    for byte in of {
+        secrets.push([*byte; 32])?;
+    }
+    let fails = List::new(conversation.draw_fails.clone()?);
+    Ok(ListSecrets::new(secrets, fails))
+}
+
+// Plays a part with a link, and the secrets that the conversation says.
 fn played<L: Link + Drop>(
     alloc: Global,
     conversation: &Conversation,
     part: &Part,
     link: L,
 ) -> Result<(MemSink, L, u8), AllocError> {
-    let mut input = source(alloc, conversation, part)?;
-    let mut out = MemSink::new(alloc, List::new(conversation.sink_fails.clone()?));
-    let words = conversation.words.as_slice();
-    let ran = run(alloc, words, &mut input, &mut out, World { link });
-    Ok((out, ran.link, ran.status))
+    match &conversation.secrets {
+        Some(bytes) => {
+            let secrets = listed(alloc, conversation, bytes.as_slice())?;
+            played_with(alloc, conversation, part, link, secrets)
+        }
+        None => played_with(alloc, conversation, part, link, SeqSecrets::new()),
+    }
 }
 
 // What goes otherwise in a part.

@@ -31,6 +31,15 @@ fn numbers(alloc: Global, text: &str) -> Result<Option<Vec<u64>>, AllocError> {
     Ok(Some(numbers))
 }
 
+// The low bytes of numbers.
+fn low_bytes(alloc: Global, numbers: &[u64]) -> Result<Vec<u8>, AllocError> {
+    let mut bytes = Vec::new(alloc);
+    for number in numbers {
+        bytes.push((*number % 256) as u8)?;
+    }
+    Ok(bytes)
+}
+
 // Reads a setting: its name, and its value. It is false where it can't be read.
 fn read_setting(
     alloc: Global,
@@ -62,6 +71,8 @@ fn read_setting(
                 "source" => conversation.source_fails = calls,
                 "sink" => conversation.sink_fails = calls,
                 "link" => conversation.link_fails = calls,
+                "draw" => conversation.draw_fails = calls,
+                "secrets" => conversation.secrets = Some(low_bytes(alloc, calls.as_slice())?),
                 _ => return Ok(false),
             }
         }
