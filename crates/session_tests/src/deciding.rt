@@ -14,9 +14,9 @@ use live_access::solve;
 use session_desk::{
     close_session, open_session, open_session_ready, start_run, start_run_ready, stop_run,
 };
-use share_graph::{Caller, DeskFault, Outcome, Readiness, State, copy_of};
+use share_graph::{Caller, DeskFault, Event, Outcome, Readiness, State, copy_of};
 use state_step::after;
-use std::alloc::Global;
+use std::alloc::{AllocError, Global};
 use std::fmt::Write;
 use table_check::is_well_formed;
 
@@ -71,8 +71,11 @@ fn open_decided(
     requires formed { IsWellFormed state.now }
     requires solution { IsSolutionOf state.now.tables solved.now }
 {
-    if !names_grain(caller, num) || state.sessions.as_slice().len() > MOST_SESSIONS {
+    if !names_grain(caller, num) {
         return Err(NoAnswer::OtherForm);
+    }
+    if state.sessions.as_slice().len() > MOST_SESSIONS {
+        return Err(NoAnswer::ManySessions);
     }
     Ok(Reply {
         readiness: Some(open_session_ready(state, solved, caller, num, tab)),
@@ -106,6 +109,39 @@ fn decided(
     })
 }
 
+// Appends the number of a session that was opened, if one was.
+fn put_session(out: &mut String, session: Option<u32>) -> Result<(), AllocError> {
+    match session {
+        Some(num) => write!(out, "change, session {num}"),
+        None => out.push_str("change"),
+    }
+}
+
+// Performs an event. Appends the rows that are others than before.
+fn put_change(
+    alloc: Global,
+    out: &mut String,
+    state: &mut State,
+    event: &Event,
+) -> Result<(), NoAnswer> {
+    let before = copy_of(state)?;
+    after(state, event)?;
+    Ok(put_differences(alloc, out, &before, state)?)
+}
+
+// Appends how far a command got before it drew, where it does.
+fn put_readiness(
+    out: &mut String,
+    readiness: Option<Result<Readiness, DeskFault>>,
+) -> Result<(), AllocError> {
+    match readiness {
+        Some(Ok(Readiness::Draw)) => out.push_str("draws\n    "),
+        Some(Ok(Readiness::Same(_))) => out.push_str("same\n    "),
+        Some(Err(fault)) => write!(out, "{fault:?}\n    "),
+        None => Ok(()),
+    }
+}
+
 // Appends what becomes of a command, and performs its event.
 fn put_outcome(
     alloc: Global,
@@ -115,18 +151,23 @@ fn put_outcome(
 ) -> Result<(), NoAnswer> {
     match outcome {
         Ok(Outcome::Change(event, made)) => {
-            let before = copy_of(state)?;
-            after(state, &event)?;
-            out.push_str("change")?;
-            if let Some(num) = made.session {
-                write!(out, ", session {num}")?;
-            }
-            put_differences(alloc, out, &before, state)?;
+            put_session(out, made.session)?;
+            put_change(alloc, out, state, &event)
         }
-        Ok(Outcome::Same(_)) => out.push_str("same")?,
-        Err(fault) => write!(out, "{fault:?}")?,
+        Ok(Outcome::Same(_)) => Ok(out.push_str("same")?),
+        Err(fault) => Ok(write!(out, "{fault:?}")?),
     }
-    Ok(())
+}
+
+// Appends what the desk says of a command, and performs its event.
+fn put_reply(
+    alloc: Global,
+    out: &mut String,
+    state: &mut State,
+    reply: Reply,
+) -> Result<(), NoAnswer> {
+    put_readiness(out, reply.readiness)?;
+    put_outcome(alloc, out, state, reply.outcome)
 }
 
 /// Appends what becomes of a command, and performs its event.
@@ -142,11 +183,5 @@ pub(crate) fn put_command(
     }
     let solution = solve(alloc, &state.tables)?;
     let reply = decided(state, solution.solved(), caller, command)?;
-    match reply.readiness {
-        Some(Ok(Readiness::Draw)) => out.push_str("draws\n    ")?,
-        Some(Ok(Readiness::Same(_))) => out.push_str("same\n    ")?,
-        Some(Err(fault)) => write!(out, "{fault:?}\n    ")?,
-        None => {}
-    }
-    put_outcome(alloc, out, state, reply.outcome)
+    put_reply(alloc, out, state, reply)
 }

@@ -12,6 +12,8 @@ pub(crate) enum NoAnswer {
     IllFormed,
     #[error("a login names a grain, and a bearer none")]
     OtherForm,
+    #[error("there are too many sessions")]
+    ManySessions,
     #[error("out of memory")]
     Memory,
 }

@@ -32,23 +32,28 @@ mod fault;
 mod playing;
 
 use crate::playing::{Played, play};
+use share_graph::State;
 use state_text::{Unread, empty_state};
 use std::alloc::{AllocError, Global};
 use std::io;
+
+// Plays a line, and prints what it is to.
+fn play_line(rt: &impl Print, alloc: Global, state: &mut State, line: &str) -> io::Result<()> {
+    match play(alloc, state, line) {
+        Ok(Played::Rows) => Ok(()),
+        Ok(Played::Begun) => println!(rt; "{line}"),
+        Ok(Played::Decided(answer)) => println!(rt; "{line}\n    {answer}"),
+        Err(Unread::Form) => println!(rt; "this line can't be read: {line}"),
+        Err(Unread::Memory) => Err(io::Error::from(AllocError)),
+    }
+}
 
 fn main(rt: HostRuntime) -> io::Result<()> {
     let alloc = rt.alloc();
     let mut state = empty_state(alloc);
     for line in rt.lines(alloc) {
         let line = line?;
-        let line = line.as_str();
-        match play(alloc, &mut state, line) {
-            Ok(Played::Rows) => {}
-            Ok(Played::Begun) => println!(rt; "{line}")?,
-            Ok(Played::Decided(answer)) => println!(rt; "{line}\n    {answer}")?,
-            Err(Unread::Form) => println!(rt; "this line can't be read: {line}")?,
-            Err(Unread::Memory) => return Err(io::Error::from(AllocError)),
-        }
+        play_line(&rt, alloc, &mut state, line.as_str())?;
     }
     Ok(())
 }
