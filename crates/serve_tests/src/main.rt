@@ -1,15 +1,17 @@
-//! Plays worked rows of one connection and of the small book, one a line of the input: what a connection on which a text comes hands
-//! back, and rows of the book.
+//! Plays worked rows of one connection, of the small book and of the system's secrets, one a line of the input: what a connection on
+//! which a text comes hands back, rows of the book, and whether two secrets differ.
 #![tactic(auto)]
 
 use cloud_serve::{ConnEnd, serve_conn};
 use grain_supervise::EchoLink;
-use host_base::{AccountId, Fails, GrainId, MemSink, MemSource, Memory, SeqSecrets};
+use host_base::{AccountId, Fails, GrainId, MemSink, MemSource, Memory, Secrets, SeqSecrets};
 use hub_core::{Locked, SoloDesk};
+use rand::rngs::SysRng;
 use share_graph::{State, account, grain, live_run};
 use small_book::small_book;
 use std::alloc::{AllocError, Global};
 use std::io;
+use system_secrets::RngSecrets;
 
 // The bytes of a text in which `\r` and `\n` stand for the bytes that they name.
 fn bytes_of(alloc: Global, text: &str) -> Result<Vec<u8>, AllocError> {
@@ -88,10 +90,33 @@ fn played(alloc: Global, word: &str, rest: &str) -> Result<String, Memory> {
     }
 }
 
+// Two secrets of the system: whether they differ, and how many faults there were.
+fn drawn_twice(rt: &HostRuntime) -> (&'static str, u64) {
+    let mut secrets = RngSecrets::new(SysRng::new(rt));
+    let first = secrets.draw();
+    let second = secrets.draw();
+    let told = match (first, second) {
+        (Ok(first), Ok(second)) => {
+            if first == second {
+                "the same secret twice"
+            } else {
+                "two secrets that differ"
+            }
+        }
+        _ => "no secret",
+    };
+    (told, secrets.faults())
+}
+
 fn main(rt: HostRuntime) -> io::Result<()> {
     let alloc = rt.alloc();
     for line in rt.lines(alloc) {
         let line = line?;
+        if line.as_str() == "random" {
+            let (told, faults) = drawn_twice(&rt);
+            println!(rt; "{line}\n    {told}, {faults} faults")?;
+            continue;
+        }
         let (word, rest) = line.split_once(' ').unwrap_or((line.as_str(), ""));
         match played(alloc, word, rest) {
             Ok(text) => println!(rt; "{line}\n    {text}")?,
