@@ -22,13 +22,11 @@ use Rattle.share_graph.specs.declared.grants.Target.TheVariants as target
 use Rattle.share_graph.specs.declared.refusal.Refusal.TheVariants.{Denied}
 use Rattle.share_graph.specs.declared.rows.Account.{Account}
 use Rattle.share_graph.specs.declared.state.State.{State}
-use Rattle.share_graph.specs.declared.state.Tables.{Tables}
-use Rattle.share_graph.specs.Callers.{entry}
-use Rattle.share_graph.specs.Fitting.{NeedSetFits, TokenFits, IsAssignmentFor}
-use Rattle.share_graph.specs.Keys.{IsOneOf, IsFirstOf, IsNoneOf, IsBearer, IsBearerOf}
+use Rattle.share_graph.specs.Fitting.{NeedSetFits, TokenFits}
+use Rattle.share_graph.specs.Keys.{IsOneOf, IsBearer, IsBearerOf}
 use Rattle.share_graph.specs.Known.{HasAccount, HasGrain, KnowsNeed, KnowsGiver, KnowsTarget}
 use Rattle.share_graph.specs.Parents.{NeedFits, GiverFits, PassesTo, IsUnclaimed}
-use Rattle.share_graph.specs.Rows.{IsGrant, IsAccount}
+use Rattle.share_graph.specs.Rows.{IsGrant}
 use Rattle.share_graph.specs.WellFormed.{IsWellFormed}
 use Rattle.share_graph.proofs.Coherence.{coherent}
 use Rattle.share_graph.proofs.Contained.{listed_row}
@@ -36,7 +34,7 @@ use Rattle.state_step.specs.NewRows.{IsUnusedBy, IsNewGrant}
 use Rattle.state_step.proofs.GrantLaws.{grant_added_fits, grant_revoked_fits}
 use Rattle.desk_base.specs.Fitting.{ChangeFits, RowFits}
 use Rattle.desk_base.specs.Made.{nothing_made}
-use Rattle.desk_base.specs.Steps.{Step, Refuses, Keeps, Makes, Change, Plain, Drawn, denies}
+use Rattle.desk_base.specs.Steps.{Step, Refuses, Keeps, Makes, Change, Plain, Drawn}
 use Rattle.desk_base.specs.Wording.{secret_of}
 use Rattle.desk_base.proofs.FitForms.{when_fits, unless_fits, must_fits, found_fits, some_fits, adds_fits}
 use Rattle.desk_base.proofs.Room.{room_of}
@@ -59,13 +57,13 @@ module _ (s : State) where
   access_fits {at} {Rest} rest = record { fits = access_cases at Rest rest }
 
   -- a change that comes where no row of a list is so
-  same_cases : {X : Type 0} (P : X → Type 0) (rows : List X) (shown : X → Made) (Rest : Step → Type 0) → RowFits s Rest → (change : Change) (made : Made)
+  keeps_cases : {X : Type 0} (P : X → Type 0) (rows : List X) (shown : X → Made) (Rest : Step → Type 0) → RowFits s Rest → (change : Change) (made : Made)
       → (keeps P of rows showing shown else Rest) (Makes change made) → ChangeFits s change
-  same_cases P rows shown Rest rest change made (inl (x, same, first)) = let odd : Makes change made ≡ Keeps (shown x) = same in cc
-  same_cases P rows shown Rest rest change made (inr (none, is)) = rest.fits change made is
+  keeps_cases P rows shown Rest rest change made (inl (x, same, first)) = let odd : Makes change made ≡ Keeps (shown x) = same in cc
+  keeps_cases P rows shown Rest rest change made (inr (none, is)) = rest.fits change made is
 
-  same_fits : {X : Type 0} {P : X → Type 0} {rows : List X} {shown : X → Made} {Rest : Step → Type 0} → RowFits s Rest → RowFits s (keeps P of rows showing shown else Rest)
-  same_fits {X} {P} {rows} {shown} {Rest} rest = record { fits = same_cases P rows shown Rest rest }
+  keeps_fits : {X : Type 0} {P : X → Type 0} {rows : List X} {shown : X → Made} {Rest : Step → Type 0} → RowFits s Rest → RowFits s (keeps P of rows showing shown else Rest)
+  keeps_fits {X} {P} {rows} {shown} {Rest} rest = record { fits = keeps_cases P rows shown Rest rest }
 
   bearer_fits : (who : Caller) {Rest : Grant → Step → Type 0} → ((grant : Grant) → IsOneOf s.tables.grants (IsBearerOf (secret_of who)) grant → RowFits s (Rest grant)) → RowFits s (by_bearer s who Rest)
   bearer_fits who rest =
@@ -196,7 +194,7 @@ redeem_fits s formed who token =
     some_fits s tt λ link one.
     unless_fits s tt λ shared.
     access_fits s (
-    same_fits s (
+    keeps_fits s (
     adds_fits s (Plain (GrantAdded (new_grant s.tables link.grain (giver.Grant link.num) (target.User account.num) all_access [] None))) (made_grant s.tables) λ room.
     grant_added_fits s formed (new_grant s.tables link.grain (giver.Grant link.num) (target.User account.num) all_access [] None)
     (redeemed_is_new s formed link (listed_grant s formed link one.listed) one.is.bearer account.num (listed_account s formed account is.listed) (room_of kind.Grant 65536 _ room))))

@@ -1,5 +1,5 @@
 -- An assignment has one first fault at the most, and none where it may be given.
-use Rattle.std.proofs.Common.{◌≡◌, ◌∙◌, ◌<◌, ◌↔◌, ℕ, Bool, true, false, IsTrue, List, Option, Some, None, MatchOption, Result, Ok, Err, MatchResult, length, slice_get, refl, sym, subst, inl, inr}
+use Rattle.std.proofs.Common.{◌≡◌, ◌∙◌, ◌<◌, ◌↔◌, ℕ, Bool, true, false, IsTrue, List, Option, Some, None, MatchOption, length, slice_get, refl, sym, subst, inl, inr}
 use Rattle.std.proofs.lemmas.Bool.{false≢true}
 use Rattle.std.proofs.lemmas.Option.{slice_get_within}
 use Rattle.app_manifest.specs.declared.manifest.Manifest.{Manifest}
@@ -19,7 +19,7 @@ use Rattle.share_graph.specs.Forms.{IsOne}
 use Rattle.share_graph.specs.Rows.{IsAppOf}
 use Rattle.share_graph.proofs.Fits.{app_unique}
 use Rattle.share_graph.proofs.OneAnswer.{must_one}
-use Rattle.desk_base.specs.Steps.{Step, Refuses, refusing}
+use Rattle.desk_base.specs.Steps.{Step, refusing}
 use Rattle.share_desk.specs.Roles.{IsGiven, HasBaseFault, MayGive, HasRoleFault, MayGiveOn, HasRoleFaultOn}
 use Rattle.share_desk.specs.Wording.{role◌on◌of◌then◌}
 

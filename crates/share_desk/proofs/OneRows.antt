@@ -20,7 +20,7 @@ use Rattle.desk_base.proofs.OneWord.{by_account_one, known_account_one, known_gr
 use Rattle.session_desk.proofs.OneRows.{by_bearer_one}
 use Rattle.share_desk.specs.Commands.{Share, share_step, MakeToken, token_step, ChildOf, Child, child_step, Redeem, redeem_step, Revoke, revoke_step}
 use Rattle.share_desk.specs.Wording.{known_grant}
-use Rattle.share_desk.proofs.FirstShare.{same_one}
+use Rattle.share_desk.proofs.FirstRow.{keeps_one}
 use Rattle.share_desk.proofs.GoodNeeds.{needs_one}
 use Rattle.share_desk.proofs.GivenRoles.{role_one}
 
@@ -68,7 +68,7 @@ redeem_one s formed who token =
     some_of_one (bearer_one s formed token) λ link.
     unless_one (
     entry_one denies s.tables (node.Grant link.num) (
-    same_one (
+    keeps_one (
     adds_one s (redeem_step s.tables link.grain link.num account.num))))
 
 pub revoke_one : (s : State) → IsWellFormed s → (who : Caller) (g : GrantId) → IsOne (Revoke s who g)

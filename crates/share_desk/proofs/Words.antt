@@ -10,7 +10,7 @@ use Rattle.share_graph.specs.declared.refusal.Refusal.TheVariants.{Denied}
 use Rattle.share_graph.specs.declared.state.State.{State}
 use Rattle.share_graph.specs.declared.state.Tables.{Tables}
 use Rattle.share_graph.specs.Callers.{LacksEntry}
-use Rattle.share_graph.specs.Forms.{IsOne, none, found◌or◌then◌}
+use Rattle.share_graph.specs.Forms.{IsOne}
 use Rattle.share_graph.specs.Keys.{IsOneOf, IsBearerOf}
 use Rattle.share_graph.specs.Known.{HasGrain}
 use Rattle.share_graph.specs.Rows.{IsGrant}
@@ -28,10 +28,6 @@ use Rattle.share_desk.specs.Wording.{access◌of◌then◌}
 -- where a step is missing for entry, the row refuses
 pub access_fails : (s : State) (at : Node) (Rest : Step → Type 0) (r : Refusal) → LacksEntry Denied s.tables at r → (access at of s then Rest) (Refuses r)
 access_fails s at Rest r (reason, same, missing) = inl (reason, ap Refuses same, missing)
-
--- a row of a number isn't there
-pub gone : {X : Type 0} (P : X → Type 0) (refusal : Refusal) (Rest : X → Step → Type 0) (r : Refusal) → none P refusal r → (found P or none P (Refuses refusal) then Rest) (Refuses r)
-gone P refusal Rest r (same, never) = inl (ap Refuses same, never)
 
 -- a bearer that calls has a grant of the state, which is a bearer's
 pub caller_is : (s : State) (who : Caller) (grant : Grant) → by_bearer s who (λ other any. other ≡ grant) (Keeps nothing_made) → IsOneOf s.tables.grants (IsBearerOf (secret_of who)) grant

@@ -1,5 +1,5 @@
 -- "role": whether an assignment may be given on a grain, by its application, and the first fault of one that may not.
-use Rattle.std.specs.Prelude.{◌≡◌, ◌⊎◌, Option, length, slice_get, MatchOption, true}
+use Rattle.std.specs.Prelude.{◌≡◌, ◌⊎◌, length, slice_get, MatchOption, true}
 use Rattle.app_manifest.specs.declared.manifest.Manifest.{Manifest}
 use Rattle.host_base.specs.declared.ids.GrainId.{GrainId}
 use Rattle.perm_roles.specs.PermSet.{IsWithin}

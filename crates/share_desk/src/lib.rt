@@ -10,7 +10,8 @@ mod room;
 mod sharing;
 mod tokens;
 
-pub use needs::good_needs;
+pub use access::{caller_grant, has_entry};
+pub use needs::{copy_of_needs, good_needs};
 pub use redeeming::redeem;
 pub use revoking::revoke;
 pub use roles::given_role;

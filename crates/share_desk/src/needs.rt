@@ -10,6 +10,9 @@ use share_graph::{
     Need, Needs, Node, Refusal, Tables, app_of, grant as find_grant, has_account, is_node,
 };
 
+/// The most needs that a grant has.
+pub const NEEDS: usize = 8;
+
 // Whether a set fits the application of a grain.
 fn set_fits(tables: &Tables, num: GrainId, set: &PermSet) -> bool
     ensures { IsTrue result ↔ SetFits tables.now num set.now }
@@ -51,8 +54,8 @@ fn first_bad(tables: &Tables, needs: &[Need]) -> Option<u16>
     ensures { MatchOption result (AreGood tables.now needs.now) (IsFirstBad tables.now needs.now) }
 {
     for (index, need) in needs.iter().enumerate() {
-        if index >= 8 {
-            return Some(8);
+        if index >= NEEDS {
+            return Some(NEEDS as u16);
         }
         if !can_be_had(tables, *need) {
             return Some(index as u16);

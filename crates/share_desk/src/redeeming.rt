@@ -50,11 +50,11 @@ fn all_access() -> Assignment
 }
 
 // Who redeems which grant on which grain.
-#[derive(Clone, Copy, Debug, PartialEq, Eq)]
-pub struct Redemption {
-    pub grain: GrainId,
-    pub link: GrantId,
-    pub user: AccountId,
+#[derive(Clone, Copy)]
+struct Redemption {
+    grain: GrainId,
+    link: GrantId,
+    user: AccountId,
 }
 
 // The checks of `redeem`.

@@ -107,10 +107,10 @@ pub fn make_token(
 }
 
 // A grant, by its number, and the grain that it is on.
-#[derive(Clone, Copy, Debug, PartialEq, Eq)]
-pub struct Parent {
-    pub grain: GrainId,
-    pub grant: GrantId,
+#[derive(Clone, Copy)]
+struct Parent {
+    grain: GrainId,
+    grant: GrantId,
 }
 
 // The checks of `child`: the grant that gives.

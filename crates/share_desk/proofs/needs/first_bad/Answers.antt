@@ -5,8 +5,8 @@ use Rattle.share_desk.specs.Needs.{CanBeHad}
 use Rattle.share_desk.proofs.GoodNeeds.{good_further, good_to_the_end, bad_at}
 use Rattle.share_desk.proofs.needs.first_bad.Goals as goal
 
-pub returns-then-index-ge8 : goal.returns-then-index-ge8
-returns-then-index-ge8 c =
+pub returns-then-index-ge-NEEDS : goal.returns-then-index-ge-NEEDS
+returns-then-index-ge-NEEDS c =
     let last : c.loop-index.index ≡ 8 = omega arith in
     let here = c.index-needs-index.result in
     bad_at c.args.tables.now c.args.needs.now c.loop-index.index 8 last here

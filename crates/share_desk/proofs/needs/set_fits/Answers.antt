@@ -1,6 +1,5 @@
 use Rattle.std.proofs.Common.{length}
 use Rattle.perm_roles.specs.PermSet.{IsWithin}
-use Rattle.share_graph.specs.declared.rows.App.{App}
 use Rattle.share_desk.proofs.GivenRoles.{for_app, for_no_app}
 use Rattle.share_desk.proofs.needs.set_fits.Goals as goal
 

@@ -12,7 +12,7 @@ pub returns-then-ne : goal.returns-then-ne
 returns-then-ne c = inr (_, c.in_ok-account.ensures.one, inr (c.in_ok-account.ensures.enabled, inr (_, c.in-Some.ensures, inl (refl, search rules))))
 
 pub has_entry-requires-clause-there : goal.has_entry-requires-clause-there
-has_entry-requires-clause-there c = 
+has_entry-requires-clause-there c =
     let link = c.in-Some.link.now in
     record {
       grant = link;
@@ -21,7 +21,7 @@ has_entry-requires-clause-there c =
     }
 
 pub returns-in_err-has_entry : goal.returns-in_err-has_entry
-returns-in_err-has_entry c = 
+returns-in_err-has_entry c =
     stopped (Redeem c.args.state.now c.args.caller.now c.args.token.now) (λ (found : Redemption). redeem_step c.args.state.now.tables found.grain found.link found.user) c.from_residual-in_err-has_entry.result c.in_err-has_entry.field-0.0 c.from_residual-in_err-has_entry.ensures.1
     (inr (_, c.in_ok-account.ensures.one, inr (c.in_ok-account.ensures.enabled, inr (_, c.in-Some.ensures, inr (search rules, inl (lacking c.args.state.now.tables (node.Grant c.in-Some.link.now.num) c.in_err-has_entry.field-0.0 c.in_err-has_entry.ensures))))))
 
@@ -29,7 +29,7 @@ pub returns-in-Some-first_share : goal.returns-in-Some-first_share
 returns-in-Some-first_share c = inr (_, c.in_ok-account.ensures.one, inr (c.in_ok-account.ensures.enabled, inr (_, c.in-Some.ensures, inr (search rules, inr (c.in_ok-has_entry.ensures, inl (_, refl, c.in-Some-first_share.ensures))))))
 
 pub returns-in_err-has_grant_room : goal.returns-in_err-has_grant_room
-returns-in_err-has_grant_room c = 
+returns-in_err-has_grant_room c =
     stopped (Redeem c.args.state.now c.args.caller.now c.args.token.now) (λ (found : Redemption). redeem_step c.args.state.now.tables found.grain found.link found.user) c.from_residual-in_err-has_grant_room.result c.in_err-has_grant_room.field-0.0 c.from_residual-in_err-has_grant_room.ensures.1
     (inr (_, c.in_ok-account.ensures.one, inr (c.in_ok-account.ensures.enabled, inr (_, c.in-Some.ensures, inr (search rules, inr (c.in_ok-has_entry.ensures, inr (c.in_default-first_share.ensures, inl (_, refl, c.in_err-has_grant_room.ensures))))))))
 

@@ -34,13 +34,13 @@ pub returns-clause-fits : goal.returns-clause-fits
 returns-clause-fits c = make_token_fits c.args.state.now c.requires.formed c.args.caller.now c.args.num c.args.for_sharing c.args.assignment.now c.args.needs.now
 
 pub returns-in-Err-clause-row : goal.returns-in-Err-clause-row
-returns-in-Err-clause-row c = 
+returns-in-Err-clause-row c =
     rw c.outcome.ensures (carried_at_stop c.args.state.now c.args.digest (MakeToken c.args.state.now c.args.caller.now c.args.num c.args.for_sharing c.args.assignment.now c.args.needs.now) c.in-Err.stop c.in-Err.ensures)
 
 pub returns-in-Some-clause-row : goal.returns-in-Some-clause-row
 returns-in-Some-clause-row c = inr (_, (_, refl, c.in-Some.ensures.found, (_, (_, c.in-Ok.ensures))))
 
 pub returns-clause-row : goal.returns-clause-row
-returns-clause-row c = 
+returns-clause-row c =
     rw (c.as_slice.ensures, c.in_ok-copy_of_needs.ensures)
     (c.in_default.ensures.found, ((λ d. GrantAdded (new_grant c.args.state.now.tables c.args.num (giver.Account c.in-Ok.from) (target.Bearer c.args.for_sharing) c.args.assignment.now c.args.needs.now (Some d))), c.in-Ok.ensures, refl))
