@@ -9,7 +9,6 @@ ghost use Rattle.share_graph.specs.Known.{HasGrant};
 ghost use Rattle.share_graph.specs.Rows.{IsGrant};
 ghost use Rattle.share_graph.specs.Ways.{IsRootMaker};
 ghost use Rattle.share_graph.specs.WellFormed.{IsWellFormed};
-ghost use Rattle.least_access.specs.Solved.{IsSolutionOf};
 ghost use Rattle.desk_base.specs.Fitting.{RowFits};
 ghost use Rattle.desk_base.specs.Outcomes.{Checks, IsCarried};
 ghost use Rattle.share_desk.specs.Commands.{Revoke, revoke_step};
@@ -84,8 +83,7 @@ pub fn revoke(
     caller: &Caller,
     num: GrantId,
 ) -> Result<Outcome, DeskFault>
-    requires formed { IsWellFormed state.now }
-    requires solution { IsSolutionOf state.now.tables solved.now }
+    requires { IsWellFormed state.now }
     ensures row { IsCarried (Revoke state.now caller.now num) result }
     ensures one { IsOne (Revoke state.now caller.now num) }
     ensures fits { RowFits state.now (Revoke state.now caller.now num) }
