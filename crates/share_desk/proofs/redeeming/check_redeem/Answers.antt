@@ -1,0 +1,37 @@
+use Rattle.std.proofs.Common.{inl, inr, refl, rules}
+use Rattle.desk_base.proofs.Stopped.{stopped}
+use Rattle.session_desk.proofs.Words.{bearer_is_no_user, lacking}
+use Rattle.share_graph.specs.declared.facts.Node.TheVariants as node
+use Rattle.share_graph.specs.declared.grants.Grant.{Grant}
+use Rattle.share_graph.proofs.Contained.{listed_row}
+use Rattle.share_desk.specs.declared.redeeming.Redemption.{Redemption}
+use Rattle.share_desk.specs.Commands.{Redeem, redeem_step}
+use Rattle.share_desk.proofs.redeeming.check_redeem.Goals as goal
+
+pub returns-then-ne : goal.returns-then-ne
+returns-then-ne c = inr (_, c.in_ok-account.ensures.one, inr (c.in_ok-account.ensures.enabled, inr (_, c.in-Some.ensures, inl (refl, search rules))))
+
+pub has_entry-requires-clause-there : goal.has_entry-requires-clause-there
+has_entry-requires-clause-there c =
+    let link = c.in-Some.link.now in
+    record {
+      grant = link;
+      is_row = listed_row (λ (row : Grant). row.num.0) c.args.state.now.tables.grants link c.requires.formed.numbered.grants c.in-Some.ensures.listed;
+      no_user = bearer_is_no_user link.target c.in-Some.ensures.is.bearer;
+    }
+
+pub returns-in_err-has_entry : goal.returns-in_err-has_entry
+returns-in_err-has_entry c =
+    stopped (Redeem c.args.state.now c.args.caller.now c.args.token.now) (λ (found : Redemption). redeem_step c.args.state.now.tables found.grain found.link found.user) c.from_residual-in_err-has_entry.result c.in_err-has_entry.field-0.0 c.from_residual-in_err-has_entry.ensures.1
+    (inr (_, c.in_ok-account.ensures.one, inr (c.in_ok-account.ensures.enabled, inr (_, c.in-Some.ensures, inr (search rules, inl (lacking c.args.state.now.tables (node.Grant c.in-Some.link.now.num) c.in_err-has_entry.field-0.0 c.in_err-has_entry.ensures))))))
+
+pub returns-in-Some-first_share : goal.returns-in-Some-first_share
+returns-in-Some-first_share c = inr (_, c.in_ok-account.ensures.one, inr (c.in_ok-account.ensures.enabled, inr (_, c.in-Some.ensures, inr (search rules, inr (c.in_ok-has_entry.ensures, inl (_, refl, c.in-Some-first_share.ensures))))))
+
+pub returns-in_err-has_grant_room : goal.returns-in_err-has_grant_room
+returns-in_err-has_grant_room c =
+    stopped (Redeem c.args.state.now c.args.caller.now c.args.token.now) (λ (found : Redemption). redeem_step c.args.state.now.tables found.grain found.link found.user) c.from_residual-in_err-has_grant_room.result c.in_err-has_grant_room.field-0.0 c.from_residual-in_err-has_grant_room.ensures.1
+    (inr (_, c.in_ok-account.ensures.one, inr (c.in_ok-account.ensures.enabled, inr (_, c.in-Some.ensures, inr (search rules, inr (c.in_ok-has_entry.ensures, inr (c.in_default-first_share.ensures, inl (_, refl, c.in_err-has_grant_room.ensures))))))))
+
+pub returns : goal.returns
+returns c = inr (_, c.in_ok-account.ensures.one, inr (c.in_ok-account.ensures.enabled, inr (_, c.in-Some.ensures, inr (search rules, inr (c.in_ok-has_entry.ensures, inr (c.in_default-first_share.ensures, inr (refl, c.in_ok-has_grant_room.ensures)))))))

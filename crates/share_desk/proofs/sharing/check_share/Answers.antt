@@ -1,0 +1,45 @@
+use Rattle.std.proofs.Common.{ap, inl, inr, refl, rules}
+use Rattle.desk_base.proofs.Stopped.{stopped}
+use Rattle.desk_base.specs.Steps.{Refuses}
+use Rattle.session_desk.proofs.Words.{lacking}
+use Rattle.share_graph.specs.declared.facts.Node.TheVariants as node
+use Rattle.share_graph.specs.declared.rows.Account.{Account}
+use Rattle.share_graph.proofs.Contained.{listed_row}
+use Rattle.share_desk.specs.Commands.{Share, share_step}
+use Rattle.share_desk.proofs.sharing.check_share.Goals as goal
+
+pub returns-in_err-known_account : goal.returns-in_err-known_account
+returns-in_err-known_account c =
+    stopped (Share c.args.state.now c.args.caller.now c.args.num c.args.to c.args.assignment.now c.args.needs.now) (share_step c.args.state.now.tables c.args.num c.args.to c.args.assignment.now c.args.needs.now) c.from_residual-in_err-known_account.result c.in_err-known_account.field-0.0 c.from_residual-in_err-known_account.ensures.1
+    (inr (_, c.in_ok-from.ensures.one, inr (c.in_ok-from.ensures.enabled, inr (_, c.in_ok-known_grain.ensures, inl (ap Refuses c.in_err-known_account.ensures.0, c.in_err-known_account.ensures.1)))))
+
+pub has_entry-requires-clause-there : goal.has_entry-requires-clause-there
+has_entry-requires-clause-there c =
+    let from = c.in_ok-from.from.now in
+    ((_, c.in_ok-known_grain.ensures), (from, listed_row (λ (x : Account). x.num.0) c.args.state.now.tables.accounts from c.requires.formed.numbered.accounts c.in_ok-from.ensures.one.listed))
+
+pub returns-in_err-has_entry : goal.returns-in_err-has_entry
+returns-in_err-has_entry c =
+    stopped (Share c.args.state.now c.args.caller.now c.args.num c.args.to c.args.assignment.now c.args.needs.now) (share_step c.args.state.now.tables c.args.num c.args.to c.args.assignment.now c.args.needs.now) c.from_residual-in_err-has_entry.result c.in_err-has_entry.field-0.0 c.from_residual-in_err-has_entry.ensures.1
+    (inr (_, c.in_ok-from.ensures.one, inr (c.in_ok-from.ensures.enabled, inr (_, c.in_ok-known_grain.ensures, inr (_, c.in_ok-known_account.ensures, inl (lacking c.args.state.now.tables (node.User c.args.num c.in_ok-from.from.now.num) c.in_err-has_entry.field-0.0 c.in_err-has_entry.ensures))))))
+
+pub returns-then-eq : goal.returns-then-eq
+returns-then-eq c = inr (_, c.in_ok-from.ensures.one, inr (c.in_ok-from.ensures.enabled, inr (_, c.in_ok-known_grain.ensures, inr (_, c.in_ok-known_account.ensures, inr (c.in_ok-has_entry.ensures, inl (refl, search rules))))))
+
+pub returns-in_err-given_role : goal.returns-in_err-given_role
+returns-in_err-given_role c =
+    stopped (Share c.args.state.now c.args.caller.now c.args.num c.args.to c.args.assignment.now c.args.needs.now) (share_step c.args.state.now.tables c.args.num c.args.to c.args.assignment.now c.args.needs.now) c.from_residual-in_err-given_role.result c.in_err-given_role.field-0.0 c.from_residual-in_err-given_role.ensures.1
+    (inr (_, c.in_ok-from.ensures.one, inr (c.in_ok-from.ensures.enabled, inr (_, c.in_ok-known_grain.ensures, inr (_, c.in_ok-known_account.ensures, inr (c.in_ok-has_entry.ensures, inr (search rules, inl (_, refl, c.in_err-given_role.ensures))))))))
+
+pub returns-in_err-good_needs : goal.returns-in_err-good_needs
+returns-in_err-good_needs c =
+    stopped (Share c.args.state.now c.args.caller.now c.args.num c.args.to c.args.assignment.now c.args.needs.now) (share_step c.args.state.now.tables c.args.num c.args.to c.args.assignment.now c.args.needs.now) c.from_residual-in_err-good_needs.result c.in_err-good_needs.field-0.0 c.from_residual-in_err-good_needs.ensures.1
+    (inr (_, c.in_ok-from.ensures.one, inr (c.in_ok-from.ensures.enabled, inr (_, c.in_ok-known_grain.ensures, inr (_, c.in_ok-known_account.ensures, inr (c.in_ok-has_entry.ensures, inr (search rules, inr (c.in_ok-given_role.ensures, inl (_, refl, c.in_err-good_needs.ensures)))))))))
+
+pub returns-in_err-has_grant_room : goal.returns-in_err-has_grant_room
+returns-in_err-has_grant_room c =
+    stopped (Share c.args.state.now c.args.caller.now c.args.num c.args.to c.args.assignment.now c.args.needs.now) (share_step c.args.state.now.tables c.args.num c.args.to c.args.assignment.now c.args.needs.now) c.from_residual-in_err-has_grant_room.result c.in_err-has_grant_room.field-0.0 c.from_residual-in_err-has_grant_room.ensures.1
+    (inr (_, c.in_ok-from.ensures.one, inr (c.in_ok-from.ensures.enabled, inr (_, c.in_ok-known_grain.ensures, inr (_, c.in_ok-known_account.ensures, inr (c.in_ok-has_entry.ensures, inr (search rules, inr (c.in_ok-given_role.ensures, inr (c.in_ok-good_needs.ensures, inl (_, refl, c.in_err-has_grant_room.ensures))))))))))
+
+pub returns : goal.returns
+returns c = inr (_, c.in_ok-from.ensures.one, inr (c.in_ok-from.ensures.enabled, inr (_, c.in_ok-known_grain.ensures, inr (_, c.in_ok-known_account.ensures, inr (c.in_ok-has_entry.ensures, inr (search rules, inr (c.in_ok-given_role.ensures, inr (c.in_ok-good_needs.ensures, inr (refl, c.in_ok-has_grant_room.ensures)))))))))

@@ -1,0 +1,5 @@
+pub mod Roles
+pub mod Needs
+pub mod Rows
+pub mod Wording
+pub mod Commands
