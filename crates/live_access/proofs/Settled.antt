@@ -17,7 +17,9 @@ use Rattle.region_work.specs.Working.{IsIndexOf}
 use Rattle.region_access.specs.Adding.{HasSameEdges}
 use Rattle.region_access.specs.Arriving.{IsArrivalsOf, IsArrivalsAt}
 use Rattle.region_access.specs.Room.{HasSameFacts}
-use Rattle.region_access.proofs.After.{index_after, arrivals_after}
+use Rattle.region_access.specs.Ties.{HangsOn, IsTiesOf, tied_in}
+use Rattle.region_access.proofs.Indexed.{index_same}
+use Rattle.region_access.proofs.After.{index_after, arrivals_after, ties_after}
 use Rattle.region_access.proofs.Roomy.{room_prepared}
 use Rattle.live_access.specs.declared.region.Region.{Region}
 use Rattle.live_access.specs.Kept.{Kept, IsSolvedFor}
@@ -29,6 +31,7 @@ pub record CanSettle (u : Tables) (kept : Kept) (region : Region) : Type 0 where
   pub coherent : IsCoherent u
   pub index : IsIndexOf u (fed_in kept.fed)
   pub arrivals : IsArrivalsOf u (fed_in kept.into)
+  pub ties : IsTiesOf u (tied_in kept.ties)
   pub grants : HasGrants u region.room.nodes.items region.grants.items
   pub prepared : IsPrepared u region.room.nodes.items kept.table
   pub fresh : IsFresh region.room.nodes.items region.room.waiting
@@ -41,6 +44,7 @@ can_settle_after s e kept region ready =
       coherent = coherent u ready.fits.formed.tables;
       index = index_after region.added s.tables u (fed_in ready.start.fed) (fed_in kept.fed) adds ready.solved.index ready.fed;
       arrivals = arrivals_after region.added s.tables u (fed_in ready.start.into) (fed_in kept.into) adds ready.solved.arrivals ready.into;
+      ties = ties_after region.added s.tables u (tied_in ready.start.ties) (tied_in kept.ties) adds ready.solved.ties ready.ties;
       grants = ready.grants;
       prepared = room_prepared s.tables u ready.seeds ready.start.table kept.table region.room ready.room ready.solved.solution
           (event_touches s e ready.seeds region.room.nodes.items ready.formed ready.fits ready.exact ready.room.region);
@@ -81,9 +85,11 @@ same_arrivals t old new same into = record {
   once = λ at. subst (λ (xs : List GrantId). AllPairs (λ (a : GrantId) (b : GrantId). a ≢ b) xs) (sym (same at)) (into.once at);
 }
 
-pub same_solved : (t : Tables) (old new : Kept) → HasSameFacts old.table new.table → HasSameEdges (fed_in old.fed) (fed_in new.fed) → HasSameEdges (fed_in old.into) (fed_in new.into) → IsSolvedFor t old → IsSolvedFor t new
-same_solved t old new facts fed into solved = record {
+pub same_solved : (t : Tables) (old new : Kept) → HasSameFacts old.table new.table → HasSameEdges (fed_in old.fed) (fed_in new.fed) → HasSameEdges (fed_in old.into) (fed_in new.into)
+    → HasSameEdges (tied_in old.ties) (tied_in new.ties) → IsSolvedFor t old → IsSolvedFor t new
+same_solved t old new facts fed into ties solved = record {
   solution = same_facts t old.table new.table facts solved.solution;
   index = same_index t (fed_in old.fed) (fed_in new.fed) fed solved.index;
   arrivals = same_arrivals t (fed_in old.into) (fed_in new.into) into solved.arrivals;
+  ties = index_same (HangsOn t) (HangsOn t) (tied_in old.ties) (tied_in new.ties) solved.ties ties (λ on g. (λ hangs. hangs, λ hangs. hangs));
 }

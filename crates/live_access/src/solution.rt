@@ -19,7 +19,7 @@ use crate::adding::added_by;
 use crate::region::Region;
 use host_base::Memory;
 use least_access::Solved;
-use region_access::{arrivals_of, collect, edges_of, seeds_of, solve_anew};
+use region_access::{Ties, arrivals_of, collect, edges_of, seeds_of, solve_anew, ties_of};
 use region_work::edges::Edges;
 use region_work::{Counted, Probe, Steps, solve_region};
 use share_graph::{Event, State, Tables};
@@ -33,6 +33,7 @@ pub struct Solution {
     solved: Solved,
     edges: Edges,
     arrivals: Edges,
+    ties: Ties,
 }
 
 impl Model for Solution {
@@ -40,7 +41,7 @@ impl Model for Solution {
 
     ghost Value = { Kept };
 
-    ghost view = { λ solution. record { table = solution.solved; fed = solution.edges.entries; into = solution.arrivals.entries } };
+    ghost view = { λ solution. record { table = solution.solved; fed = solution.edges.entries; into = solution.arrivals.entries; ties = solution.ties.entries } };
 }
 
 /// Solves tables from scratch, in time that is near linear in what is held, needed and shared: each node holds exactly the facts of
@@ -53,11 +54,13 @@ pub fn solve(alloc: Global, tables: &Tables) -> Result<Solution, Memory>
 {
     let edges = edges_of(alloc, tables)?;
     let arrivals = arrivals_of(alloc, tables)?;
+    let ties = ties_of(alloc, tables)?;
     let table = solve_anew::<Brand>(alloc, tables, &edges, Blank::new(1))?;
     Ok(Solution {
         solved: Solved { table },
         edges,
         arrivals,
+        ties,
     })
 }
 
@@ -93,7 +96,7 @@ impl Solution {
         ensures ok { IfOk result (IsReadyFor state.now event.now self.new) }
         ensures err { OnErr result (IsSolvedFor state.now.tables self.new) }
     {
-        let seeds = seeds_of(alloc, &state.tables, event)?;
+        let seeds = seeds_of(alloc, &state.tables, &self.ties, event)?;
         let added = added_by(alloc, event)?;
         let probe = Counted {
             tables: &state.tables,
@@ -105,6 +108,7 @@ impl Solution {
             &mut self.solved.table,
             &mut self.edges,
             &mut self.arrivals,
+            &mut self.ties,
             seeds.as_slice(),
             &added,
         )?;
@@ -119,6 +123,7 @@ impl Solution {
                     &mut self.solved.table,
                     &mut self.edges,
                     &mut self.arrivals,
+                    &mut self.ties,
                     room,
                     &added,
                 );
@@ -142,8 +147,8 @@ impl Solution {
         self.settle_by(&mut probe, region);
     }
 
-    /// Makes ready for an event: finds its region, takes all room that solving it again wants, clears it, and adds the edges of a
-    /// new grant. Want of memory leaves the solution what it was.
+    /// Makes ready for an event: finds its region, takes all room that solving it again wants, clears it, and adds a new grant
+    /// to the indexes. Want of memory leaves the solution what it was.
     pub fn prepare(&mut self, alloc: Global, state: &State, event: &Event) -> Result<Region, Memory>
         requires formed { IsWellFormed state.now }
         requires fits { EventFits state.now event.now }
@@ -189,6 +194,7 @@ impl Solution {
             &mut self.solved.table,
             &mut self.edges,
             &mut self.arrivals,
+            &mut self.ties,
             region.room,
             &region.added,
         );

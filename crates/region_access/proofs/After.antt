@@ -1,12 +1,14 @@
 -- The indexes that were those of the tables before a grant is added, with its edges, are those of the tables after.
 use Rattle.std.proofs.Common.{◌≡◌, ◌≢◌, ◌⊎◌, ◌++◌, ◌∷◌, [], List, Option, Some, None, Contains, refl, sym, ◌∙◌, subst, inl, inr}
-use Rattle.std.specs.Prelude.{AllPairs}
+use Rattle.std.specs.Prelude.{AllPairs, ◌↔◌}
 use Rattle.std.proofs.lemmas.List.Elements.{Contains-append_left, Contains-push, Contains-push_cases, Contains-get_or}
 use Rattle.std.proofs.lemmas.List.Quantifiers.{all_pairs_push}
+use Rattle.host_base.specs.declared.ids.GrainId.{GrainId}
 use Rattle.host_base.specs.declared.ids.GrantId.{GrantId}
 use Rattle.share_graph.specs.declared.facts.Node.{Node}
 use Rattle.share_graph.specs.declared.grants.Grant.{Grant}
 use Rattle.share_graph.specs.declared.grants.Need.{Need}
+use Rattle.share_graph.specs.declared.grants.Need.TheVariants as need
 use Rattle.share_graph.specs.declared.state.Tables.{Tables}
 use Rattle.share_graph.specs.Nodes.{node_of}
 use Rattle.share_graph.specs.Region.{Feeds}
@@ -15,33 +17,21 @@ use Rattle.region_work.specs.Working.{IsIndexOf}
 use Rattle.region_work.proofs.Sums.{contains_cons, contains_none}
 use Rattle.region_access.specs.declared.fed_grant.NewGrant.{NewGrant}
 use Rattle.region_access.specs.Arriving.{IsArrivalsOf}
-use Rattle.region_access.specs.NewEdges.{HasFeeding, HasArrival, IsAlike, AddsGrant}
-
--- ---- lists
-
-fresh_end : (old : List GrantId) (num : GrantId) → (Contains old num → ⊥) → AllPairs (λ (a : GrantId) (b : GrantId). a ≢ b) old → AllPairs (λ (a : GrantId) (b : GrantId). a ≢ b) (old ++ num ∷ [])
-fresh_end old num fresh once =
-    all_pairs_push (λ (a : GrantId) (b : GrantId). a ≢ b) old num once
-    (λ k d within same. fresh (subst (λ (g : GrantId). Contains old g) same (Contains-get_or old k d within)))
-
-once_after : (old new : List GrantId) (num : GrantId) → (Contains old num → ⊥) → (new ≡ old) ⊎ (new ≡ old ++ num ∷ []) → AllPairs (λ (a : GrantId) (b : GrantId). a ≢ b) old
-    → AllPairs (λ (a : GrantId) (b : GrantId). a ≢ b) new
-once_after old new num fresh (inl same) once = subst (λ (xs : List GrantId). AllPairs (λ (a : GrantId) (b : GrantId). a ≢ b) xs) (sym same) once
-once_after old new num fresh (inr more) once = subst (λ (xs : List GrantId). AllPairs (λ (a : GrantId) (b : GrantId). a ≢ b) xs) (sym more) (fresh_end old num fresh once)
-
-kept_after : (old new : List GrantId) (num g : GrantId) → (new ≡ old) ⊎ (new ≡ old ++ num ∷ []) → Contains old g → Contains new g
-kept_after old new num g (inl same) c = subst (λ (xs : List GrantId). Contains xs g) (sym same) c
-kept_after old new num g (inr more) c = subst (λ (xs : List GrantId). Contains xs g) (sym more) (Contains-append_left old (num ∷ []) g c)
+use Rattle.region_access.specs.NewEdges.{HasFeeding, HasArrival, HasTies, IsAlike, AddsGrant}
+use Rattle.region_access.specs.Ties.{IsTied, HangsOn, IsTiesOf}
+use Rattle.region_access.specs.declared.tie.Tie.{Tie}
+use Rattle.region_access.specs.declared.tie.Tie.TheVariants as tie
+use Rattle.region_access.proofs.Indexed.{once_after, kept_after, index_same, index_more}
 
 -- ---- what feeds a grant that is alike
 
 feeds_alike : (g : GrantId) (a b : Grant) → IsAlike g a b → (at : Node) → Feeds at a → Feeds at b
-feeds_alike g a b alike at (inl source) = inl (sym alike.0 ∙ source)
-feeds_alike g a b alike at (inr (q, c, asked)) = inr (q, subst (λ (needs : List Need). Contains needs q) alike.1 c, asked)
+feeds_alike g a b alike at (inl source) = inl (sym alike.source ∙ source)
+feeds_alike g a b alike at (inr (q, c, asked)) = inr (q, subst (λ (needs : List Need). Contains needs q) alike.needs c, asked)
 
 feeds_back : (g : GrantId) (a b : Grant) → IsAlike g a b → (at : Node) → Feeds at b → Feeds at a
-feeds_back g a b alike at (inl source) = inl (alike.0 ∙ source)
-feeds_back g a b alike at (inr (q, c, asked)) = inr (q, subst (λ (needs : List Need). Contains needs q) (sym alike.1) c, asked)
+feeds_back g a b alike at (inl source) = inl (alike.source ∙ source)
+feeds_back g a b alike at (inr (q, c, asked)) = inr (q, subst (λ (needs : List Need). Contains needs q) (sym alike.needs) c, asked)
 
 -- ---- the index of edges
 
@@ -97,10 +87,10 @@ arrivals_after None t u old new adds into same = record {
     λ c.
         let (grant, there, goes) = (into.exact at g).0 (subst (λ (xs : List GrantId). Contains xs g) (same at) c) in
         let (other, is, alike) = adds.kept g grant there in
-        (other, is, sym alike.2 ∙ goes),
+        (other, is, sym alike.node ∙ goes),
     λ (grant, is, goes).
         elim (adds.back g grant is) [
-          | inl (other, there, alike) ↦ subst (λ (xs : List GrantId). Contains xs g) (sym (same at)) ((into.exact at g).1 (other, there, alike.2 ∙ goes))
+          | inl (other, there, alike) ↦ subst (λ (xs : List GrantId). Contains xs g) (sym (same at)) ((into.exact at g).1 (other, there, alike.node ∙ goes))
           | inr none ↦ absurd none
         ],
   );
@@ -111,7 +101,7 @@ arrivals_after (Some added) t u old new adds into (fresh, edges) =
     let known : (at : Node) (g : GrantId) → Contains (old at) g → (grant : Grant) × IsGrant u g grant × (node_of g grant ≡ at) = λ at g c.
     (let (grant, there, goes) = (into.exact at g).0 c in
     let (other, is, alike) = adds.kept g grant there in
-    (other, is, sym alike.2 ∙ goes)) in
+    (other, is, sym alike.node ∙ goes)) in
     record {
       exact = λ at g. (
         λ c.
@@ -127,7 +117,7 @@ arrivals_after (Some added) t u old new adds into (fresh, edges) =
             ],
         λ (grant, is, goes).
             elim (adds.back g grant is) [
-              | inl (other, there, alike) ↦ kept_after (old at) (new at) added.num g (sides at) ((into.exact at g).1 (other, there, alike.2 ∙ goes))
+              | inl (other, there, alike) ↦ kept_after (old at) (new at) added.num g (sides at) ((into.exact at g).1 (other, there, alike.node ∙ goes))
               | inr (same, of) ↦
                   let here : added.node ≡ at = of.node ∙ subst (λ (h : GrantId). node_of h grant ≡ at) same goes in
                   subst (λ (h : GrantId). Contains (new at) h) (sym same)
@@ -136,3 +126,43 @@ arrivals_after (Some added) t u old new adds into (fresh, edges) =
       );
       once = λ at. once_after (old at) (new at) added.num (fresh at) (sides at) (into.once at);
     }
+
+-- ---- the index of ties
+
+tied_alike : (g : GrantId) (a b : Grant) → IsAlike g a b → (on : Tie) → IsTied on a → IsTied on b
+tied_alike g a b alike (tie.Grain n) same = sym alike.grain ∙ same
+tied_alike g a b alike (tie.Admin u) c = subst (λ (needs : List Need). Contains needs (need.UserIsAdmin u)) alike.needs c
+
+tied_back : (g : GrantId) (a b : Grant) → IsAlike g a b → (on : Tie) → IsTied on b → IsTied on a
+tied_back g a b alike (tie.Grain n) same = alike.grain ∙ same
+tied_back g a b alike (tie.Admin u) c = subst (λ (needs : List Need). Contains needs (need.UserIsAdmin u)) (sym alike.needs) c
+
+hangs_kept : (added : Option NewGrant) (t u : Tables) → AddsGrant added t u → (on : Tie) (g : GrantId) → HangsOn t on g → HangsOn u on g
+hangs_kept added t u adds on g (grant, there, tied) = let (other, is, alike) = adds.kept g grant there in (other, is, tied_alike g grant other alike on tied)
+
+pub ties_after : (added : Option NewGrant) (t u : Tables) (old new : Tie → List GrantId) → AddsGrant added t u → IsTiesOf t old → HasTies added old new → IsTiesOf u new
+ties_after None t u old new adds ties same =
+    index_same (HangsOn t) (HangsOn u) old new ties same
+    (λ on g. (
+      λ (grant, is, tied).
+          elim (adds.back g grant is) [
+            | inl (other, there, alike) ↦ (other, there, tied_back g other grant alike on tied)
+            | inr none ↦ absurd none
+          ],
+      hangs_kept None t u adds on g,
+    ))
+ties_after (Some added) t u old new adds ties (fresh, edges) =
+    index_more (Contains added.ties.items) added.num (HangsOn t) (HangsOn u) old new ties fresh edges
+    (λ on g. (
+      λ (grant, is, tied).
+          elim (adds.back g grant is) [
+            | inl (other, there, alike) ↦ inl (other, there, tied_back g other grant alike on tied)
+            | inr (same, of) ↦ inr (same, (of.ties on).1 tied)
+          ],
+      elim [
+        | inl hangs ↦ hangs_kept (Some added) t u adds on g hangs
+        | inr (same, c) ↦
+            let (grant, is, of) = adds.new added refl in
+            (grant, subst (λ (h : GrantId). IsGrant u h grant) (sym same) is, (of.ties on).0 c)
+      ],
+    ))

@@ -8,7 +8,9 @@ ghost use Rattle.least_access.specs.Solved.{Table, held_at, IsSolutionOf};
 ghost use Rattle.host_base.specs.declared.ids.GrantId.{GrantId};
 ghost use Rattle.region_access.specs.Adding.{HasSameEdges};
 ghost use Rattle.region_access.specs.Arriving.{IsArrivalsOf};
-ghost use Rattle.region_access.specs.NewEdges.{HasNoRow, HasFeeding, HasArrival, AddsGrant};
+ghost use Rattle.region_access.specs.NewEdges.{HasNoRow, HasFeeding, HasArrival, HasTies, AddsGrant};
+ghost use Rattle.region_access.specs.Ties.{IsTiesOf, tied_in};
+ghost use Rattle.region_access.specs.declared.tie.Tie.{Tie};
 ghost use Rattle.region_work.specs.Fed.{fed_in};
 ghost use Rattle.region_work.specs.Prepared.{Touches, IsPrepared};
 ghost use Rattle.region_access.specs.Room.{HasSameFacts, IsRoom, WasCleared};
@@ -16,6 +18,7 @@ ghost use Rattle.region_work.specs.Working.{IsIndexOf};
 
 use crate::clearing::{clear, undo};
 use crate::fed_grant::{NewGrant, add_new, remove_new};
+use crate::index::Ties;
 use crate::reaching::find_region;
 use crate::room::Room;
 use host_base::Memory;
@@ -80,26 +83,30 @@ pub fn prepare<V: Probe>(
     table: &mut Table,
     edges: &mut Edges,
     into: &mut Edges,
+    ties: &mut Ties,
     seeds: &[Node],
     added: &Option<NewGrant>,
 ) -> Result<Room, Memory>
     requires coherent { IsCoherent (V.tables probe.now) }
     requires index { IsIndexOf (V.tables probe.now) (fed_in edges.old.entries) }
     requires arrivals { IsArrivalsOf (V.tables probe.now) (fed_in into.old.entries) }
+    requires ties { IsTiesOf (V.tables probe.now) (tied_in ties.old.entries) }
     requires new { HasNoRow (V.tables probe.now) added.now }
     ensures err { OnErr result (HasSameFacts table.old.entries table.new.entries) }
     ensures err_edges { OnErr result (HasSameEdges (fed_in edges.old.entries) (fed_in edges.new.entries)) }
     ensures err_into { OnErr result (HasSameEdges (fed_in into.old.entries) (fed_in into.new.entries)) }
+    ensures err_ties { OnErr result (HasSameEdges (tied_in ties.old.entries) (tied_in ties.new.entries)) }
     ensures ok { IfOk result (IsRoom (V.tables probe.now) seeds.now table.old.entries table.new.entries) }
     ensures prepared { IfOk result (λ room. (after : Tables) → IsSolutionOf (V.tables probe.now) table.old.entries
         → Touches room.nodes.items (V.tables probe.now) after → IsPrepared after room.nodes.items table.new.entries) }
     ensures feeding { OnOk result (HasFeeding added.now (fed_in edges.old.entries) (fed_in edges.new.entries)) }
     ensures arrival { OnOk result (HasArrival added.now (fed_in into.old.entries) (fed_in into.new.entries)) }
+    ensures ties { OnOk result (HasTies added.now (tied_in ties.old.entries) (tied_in ties.new.entries)) }
     ensures index_after { OnOk result ((after : Tables) → AddsGrant added.now (V.tables probe.now) after → IsIndexOf after (fed_in edges.new.entries)) }
     ensures arrivals_after { OnOk result ((after : Tables) → AddsGrant added.now (V.tables probe.now) after → IsArrivalsOf after (fed_in into.new.entries)) }
 {
     let room = make_room(alloc, probe, table, edges, seeds)?;
-    match add_new(alloc, edges, into, added) {
+    match add_new(alloc, edges, into, ties, added) {
         Ok(()) => Ok(room),
         Err(fault) => {
             fill_back(table, room);
@@ -113,6 +120,7 @@ pub fn take_back(
     table: &mut Table,
     edges: &mut Edges,
     into: &mut Edges,
+    ties: &mut Ties,
     room: Room,
     added: &Option<NewGrant>,
 )
@@ -120,7 +128,8 @@ pub fn take_back(
     ensures facts { (t : Tables) (seeds : List Node) (start : Table) → IsRoom t seeds start table.old.entries room → HasSameFacts start table.new.entries }
     ensures feeding { (base : Node → List GrantId) → HasFeeding added.now base (fed_in edges.old.entries) → HasSameEdges base (fed_in edges.new.entries) }
     ensures arrival { (base : Node → List GrantId) → HasArrival added.now base (fed_in into.old.entries) → HasSameEdges base (fed_in into.new.entries) }
+    ensures ties { (base : Tie → List GrantId) → HasTies added.now base (tied_in ties.old.entries) → HasSameEdges base (tied_in ties.new.entries) }
 {
     fill_back(table, room);
-    remove_new(edges, into, added);
+    remove_new(edges, into, ties, added);
 }

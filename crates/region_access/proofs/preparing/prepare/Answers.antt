@@ -12,10 +12,16 @@ add_new-requires-clause-new g c grant is at has =
     let (row, there, feeds) = c.requires.index.rows at grant.num has in
     fresh row there
 
-pub add_new-requires-clause-new_there : goal.add_new-requires-clause-new_there
-add_new-requires-clause-new_there g c grant is at has =
+pub add_new-requires-clause-new_into : goal.add_new-requires-clause-new_into
+add_new-requires-clause-new_into g c grant is at has =
     let fresh = subst (λ (o : Option NewGrant). HasNoRow (g.V.Probe.tables c.args.probe.now) o) is c.requires.new in
     let (row, there, same) = (c.requires.arrivals.exact at grant.num).0 has in
+    fresh row there
+
+pub add_new-requires-clause-new_ties : goal.add_new-requires-clause-new_ties
+add_new-requires-clause-new_ties g c grant is on has =
+    let fresh = subst (λ (o : Option NewGrant). HasNoRow (g.V.Probe.tables c.args.probe.now) o) is c.requires.new in
+    let (row, there, tied) = (c.requires.ties.exact on grant.num).0 has in
     fresh row there
 
 pub returns-in-Ok-clause-index_after : goal.returns-in-Ok-clause-index_after

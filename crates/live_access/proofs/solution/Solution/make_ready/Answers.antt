@@ -7,6 +7,7 @@ use Rattle.share_graph.proofs.Coherence.{coherent}
 use Rattle.region_work.specs.Fed.{fed_in}
 use Rattle.region_access.specs.Arriving.{IsArrivalsAt}
 use Rattle.region_access.specs.Room.{IsRoom}
+use Rattle.region_access.specs.Ties.{tied_in}
 use Rattle.live_access.specs.contracts.solution.Solution.{the_view}
 use Rattle.live_access.specs.Kept.{Kept, IsSolvedFor}
 use Rattle.live_access.proofs.Law.{event_adds, event_is_new}
@@ -27,7 +28,7 @@ pub returns-in_err-room-clause-err : goal.returns-in_err-room-clause-err
 returns-in_err-room-clause-err g c =
     let t = c.args.state.now.tables in
     let solved = subst (λ (kept : Kept). IsSolvedFor t kept) (sym (ap the_view c.self-inside.view_is ∙ c.self.view_is)) c.requires.solved in
-    on_err c.from_residual-in_err-room.result (same_solved t _ _ c.in_err-room.ensures.err c.in_err-room.ensures.err_edges c.in_err-room.ensures.err_into solved)
+    on_err c.from_residual-in_err-room.result (same_solved t _ _ c.in_err-room.ensures.err c.in_err-room.ensures.err_edges c.in_err-room.ensures.err_into c.in_err-room.ensures.err_ties solved)
 
 pub collect-requires-clause-arrivals : goal.collect-requires-clause-arrivals
 collect-requires-clause-arrivals g c =
@@ -52,6 +53,7 @@ returns-in-Ok-clause-ok g c =
       added = c.in_ok-added.ensures;
       fed = c.in_ok-room.ensures.feeding;
       into = c.in_ok-room.ensures.arrival;
+      ties = c.in_ok-room.ensures.ties;
       grants = collected u c.in_ok-room.room.nodes.items (fed_in c.prepare.new.into.entries) c.in-Ok.grants.items arrivals at;
       once = at.once;
     }
@@ -63,4 +65,5 @@ returns-clause-err g c =
     let room = subst (λ (seeds : List Node). IsRoom t seeds c.self-inside.inside.0.0.table.entries c.prepare.new.table.entries c.in_ok-room.room) c.as_slice.ensures.value c.in_ok-room.ensures.ok in
     same_solved t _ _ (c.take_back.ensures.facts t c.in_ok-seeds.seeds.items c.self-inside.inside.0.0.table.entries room)
     (c.take_back.ensures.feeding (fed_in c.self-inside.inside.0.1.0.entries) c.in_ok-room.ensures.feeding)
-    (c.take_back.ensures.arrival (fed_in c.self-inside.inside.0.1.1.0.entries) c.in_ok-room.ensures.arrival) solved
+    (c.take_back.ensures.arrival (fed_in c.self-inside.inside.0.1.1.0.entries) c.in_ok-room.ensures.arrival)
+    (c.take_back.ensures.ties (tied_in c.self-inside.inside.0.1.1.1.0.entries) c.in_ok-room.ensures.ties) solved
