@@ -15,7 +15,8 @@ use Rattle.region_work.specs.Fed.{fed_in}
 use Rattle.region_work.specs.Prepared.{HasGrants, IsPrepared, IsFresh}
 use Rattle.region_work.specs.Working.{IsIndexOf}
 use Rattle.region_access.specs.Adding.{HasSameEdges}
-use Rattle.region_access.specs.Arriving.{IsArrivalsOf, IsArrivalsAt}
+use Rattle.region_access.specs.Arriving.{GoesTo, IsArrivalsOf, IsArrivalsAt}
+use Rattle.region_access.specs.Indexed.{IsIndexBy}
 use Rattle.region_access.specs.Room.{HasSameFacts}
 use Rattle.region_access.specs.Ties.{HangsOn, IsTiesOf, tied_in}
 use Rattle.region_access.proofs.Indexed.{index_same}
@@ -76,20 +77,14 @@ same_index t old new same index = record {
   once = λ at. subst (λ (xs : List GrantId). AllPairs (λ (a : GrantId) (b : GrantId). a ≢ b) xs) (sym (same at)) (index.once at);
 }
 
-pub same_arrivals : (t : Tables) (old new : Node → List GrantId) → HasSameEdges old new → IsArrivalsOf t old → IsArrivalsOf t new
-same_arrivals t old new same into = record {
-  exact = λ at g. (
-    λ c. (into.exact at g).0 (subst (λ (xs : List GrantId). Contains xs g) (same at) c),
-    λ is. subst (λ (xs : List GrantId). Contains xs g) (sym (same at)) ((into.exact at g).1 is),
-  );
-  once = λ at. subst (λ (xs : List GrantId). AllPairs (λ (a : GrantId) (b : GrantId). a ≢ b) xs) (sym (same at)) (into.once at);
-}
+same_by : {K : Type 0} (Belongs : K → GrantId → Type 0) (old new : K → List GrantId) → HasSameEdges old new → IsIndexBy Belongs old → IsIndexBy Belongs new
+same_by Belongs old new same index = index_same Belongs Belongs old new index same (λ at g. (λ belongs. belongs, λ belongs. belongs))
 
 pub same_solved : (t : Tables) (old new : Kept) → HasSameFacts old.table new.table → HasSameEdges (fed_in old.fed) (fed_in new.fed) → HasSameEdges (fed_in old.into) (fed_in new.into)
     → HasSameEdges (tied_in old.ties) (tied_in new.ties) → IsSolvedFor t old → IsSolvedFor t new
 same_solved t old new facts fed into ties solved = record {
   solution = same_facts t old.table new.table facts solved.solution;
   index = same_index t (fed_in old.fed) (fed_in new.fed) fed solved.index;
-  arrivals = same_arrivals t (fed_in old.into) (fed_in new.into) into solved.arrivals;
-  ties = index_same (HangsOn t) (HangsOn t) (tied_in old.ties) (tied_in new.ties) solved.ties ties (λ on g. (λ hangs. hangs, λ hangs. hangs));
+  arrivals = same_by (GoesTo t) (fed_in old.into) (fed_in new.into) into solved.arrivals;
+  ties = same_by (HangsOn t) (tied_in old.ties) (tied_in new.ties) ties solved.ties;
 }

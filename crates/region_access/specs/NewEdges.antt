@@ -17,20 +17,22 @@ abbrev pub HasNoRow : Tables → Option NewGrant → Type 0
 HasNoRow t None = Unit {0}
 HasNoRow t (Some added) = (grant : Grant) → IsGrant t added.num grant → ⊥
 
+-- the keys of the new grant, if there is one, have it beside what they had
+abbrev pub HasNew : {K : Type 0} → (NewGrant → List K) → Option NewGrant → (K → List GrantId) → (K → List GrantId) → Type 0
+HasNew keys None old new = HasSameEdges old new
+HasNew keys (Some added) old new = IsNewIn added.num old × AddsEdges (Contains (keys added)) added.num old new
+
 -- the nodes that feed the new grant, if there is one, feed it beside what they fed
 abbrev pub HasFeeding : Option NewGrant → (Node → List GrantId) → (Node → List GrantId) → Type 0
-HasFeeding None old new = HasSameEdges old new
-HasFeeding (Some added) old new = IsNewIn added.num old × AddsEdges (Contains added.feeding.items) added.num old new
+HasFeeding = HasNew (λ added. added.feeding.items)
 
 -- the new grant, if there is one, goes to its node beside those that went there
 abbrev pub HasArrival : Option NewGrant → (Node → List GrantId) → (Node → List GrantId) → Type 0
-HasArrival None old new = HasSameEdges old new
-HasArrival (Some added) old new = IsNewIn added.num old × AddsEdges (Contains (added.node ∷ [])) added.num old new
+HasArrival = HasNew (λ added. added.node ∷ [])
 
 -- the ties on which the new grant hangs, if there is one, have it beside what they had
 abbrev pub HasTies : Option NewGrant → (Tie → List GrantId) → (Tie → List GrantId) → Type 0
-HasTies None old new = HasSameEdges old new
-HasTies (Some added) old new = IsNewIn added.num old × AddsEdges (Contains added.ties.items) added.num old new
+HasTies = HasNew (λ added. added.ties.items)
 
 -- the two rows of a grant have the same source and needs, are on the same grain, and go to the same node
 pub record IsAlike (g : GrantId) (a b : Grant) : Type 0 where
