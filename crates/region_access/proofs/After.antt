@@ -18,7 +18,7 @@ use Rattle.region_access.specs.NewEdges.{HasNew, HasFeeding, HasArrival, HasTies
 use Rattle.region_access.specs.Ties.{IsTied, IsTiesOf}
 use Rattle.region_access.proofs.Arrived.{Arrives, arrives_one}
 use Rattle.region_access.proofs.Indexed.{index_same, index_more, IsRowBy}
-use Rattle.region_access.proofs.Tied.{Ties}
+use Rattle.region_access.proofs.Tied.{Hangs}
 
 turned : (g : GrantId) (a b : Grant) → IsAlike g a b → IsAlike g b a
 turned g a b alike = record { source = sym alike.source; needs = sym alike.needs; grain = sym alike.grain; node = sym alike.node }
@@ -58,7 +58,7 @@ module _ {K : Type 0} (Of : K → GrantId → Grant → Type 0) (keys : NewGrant
 
 -- ---- the index of edges
 
--- the node feeds the grant
+-- the node feeds the grant, whatever its number
 abbrev FeedsIt : Node → GrantId → Grant → Type 0
 FeedsIt at g grant = Feeds at grant
 
@@ -90,4 +90,4 @@ tied_alike g a b alike (tie.Admin u) c = subst (λ (needs : List Need). Contains
 
 pub ties_after : (added : Option NewGrant) (t u : Tables) (old new : Tie → List GrantId) → AddsGrant added t u → IsTiesOf t old → HasTies added old new → IsTiesOf u new
 ties_after added t u old new adds ties has =
-    rows_after Ties (λ one. one.ties.items) tied_alike (λ one grant of on. of.ties on) added t u old new adds ties has
+    rows_after Hangs (λ one. one.ties.items) tied_alike (λ one grant of on. of.ties on) added t u old new adds ties has

@@ -40,9 +40,9 @@ tied_either grant (tie.Admin a) = (
   ],
 )
 
--- the grant hangs on the tie
-abbrev pub Ties : Tie → GrantId → Grant → Type 0
-Ties on g grant = IsTied on grant
+-- the grant hangs on the tie, whatever its number
+abbrev pub Hangs : Tie → GrantId → Grant → Type 0
+Hangs on g grant = IsTied on grant
 
 -- the nodes of the grants that an index has for a tie are those of the grants that hang on it
 pub seeds_tied : (t : Tables) (tied : Tie → List GrantId) → IsTiesOf t tied → (on : Tie) (at : Node) → IsSeedOfGrants t (tied on) at ↔ IsSeedOfTie t on at
