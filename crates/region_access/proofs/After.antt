@@ -1,5 +1,5 @@
 -- The indexes that were those of the tables before a grant is added, with its edges, are those of the tables after.
-use Rattle.std.proofs.Common.{◌≡◌, ◌↔◌, ◌∷◌, [], List, Option, Some, None, Contains, refl, sym, ◌∙◌, subst, inl, inr}
+use Rattle.std.proofs.Common.{◌↔◌, ◌∷◌, [], List, Option, Some, None, Contains, refl, sym, ◌∙◌, subst, inl, inr}
 use Rattle.host_base.specs.declared.ids.GrantId.{GrantId}
 use Rattle.share_graph.specs.declared.facts.Node.{Node}
 use Rattle.share_graph.specs.declared.grants.Grant.{Grant}
@@ -8,14 +8,17 @@ use Rattle.share_graph.specs.declared.grants.Need.TheVariants as need
 use Rattle.share_graph.specs.declared.state.Tables.{Tables}
 use Rattle.share_graph.specs.Region.{Feeds}
 use Rattle.share_graph.specs.Rows.{IsGrant}
+use Rattle.region_work.specs.Fed.{fed_in}
 use Rattle.region_work.specs.Working.{IsIndexOf}
 use Rattle.region_access.specs.declared.fed_grant.NewGrant.{NewGrant}
 use Rattle.region_access.specs.declared.tie.Tie.{Tie}
 use Rattle.region_access.specs.declared.tie.Tie.TheVariants as tie
 use Rattle.region_access.specs.Arriving.{IsArrivalsOf}
 use Rattle.region_access.specs.Indexed.{IsIndexBy}
-use Rattle.region_access.specs.NewEdges.{HasNew, HasFeeding, HasArrival, HasTies, IsAlike, IsRowOf, AddsGrant}
-use Rattle.region_access.specs.Ties.{IsTied, IsTiesOf}
+use Rattle.region_access.specs.Adding.{IsNewIn}
+use Rattle.region_access.specs.Indexes.{Entries, AreIndexesOf, HaveNew}
+use Rattle.region_access.specs.NewEdges.{HasNoRow, HasNew, HasFeeding, HasArrival, HasTies, IsAlike, IsRowOf, AddsGrant}
+use Rattle.region_access.specs.Ties.{IsTied, IsTiesOf, tied_in}
 use Rattle.region_access.proofs.Arrived.{Arrives, arrives_one}
 use Rattle.region_access.proofs.Indexed.{index_same, index_more, IsRowBy}
 use Rattle.region_access.proofs.Tied.{Hangs}
@@ -72,13 +75,13 @@ index_by t fed index = record { exact = λ at g. (λ c. index.rows at g c, λ (g
 by_index : (t : Tables) (fed : Node → List GrantId) → IsIndexBy (IsRowBy FeedsIt t) fed → IsIndexOf t fed
 by_index t fed index = record { all = λ at g grant is feeds. (index.exact at g).1 (grant, is, feeds); rows = λ at g c. (index.exact at g).0 c; once = index.once }
 
-pub index_after : (added : Option NewGrant) (t u : Tables) (old new : Node → List GrantId) → AddsGrant added t u → IsIndexOf t old → HasFeeding added old new → IsIndexOf u new
+index_after : (added : Option NewGrant) (t u : Tables) (old new : Node → List GrantId) → AddsGrant added t u → IsIndexOf t old → HasFeeding added old new → IsIndexOf u new
 index_after added t u old new adds index has =
     by_index u new (rows_after FeedsIt (λ one. one.feeding.items) feeds_alike (λ one grant of at. of.feeding at) added t u old new adds (index_by t old index) has)
 
 -- ---- the index of arrivals
 
-pub arrivals_after : (added : Option NewGrant) (t u : Tables) (old new : Node → List GrantId) → AddsGrant added t u → IsArrivalsOf t old → HasArrival added old new → IsArrivalsOf u new
+arrivals_after : (added : Option NewGrant) (t u : Tables) (old new : Node → List GrantId) → AddsGrant added t u → IsArrivalsOf t old → HasArrival added old new → IsArrivalsOf u new
 arrivals_after added t u old new adds into has =
     rows_after Arrives (λ one. one.node ∷ []) (λ g a b alike at goes. sym alike.node ∙ goes) (λ one grant of at. arrives_one one.num grant one.node of.node at) added t u old new adds into has
 
@@ -88,6 +91,25 @@ tied_alike : (g : GrantId) (a b : Grant) → IsAlike g a b → (on : Tie) → Is
 tied_alike g a b alike (tie.Grain n) same = sym alike.grain ∙ same
 tied_alike g a b alike (tie.Admin u) c = subst (λ (needs : List Need). Contains needs (need.UserIsAdmin u)) alike.needs c
 
-pub ties_after : (added : Option NewGrant) (t u : Tables) (old new : Tie → List GrantId) → AddsGrant added t u → IsTiesOf t old → HasTies added old new → IsTiesOf u new
+ties_after : (added : Option NewGrant) (t u : Tables) (old new : Tie → List GrantId) → AddsGrant added t u → IsTiesOf t old → HasTies added old new → IsTiesOf u new
 ties_after added t u old new adds ties has =
     rows_after Hangs (λ one. one.ties.items) tied_alike (λ one grant of on. of.ties on) added t u old new adds ties has
+
+-- ---- all of them
+
+pub indexes_after : (added : Option NewGrant) (t u : Tables) (old new : Entries) → AddsGrant added t u → AreIndexesOf t old → HaveNew added old new → AreIndexesOf u new
+indexes_after added t u old new adds indexes has = record {
+  edges = index_after added t u (fed_in old.edges) (fed_in new.edges) adds indexes.edges has.feeding;
+  arrivals = arrivals_after added t u (fed_in old.arrivals) (fed_in new.arrivals) adds indexes.arrivals has.arrival;
+  ties = ties_after added t u (tied_in old.ties) (tied_in new.ties) adds indexes.ties has.ties;
+}
+
+-- a grant without a row is new to the indexes
+pub none_feeds : (t : Tables) (indexes : Entries) (one : NewGrant) → AreIndexesOf t indexes → HasNoRow t (Some one) → IsNewIn one.num (fed_in indexes.edges)
+none_feeds t indexes one are fresh at has = let (grant, is, feeds) = are.edges.rows at one.num has in fresh grant is
+
+pub none_arrives : (t : Tables) (indexes : Entries) (one : NewGrant) → AreIndexesOf t indexes → HasNoRow t (Some one) → IsNewIn one.num (fed_in indexes.arrivals)
+none_arrives t indexes one are fresh at has = let (grant, is, goes) = (are.arrivals.exact at one.num).0 has in fresh grant is
+
+pub none_hangs : (t : Tables) (indexes : Entries) (one : NewGrant) → AreIndexesOf t indexes → HasNoRow t (Some one) → IsNewIn one.num (tied_in indexes.ties)
+none_hangs t indexes one are fresh on has = let (grant, is, tied) = (are.ties.exact on one.num).0 has in fresh grant is

@@ -8,3 +8,4 @@ pub mod Room
 pub mod Seeds
 pub mod Ties
 pub mod NewEdges
+pub mod Indexes

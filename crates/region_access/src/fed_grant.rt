@@ -1,17 +1,18 @@
 //! The edges of a grant that is to be added.
 
-ghost use Rattle.std.specs.Prelude.{◌≡◌, ◌⊎◌, ◌↔◌, List, Some, Contains, OnOk, OnErr, IfOk};
-ghost use Rattle.host_base.specs.declared.ids.GrantId.{GrantId};
+ghost use Rattle.std.specs.Prelude.{◌≡◌, ◌⊎◌, ◌↔◌, Some, Contains, OnOk, OnErr, IfOk};
 ghost use Rattle.share_graph.specs.declared.facts.Node.{Node};
+ghost use Rattle.share_graph.specs.declared.state.Tables.{Tables};
 ghost use Rattle.region_access.specs.Adding.{IsNewIn, HasSameEdges, IsNamed};
 ghost use Rattle.region_access.specs.declared.fed_grant.NewGrant.{NewGrant};
-ghost use Rattle.region_access.specs.declared.tie.Tie.{Tie};
-ghost use Rattle.region_access.specs.NewEdges.{HasFeeding, HasArrival, HasTies, IsRowOf};
+ghost use Rattle.region_access.specs.Indexes.{Entries, entries_of, AreIndexesOf, HaveSame, HaveNew};
+ghost use Rattle.region_access.specs.NewEdges.{HasNoRow, HasFeeding, HasArrival, HasTies, IsRowOf};
 ghost use Rattle.region_access.specs.Ties.{tied_in};
 ghost use Rattle.region_work.specs.Fed.{fed_in};
 
 use crate::adding_all::{add_to_all, remove_edges};
 use crate::index::Ties;
+use crate::indexes::Indexes;
 use crate::pushing::push_some;
 use crate::tie::Tie;
 use crate::tying::ties_of_grant;
@@ -83,45 +84,32 @@ fn add_grant_edges(
     }
 }
 
-/// Adds the edges of a new grant, if there is one. Where memory runs out, none is added.
-pub fn add_new(
-    alloc: Global,
-    edges: &mut Edges,
-    into: &mut Edges,
-    ties: &mut Ties,
-    added: &Option<NewGrant>,
-) -> Result<(), Memory>
-    requires new { (grant : NewGrant) → added.now ≡ Some grant → IsNewIn grant.num (fed_in edges.old.entries) }
-    requires new_into { (grant : NewGrant) → added.now ≡ Some grant → IsNewIn grant.num (fed_in into.old.entries) }
-    requires new_ties { (grant : NewGrant) → added.now ≡ Some grant → IsNewIn grant.num (tied_in ties.old.entries) }
-    ensures feeding { OnOk result (HasFeeding added.now (fed_in edges.old.entries) (fed_in edges.new.entries)) }
-    ensures arrival { OnOk result (HasArrival added.now (fed_in into.old.entries) (fed_in into.new.entries)) }
-    ensures ties { OnOk result (HasTies added.now (tied_in ties.old.entries) (tied_in ties.new.entries)) }
-    ensures err { OnErr result (HasSameEdges (fed_in edges.old.entries) (fed_in edges.new.entries)) }
-    ensures err_into { OnErr result (HasSameEdges (fed_in into.old.entries) (fed_in into.new.entries)) }
-    ensures err_ties { OnErr result (HasSameEdges (tied_in ties.old.entries) (tied_in ties.new.entries)) }
+/// Adds a new grant, if there is one, to the indexes. Where memory runs out, each has what it had.
+pub fn add_new(alloc: Global, indexes: &mut Indexes, added: &Option<NewGrant>) -> Result<(), Memory>
+    requires { (t : Tables) × AreIndexesOf t (entries_of indexes.old) × HasNoRow t added.now }
+    ensures ok { OnOk result (HaveNew added.now (entries_of indexes.old) (entries_of indexes.new)) }
+    ensures err { OnErr result (HaveSame (entries_of indexes.old) (entries_of indexes.new)) }
 {
     match added {
-        Some(grant) => add_grant_edges(alloc, edges, into, ties, grant),
+        Some(grant) => add_grant_edges(
+            alloc,
+            &mut indexes.edges,
+            &mut indexes.arrivals,
+            &mut indexes.ties,
+            grant,
+        ),
         None => Ok(()),
     }
 }
 
-/// Takes out the edges of a new grant, if there is one.
-pub fn remove_new(
-    edges: &mut Edges,
-    into: &mut Edges,
-    ties: &mut Ties,
-    added: &Option<NewGrant>,
-)
-    ensures feeding { (base : Node → List GrantId) → HasFeeding added.now base (fed_in edges.old.entries) → HasSameEdges base (fed_in edges.new.entries) }
-    ensures arrival { (base : Node → List GrantId) → HasArrival added.now base (fed_in into.old.entries) → HasSameEdges base (fed_in into.new.entries) }
-    ensures ties { (base : Tie → List GrantId) → HasTies added.now base (tied_in ties.old.entries) → HasSameEdges base (tied_in ties.new.entries) }
+/// Takes a new grant, if there is one, out of the indexes.
+pub fn remove_new(indexes: &mut Indexes, added: &Option<NewGrant>)
+    ensures { (base : Entries) → HaveNew added.now base (entries_of indexes.old) → HaveSame base (entries_of indexes.new) }
 {
     if let Some(grant) = added {
-        remove_edges(edges, grant.feeding.as_slice(), grant.num);
-        remove_edges(into, &[grant.node], grant.num);
-        remove_edges(ties, grant.ties.as_slice(), grant.num);
+        remove_edges(&mut indexes.edges, grant.feeding.as_slice(), grant.num);
+        remove_edges(&mut indexes.arrivals, &[grant.node], grant.num);
+        remove_edges(&mut indexes.ties, grant.ties.as_slice(), grant.num);
     }
 }
 

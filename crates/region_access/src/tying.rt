@@ -52,7 +52,12 @@ pub fn ties_of(alloc: Global, tables: &Tables) -> Result<Ties, Memory>
     let mut ties = BTreeMap::new(alloc);
     for (place, grant) in tables.grants.as_slice().iter().enumerate() {
         let hangs_on = ties_of_grant(alloc, grant)?;
-        add_edges(alloc, &mut ties, hangs_on.as_slice(), GrantId(place as u32 + 1))?;
+        add_edges(
+            alloc,
+            &mut ties,
+            hangs_on.as_slice(),
+            GrantId(place as u32 + 1),
+        )?;
     }
     Ok(ties)
 }

@@ -1,7 +1,6 @@
 use Rattle.std.proofs.Common.{◌⊎◌, ◌↔◌, List, Contains, subst, inl, inr}
 use Rattle.std.proofs.lemmas.Result.{on_ok_weaker}
 use Rattle.host_base.specs.declared.ids.GrantId.{GrantId}
-use Rattle.share_graph.specs.declared.facts.Node.{Node}
 use Rattle.region_access.specs.Seeds.{IsSeedOfGrants}
 use Rattle.region_access.specs.Ties.{tied_in}
 use Rattle.region_access.proofs.Tied.{seeds_tied}
