@@ -16,15 +16,23 @@ use Rattle.region_access.proofs.Trashed.{row_changed, row_changed_back, same_num
 use Rattle.live_access.specs.Adding.{IsNewOf}
 use Rattle.live_access.proofs.Pushed.{row_new, row_pushed, none_next}
 
+-- a grant is as it was
+same_row : (g : GrantId) (grant : Grant) → IsAlike g grant grant
+same_row g grant = record { source = refl; needs = refl; grain = refl; node = refl }
+
+-- a grant that is revoked gives from the same source, under the same needs, on the same grain and to the same node
+same_revoked : (g : GrantId) (grant : Grant) → IsAlike g grant (revoked grant)
+same_revoked g grant = record { source = refl; needs = refl; grain = refl; node = refl }
+
 -- the grants stay
 pub adds_none : (t u : Tables) → ((g : GrantId) → row u.grants g.0 ≡ row t.grants g.0) → AddsGrant None t u
 adds_none t u same = record {
-  kept = λ g grant is. (grant, same g ∙ is, (refl, refl, refl));
-  back = λ g grant is. inl (grant, sym (same g) ∙ is, (refl, refl, refl));
+  kept = λ g grant is. (grant, same g ∙ is, same_row g grant);
+  back = λ g grant is. inl (grant, sym (same g) ∙ is, same_row g grant);
   new = λ one never. absurd (cc never);
 }
 
--- a grant is revoked: its source, its needs and its node stay
+-- a grant is revoked: its source, its needs, its grain and its node stay
 pub adds_none_revoked : (t : Tables) (g : GrantId) → AddsGrant None t (revoke_in t g)
 adds_none_revoked t g = record {
   kept = λ h grant is.
@@ -32,16 +40,16 @@ adds_none_revoked t g = record {
         | inl same ↦
             let there : row t.grants g.0 ≡ Some grant = subst (λ (k : ℕ). row t.grants k ≡ Some grant) same is in
             let now : row (change_row revoked t.grants g.0) g.0 ≡ Some (revoked grant) = row_changed revoked t.grants g.0 grant there in
-            (revoked grant, subst (λ (k : ℕ). row (change_row revoked t.grants g.0) k ≡ Some (revoked grant)) (sym same) now, (refl, refl, refl))
-        | inr apart ↦ (grant, change_row_other revoked t.grants g.0 h.0 apart ∙ is, (refl, refl, refl))
+            (revoked grant, subst (λ (k : ℕ). row (change_row revoked t.grants g.0) k ≡ Some (revoked grant)) (sym same) now, same_revoked h grant)
+        | inr apart ↦ (grant, change_row_other revoked t.grants g.0 h.0 apart ∙ is, same_row h grant)
       ];
   back = λ h grant is.
       elim (same_number h.0 g.0) [
         | inl same ↦
             let (was, there, now) = row_changed_back revoked t.grants g.0 grant (subst (λ (k : ℕ). row (change_row revoked t.grants g.0) k ≡ Some grant) same is) in
-            let alike : IsAlike h was grant = subst (λ (x : Grant). IsAlike h was x) now (refl, refl, refl) in
+            let alike : IsAlike h was grant = subst (λ (x : Grant). IsAlike h was x) now (same_revoked h was) in
             inl (was, subst (λ (k : ℕ). row t.grants k ≡ Some was) (sym same) there, alike)
-        | inr apart ↦ inl (grant, sym (change_row_other revoked t.grants g.0 h.0 apart) ∙ is, (refl, refl, refl))
+        | inr apart ↦ inl (grant, sym (change_row_other revoked t.grants g.0 h.0 apart) ∙ is, same_row h grant)
       ];
   new = λ one never. absurd (cc never);
 }
@@ -53,10 +61,10 @@ module _ (t : Tables) (grant : Grant) (next : grant.num.0 ≡ length t.grants + 
   pub adds_one : (added : Option NewGrant) → IsNewOf (Some grant) added → AddsGrant added t with_it
   adds_one None never = absurd never
   adds_one (Some one) (num, of) = record {
-    kept = λ g x is. (x, push_old_row t.grants (grant ∷ []) g.0 x is, (refl, refl, refl));
+    kept = λ g x is. (x, push_old_row t.grants (grant ∷ []) g.0 x is, same_row g x);
     back = λ g x is.
         elim (row_pushed t.grants grant g.0 x is) [
-          | inl before ↦ inl (x, before, (refl, refl, refl))
+          | inl before ↦ inl (x, before, same_row g x)
           | inr (last, same) ↦
               let here : g ≡ grant.num = ap (λ n. grant_id n) (last ∙ sym next) in
               inr (here ∙ sym num, subst (λ (y : Grant). IsRowOf one y) same of)

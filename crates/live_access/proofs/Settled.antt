@@ -15,9 +15,13 @@ use Rattle.region_work.specs.Fed.{fed_in}
 use Rattle.region_work.specs.Prepared.{HasGrants, IsPrepared, IsFresh}
 use Rattle.region_work.specs.Working.{IsIndexOf}
 use Rattle.region_access.specs.Adding.{HasSameEdges}
-use Rattle.region_access.specs.Arriving.{IsArrivalsOf, IsArrivalsAt}
+use Rattle.region_access.specs.Arriving.{GoesTo, IsArrivalsOf, IsArrivalsAt}
+use Rattle.region_access.specs.Indexed.{IsIndexBy}
+use Rattle.region_access.specs.Indexes.{Entries, AreIndexesOf, HaveSame}
 use Rattle.region_access.specs.Room.{HasSameFacts}
-use Rattle.region_access.proofs.After.{index_after, arrivals_after}
+use Rattle.region_access.specs.Ties.{HangsOn, tied_in}
+use Rattle.region_access.proofs.Indexed.{index_same}
+use Rattle.region_access.proofs.After.{indexes_after}
 use Rattle.region_access.proofs.Roomy.{room_prepared}
 use Rattle.live_access.specs.declared.region.Region.{Region}
 use Rattle.live_access.specs.Kept.{Kept, IsSolvedFor}
@@ -27,8 +31,7 @@ use Rattle.live_access.proofs.Law.{event_touches, event_adds}
 -- All that solving a region again asks for, by the tables after the event.
 pub record CanSettle (u : Tables) (kept : Kept) (region : Region) : Type 0 where
   pub coherent : IsCoherent u
-  pub index : IsIndexOf u (fed_in kept.fed)
-  pub arrivals : IsArrivalsOf u (fed_in kept.into)
+  pub indexes : AreIndexesOf u kept.indexes
   pub grants : HasGrants u region.room.nodes.items region.grants.items
   pub prepared : IsPrepared u region.room.nodes.items kept.table
   pub fresh : IsFresh region.room.nodes.items region.room.waiting
@@ -39,8 +42,7 @@ can_settle_after s e kept region ready =
     let adds = event_adds s e region.added ready.fits ready.added in
     record {
       coherent = coherent u ready.fits.formed.tables;
-      index = index_after region.added s.tables u (fed_in ready.start.fed) (fed_in kept.fed) adds ready.solved.index ready.fed;
-      arrivals = arrivals_after region.added s.tables u (fed_in ready.start.into) (fed_in kept.into) adds ready.solved.arrivals ready.into;
+      indexes = indexes_after region.added s.tables u ready.start.indexes kept.indexes adds ready.solved.indexes ready.has_new;
       grants = ready.grants;
       prepared = room_prepared s.tables u ready.seeds ready.start.table kept.table region.room ready.room ready.solved.solution
           (event_touches s e ready.seeds region.room.nodes.items ready.formed ready.fits ready.exact ready.room.region);
@@ -62,28 +64,28 @@ collected u nodes into grants arrivals at g = (
 
 -- ---- the same facts and the same edges
 
-pub same_facts : (t : Tables) (old new : Table) → HasSameFacts old new → IsSolutionOf t old → IsSolutionOf t new
+same_facts : (t : Tables) (old new : Table) → HasSameFacts old new → IsSolutionOf t old → IsSolutionOf t new
 same_facts t old new same solved at fact = (λ h. (solved at fact).0 ((same at fact).0 h), λ d. (same at fact).1 ((solved at fact).1 d))
 
-pub same_index : (t : Tables) (old new : Node → List GrantId) → HasSameEdges old new → IsIndexOf t old → IsIndexOf t new
+same_index : (t : Tables) (old new : Node → List GrantId) → HasSameEdges old new → IsIndexOf t old → IsIndexOf t new
 same_index t old new same index = record {
   all = λ at g grant is feeds. subst (λ (xs : List GrantId). Contains xs g) (sym (same at)) (index.all at g grant is feeds);
   rows = λ at g c. index.rows at g (subst (λ (xs : List GrantId). Contains xs g) (same at) c);
   once = λ at. subst (λ (xs : List GrantId). AllPairs (λ (a : GrantId) (b : GrantId). a ≢ b) xs) (sym (same at)) (index.once at);
 }
 
-pub same_arrivals : (t : Tables) (old new : Node → List GrantId) → HasSameEdges old new → IsArrivalsOf t old → IsArrivalsOf t new
-same_arrivals t old new same into = record {
-  exact = λ at g. (
-    λ c. (into.exact at g).0 (subst (λ (xs : List GrantId). Contains xs g) (same at) c),
-    λ is. subst (λ (xs : List GrantId). Contains xs g) (sym (same at)) ((into.exact at g).1 is),
-  );
-  once = λ at. subst (λ (xs : List GrantId). AllPairs (λ (a : GrantId) (b : GrantId). a ≢ b) xs) (sym (same at)) (into.once at);
+same_by : {K : Type 0} (Belongs : K → GrantId → Type 0) (old new : K → List GrantId) → HasSameEdges old new → IsIndexBy Belongs old → IsIndexBy Belongs new
+same_by Belongs old new same index = index_same Belongs Belongs old new index same (λ at g. (λ belongs. belongs, λ belongs. belongs))
+
+same_indexes : (t : Tables) (old new : Entries) → HaveSame old new → AreIndexesOf t old → AreIndexesOf t new
+same_indexes t old new same are = record {
+  edges = same_index t (fed_in old.edges) (fed_in new.edges) same.edges are.edges;
+  arrivals = same_by (GoesTo t) (fed_in old.arrivals) (fed_in new.arrivals) same.arrivals are.arrivals;
+  ties = same_by (HangsOn t) (tied_in old.ties) (tied_in new.ties) same.ties are.ties;
 }
 
-pub same_solved : (t : Tables) (old new : Kept) → HasSameFacts old.table new.table → HasSameEdges (fed_in old.fed) (fed_in new.fed) → HasSameEdges (fed_in old.into) (fed_in new.into) → IsSolvedFor t old → IsSolvedFor t new
-same_solved t old new facts fed into solved = record {
+pub same_solved : (t : Tables) (old new : Kept) → HasSameFacts old.table new.table → HaveSame old.indexes new.indexes → IsSolvedFor t old → IsSolvedFor t new
+same_solved t old new facts same solved = record {
   solution = same_facts t old.table new.table facts solved.solution;
-  index = same_index t (fed_in old.fed) (fed_in new.fed) fed solved.index;
-  arrivals = same_arrivals t (fed_in old.into) (fed_in new.into) into solved.arrivals;
+  indexes = same_indexes t old.indexes new.indexes same solved.indexes;
 }

@@ -25,7 +25,8 @@ grant_added (event.SessionOpened session) = None
 grant_added (event.SessionClosed n) = None
 grant_added (event.HandleMade handle) = None
 
--- there is no grant and no new one, or the new one is the grant's: of its number, its node and the nodes that feed it
+-- there is no grant and no new one, or the new one is the grant's: of its number, its node, the nodes that feed it and what it
+-- hangs on
 abbrev pub IsNewOf : Option Grant → Option NewGrant → Type 0
 IsNewOf None None = Unit {0}
 IsNewOf None (Some one) = ⊥

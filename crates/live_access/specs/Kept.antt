@@ -1,22 +1,14 @@
 -- What is kept along the history of events: what each node holds, and the indexes by which a region is found.
-use Rattle.std.specs.Prelude.{List}
-use Rattle.std.specs.Global.{Vec}
-use Rattle.host_base.specs.declared.ids.GrantId.{GrantId}
-use Rattle.share_graph.specs.declared.facts.Node.{Node}
 use Rattle.share_graph.specs.declared.state.Tables.{Tables}
 use Rattle.least_access.specs.Solved.{Table, IsSolutionOf}
-use Rattle.region_work.specs.Fed.{fed_in}
-use Rattle.region_work.specs.Working.{IsIndexOf}
-use Rattle.region_access.specs.Arriving.{IsArrivalsOf}
+use Rattle.region_access.specs.Indexes.{Entries, AreIndexesOf}
 
--- what each node holds, the grants that each node feeds, and the grants that go to each node
+-- what each node holds, and the grants of the tables by what they have to do with
 pub record Kept : Type 0 where
   pub table : Table
-  pub fed : List (Node × Vec GrantId)
-  pub into : List (Node × Vec GrantId)
+  pub indexes : Entries
 
 -- THE SOLUTION, KEPT. The table has exactly the facts that hold by the tables, and the indexes are those of the tables.
 pub record IsSolvedFor (t : Tables) (kept : Kept) : Type 0 where
   pub solution : IsSolutionOf t kept.table
-  pub index : IsIndexOf t (fed_in kept.fed)
-  pub arrivals : IsArrivalsOf t (fed_in kept.into)
+  pub indexes : AreIndexesOf t kept.indexes

@@ -7,9 +7,8 @@ use Rattle.share_graph.specs.declared.state.State.{State}
 use Rattle.share_graph.specs.EventFits.{EventFits}
 use Rattle.share_graph.specs.History.{after}
 use Rattle.share_graph.specs.WellFormed.{IsWellFormed}
-use Rattle.region_work.specs.Fed.{fed_in}
 use Rattle.region_work.specs.Prepared.{HasGrants}
-use Rattle.region_access.specs.NewEdges.{HasFeeding, HasArrival}
+use Rattle.region_access.specs.Indexes.{HaveNew}
 use Rattle.region_access.specs.Room.{IsRoom}
 use Rattle.region_access.specs.Seeds.{IsSeedOf}
 use Rattle.live_access.specs.declared.region.Region.{Region}
@@ -17,8 +16,8 @@ use Rattle.live_access.specs.Adding.{grant_added, IsNewOf}
 use Rattle.live_access.specs.Kept.{Kept, IsSolvedFor}
 
 -- READY FOR AN EVENT that fits. What was kept was solved for the state. The region is what the seeds of the event reach: all room
--- for it is taken, and what its nodes held is in the room. The edges of a grant that the event adds are in the indexes. The grants
--- of the region are those that go to its nodes once the event has happened, each once.
+-- for it is taken, and what its nodes held is in the room. A grant that the event adds is in the indexes. The grants of the region
+-- are those that go to its nodes once the event has happened, each once.
 pub record IsReadyFor (s : State) (e : Event) (kept : Kept) (region : Region) : Type 0 where
   pub formed : IsWellFormed s
   pub fits : EventFits s e
@@ -28,7 +27,6 @@ pub record IsReadyFor (s : State) (e : Event) (kept : Kept) (region : Region) : 
   pub exact : (at : Node) → Contains seeds at ↔ IsSeedOf s.tables e at
   pub room : IsRoom s.tables seeds start.table kept.table region.room
   pub added : IsNewOf (grant_added e) region.added
-  pub fed : HasFeeding region.added (fed_in start.fed) (fed_in kept.fed)
-  pub into : HasArrival region.added (fed_in start.into) (fed_in kept.into)
+  pub has_new : HaveNew region.added start.indexes kept.indexes
   pub grants : HasGrants (after s e).tables region.room.nodes.items region.grants.items
   pub once : AllPairs (λ (a : GrantId) (b : GrantId). a ≢ b) region.grants.items

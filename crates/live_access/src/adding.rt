@@ -20,7 +20,7 @@ fn added_grant(event: &Event) -> Option<&Grant>
     }
 }
 
-/// The grant that an event adds, with the nodes that feed it.
+/// The grant that an event adds, with the nodes that feed it and what it hangs on.
 pub fn added_by(alloc: Global, event: &Event) -> Result<Option<NewGrant>, Memory>
     ensures { IfOk result (IsNewOf (grant_added event.now)) }
 {

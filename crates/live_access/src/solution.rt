@@ -19,8 +19,7 @@ use crate::adding::added_by;
 use crate::region::Region;
 use host_base::Memory;
 use least_access::Solved;
-use region_access::{arrivals_of, collect, edges_of, seeds_of, solve_anew};
-use region_work::edges::Edges;
+use region_access::{Indexes, arrivals_of, collect, edges_of, seeds_of, solve_anew, ties_of};
 use region_work::{Counted, Probe, Steps, solve_region};
 use share_graph::{Event, State, Tables};
 use std::alloc::Global;
@@ -31,16 +30,16 @@ use std::sync::ledger::{Blank, Ledger};
 #[derive(Drop)]
 pub struct Solution {
     solved: Solved,
-    edges: Edges,
-    arrivals: Edges,
+    indexes: Indexes,
 }
 
 impl Model for Solution {
+    ghost use Rattle.region_access.specs.Indexes.{entries_of};
     ghost use Rattle.live_access.specs.Kept.{Kept};
 
     ghost Value = { Kept };
 
-    ghost view = { λ solution. record { table = solution.solved; fed = solution.edges.entries; into = solution.arrivals.entries } };
+    ghost view = { λ solution. record { table = solution.solved; indexes = entries_of solution.indexes } };
 }
 
 /// Solves tables from scratch, in time that is near linear in what is held, needed and shared: each node holds exactly the facts of
@@ -53,11 +52,15 @@ pub fn solve(alloc: Global, tables: &Tables) -> Result<Solution, Memory>
 {
     let edges = edges_of(alloc, tables)?;
     let arrivals = arrivals_of(alloc, tables)?;
+    let ties = ties_of(alloc, tables)?;
     let table = solve_anew::<Brand>(alloc, tables, &edges, Blank::new(1))?;
     Ok(Solution {
         solved: Solved { table },
-        edges,
-        arrivals,
+        indexes: Indexes {
+            edges,
+            arrivals,
+            ties,
+        },
     })
 }
 
@@ -93,7 +96,7 @@ impl Solution {
         ensures ok { IfOk result (IsReadyFor state.now event.now self.new) }
         ensures err { OnErr result (IsSolvedFor state.now.tables self.new) }
     {
-        let seeds = seeds_of(alloc, &state.tables, event)?;
+        let seeds = seeds_of(alloc, &state.tables, &self.indexes.ties, event)?;
         let added = added_by(alloc, event)?;
         let probe = Counted {
             tables: &state.tables,
@@ -103,25 +106,18 @@ impl Solution {
             alloc,
             &probe,
             &mut self.solved.table,
-            &mut self.edges,
-            &mut self.arrivals,
+            &mut self.indexes,
             seeds.as_slice(),
             &added,
         )?;
-        match collect(alloc, &self.arrivals, room.nodes.as_slice()) {
+        match collect(alloc, &self.indexes.arrivals, room.nodes.as_slice()) {
             Ok(grants) => Ok(Region {
                 room,
                 grants,
                 added,
             }),
             Err(fault) => {
-                region_access::take_back(
-                    &mut self.solved.table,
-                    &mut self.edges,
-                    &mut self.arrivals,
-                    room,
-                    &added,
-                );
+                region_access::take_back(&mut self.solved.table, &mut self.indexes, room, &added);
                 Err(fault)
             }
         }
@@ -142,8 +138,8 @@ impl Solution {
         self.settle_by(&mut probe, region);
     }
 
-    /// Makes ready for an event: finds its region, takes all room that solving it again wants, clears it, and adds the edges of a
-    /// new grant. Want of memory leaves the solution what it was.
+    /// Makes ready for an event: finds its region, takes all room that solving it again wants, clears it, and adds a new grant
+    /// to the indexes. Want of memory leaves the solution what it was.
     pub fn prepare(&mut self, alloc: Global, state: &State, event: &Event) -> Result<Region, Memory>
         requires formed { IsWellFormed state.now }
         requires fits { EventFits state.now event.now }
@@ -174,7 +170,7 @@ impl Solution {
             probe,
             &mut self.solved.table,
             &mut region.room.waiting,
-            &self.edges,
+            &self.indexes.edges,
             region.room.nodes.as_slice(),
             region.grants.as_slice(),
         );
@@ -187,8 +183,7 @@ impl Solution {
     {
         region_access::take_back(
             &mut self.solved.table,
-            &mut self.edges,
-            &mut self.arrivals,
+            &mut self.indexes,
             region.room,
             &region.added,
         );

@@ -1,5 +1,5 @@
--- The grants that go to each node, grant by grant and node by node.
-use Rattle.std.proofs.Common.{◌≡◌, ◌≢◌, ◌⊎◌, ◌+◌, ◌<◌, ◌≤◌, ◌++◌, ◌∷◌, [], ℕ, zero, suc, List, Some, length, take, get_or, slice_get, Contains, refl, sym, ◌∙◌, ap, subst, inl, inr, arith}
+-- The grants that go to each node.
+use Rattle.std.proofs.Common.{◌≡◌, ◌≢◌, ◌↔◌, ◌+◌, ◌<◌, ◌≤◌, ◌++◌, ◌∷◌, [], ℕ, zero, suc, List, length, take, get_or, Contains, refl, sym, ◌∙◌, ap, subst, inl, inr, arith}
 use Rattle.std.specs.Prelude.{AllPairs}
 use Rattle.std.proofs.lemmas.List.{take_more, take_all}
 use Rattle.std.proofs.lemmas.List.Elements.{Contains-append_left, Contains-append_right, Contains-append_cases, Contains-push, Contains-push_cases, Contains-get_or}
@@ -8,64 +8,21 @@ use Rattle.share_graph.specs.declared.facts.Node.{Node}
 use Rattle.share_graph.specs.declared.grants.Grant.{Grant}
 use Rattle.share_graph.specs.declared.state.Tables.{Tables}
 use Rattle.share_graph.specs.Nodes.{node_of}
-use Rattle.share_graph.specs.Rows.{row, IsGrant}
-use Rattle.least_access.proofs.Turns.{grant_id, numbered, row_within, row_first}
-use Rattle.region_access.specs.Adding.{Ascends, AddsEdge}
 use Rattle.region_access.specs.Arriving.{IsArrivalsOf, IsArrivalsAt}
-use Rattle.region_access.proofs.Added.{adds_edge, some_node}
 use Rattle.region_access.proofs.Cleared.{not_before}
+use Rattle.region_access.proofs.Picked.{contains_one}
 use Rattle.region_work.proofs.Sums.{contains_none, contains_cons, apart_head, apart_tail}
 
-pub record ArrivedBelow (t : Tables) (into : Node → List GrantId) (i : ℕ) : Type 0 where
-  pub all : (g : GrantId) (grant : Grant) → g.0 ≤ i → IsGrant t g grant → Contains (into (node_of g grant)) g
-  pub rows : (at : Node) (g : GrantId) → Contains (into at) g → (grant : Grant) × IsGrant t g grant × (node_of g grant ≡ at) × (g.0 ≤ i)
-  pub ascends : (at : Node) → Ascends (into at)
+-- the grant goes to the node
+abbrev pub Arrives : Node → GrantId → Grant → Type 0
+Arrives at g grant = node_of g grant ≡ at
 
-pub arrived_none : (t : Tables) (into : Node → List GrantId) → ((at : Node) → into at ≡ []) → ArrivedBelow t into 0
-arrived_none t into empty = record {
-  all = λ g grant none is. let first : 0 < g.0 = row_first t.grants g.0 grant is in absurd (omega arith);
-  rows = λ at g c. absurd (contains_none g (subst (λ (xs : List GrantId). Contains xs g) (empty at) c));
-  ascends = λ at. subst (λ (xs : List GrantId). Ascends xs) (sym (empty at)) (λ i j d less below. absurd (omega arith));
-}
-
-pub arrived_one : (t : Tables) (old new : Node → List GrantId) (i : ℕ) (grant : Grant) → slice_get t.grants i ≡ Some grant → ArrivedBelow t old i
-    → AddsEdge (node_of (grant_id (i + 1)) grant) (grant_id (i + 1)) old new → ArrivedBelow t new (i + 1)
-arrived_one t old new i grant is so_far edge =
-    let num : GrantId = grant_id (i + 1) in
-    let adds = adds_edge (node_of num grant) num old new edge in
-    let known : row t.grants (i + 1) ≡ Some grant = numbered t.grants i grant is in
-    record {
-      all = λ g other below there.
-          let sides : (g.0 ≤ i) ⊎ (g.0 ≡ i + 1) = grind arith in
-          elim sides [
-            | inl earlier ↦ adds.kept (node_of g other) g (so_far.all g other earlier there)
-            | inr last ↦
-                let same : num ≡ g = ap (λ n. grant_id n) (sym last) in
-                let here : row t.grants (i + 1) ≡ Some other = subst (λ (n : ℕ). row t.grants n ≡ Some other) last there in
-                let one : grant ≡ other = cc in
-                subst (λ (h : GrantId). Contains (new (node_of h other)) h) same
-                (subst (λ (x : Grant). Contains (new (node_of num x)) num) one (adds.all (node_of num grant) refl))
-          ];
-      rows = λ at g c.
-          elim (adds.only at g c) [
-            | inl before ↦ let (other, there, same, below) = so_far.rows at g before in (other, there, same, omega arith)
-            | inr fresh ↦
-                let there : IsGrant t g grant = subst (λ (h : GrantId). IsGrant t h grant) (sym fresh.0) known in
-                let number = ap (λ (h : GrantId). h.0) fresh.0 in
-                (grant, there, ap (λ (h : GrantId). node_of h grant) fresh.0 ∙ some_node (node_of num grant) at fresh.1, omega arith)
-          ];
-      ascends = adds.ascends (λ at g c. (let (other, there, same, below) = so_far.rows at g c in omega arith)) so_far.ascends;
-    }
-
-pub arrived_all : (t : Tables) (into : Node → List GrantId) (i : ℕ) → ArrivedBelow t into i → i ≡ length t.grants → IsArrivalsOf t into
-arrived_all t into i done all = record {
-  exact = λ at g. (
-    λ c. let (grant, is, same, below) = done.rows at g c in (grant, is, same),
-    λ (grant, is, same).
-        subst (λ (n : Node). Contains (into n) g) same (done.all g grant (let within = row_within t.grants g.0 grant is in omega arith) is),
-  );
-  once = λ at i j d less below same. (let apart = done.ascends at i j d less below in let one = ap (λ (h : GrantId). h.0) same in omega arith);
-}
+pub arrives_one : (g : GrantId) (grant : Grant) (node : Node) → node ≡ node_of g grant → (at : Node) → Contains (node ∷ []) at ↔ Arrives at g grant
+arrives_one g grant node is at =
+    let alone = contains_one node at in (
+      λ c. sym is ∙ sym (alone.0 c),
+      λ same. alone.1 (sym same ∙ sym is),
+    )
 
 -- ---- lists that differ, end to end
 

@@ -39,10 +39,10 @@ length_within nodes zero = omega arith
 length_within [] (suc i) = omega arith
 length_within (x ∷ nodes) (suc i) = let rest = length_within nodes i in omega arith
 
-any_default : (nodes : List Node) (i : ℕ) (d e : Node) → i < length nodes → get_or nodes i d ≡ get_or nodes i e
+pub any_default : {X : Type 0} (xs : List X) (i : ℕ) (d e : X) → i < length xs → get_or xs i d ≡ get_or xs i e
 any_default [] i d e within = absurd (omega arith)
-any_default (x ∷ nodes) zero d e within = refl
-any_default (x ∷ nodes) (suc i) d e within = any_default nodes i d e (omega arith)
+any_default (x ∷ xs) zero d e within = refl
+any_default (x ∷ xs) (suc i) d e within = any_default xs i d e (omega arith)
 
 -- a node that is once in a list isn't before its place
 pub not_before : (nodes : List Node) → AllPairs (λ (a : Node) (b : Node). a ≢ b) nodes → (i : ℕ) (d : Node) → i < length nodes → Contains (take i nodes) (get_or nodes i d) → ⊥

@@ -7,6 +7,8 @@ pub mod Roomy
 pub mod Arrived
 pub mod ManyAccounts
 pub mod TakenOut
+pub mod Indexed
+pub mod Tied
 pub mod After
 pub mod Picked
 pub mod ManyGrains

@@ -16,27 +16,27 @@ IsPushed old num new = ((slice_get old (length old - 1) ≡ Some num) × (new �
 abbrev pub IsPopped : List GrantId → GrantId → List GrantId → Type 0
 IsPopped old num new = ((slice_get old (length old - 1) ≡ Some num) × (old ≡ new ++ num ∷ [])) ⊎ ((slice_get old (length old - 1) ≢ Some num) × (new ≡ old))
 
--- the node feeds the grant, and the other nodes what they fed
-pub record AddsEdge (from : Node) (num : GrantId) (old new : Node → List GrantId) : Type 0 where
+-- the key has the grant, and the other keys what they had
+pub record AddsEdge {K : Type 0} (from : K) (num : GrantId) (old new : K → List GrantId) : Type 0 where
   pub here : IsPushed (old from) num (new from)
-  pub others : (at : Node) → at ≢ from → new at ≡ old at
+  pub others : (at : K) → at ≢ from → new at ≡ old at
 
--- no node feeds the grant
-abbrev pub IsNewIn : GrantId → (Node → List GrantId) → Type 0
-IsNewIn num fed = (at : Node) → Contains (fed at) num → ⊥
+-- no key has the grant
+abbrev pub IsNewIn : {K : Type 0} → GrantId → (K → List GrantId) → Type 0
+IsNewIn {K} num fed = (at : K) → Contains (fed at) num → ⊥
 
--- each node feeds what it fed
-abbrev pub HasSameEdges : (Node → List GrantId) → (Node → List GrantId) → Type 0
-HasSameEdges old new = (at : Node) → new at ≡ old at
+-- each key has what it had
+abbrev pub HasSameEdges : {K : Type 0} → (K → List GrantId) → (K → List GrantId) → Type 0
+HasSameEdges {K} old new = (at : K) → new at ≡ old at
 
--- each node feeds what it fed, and some of the nodes feed the grant too, which is the last of theirs
-abbrev pub MayAdd : (Node → Type 0) → GrantId → (Node → List GrantId) → (Node → List GrantId) → Type 0
-MayAdd From num old new = (at : Node) → (new at ≡ old at) ⊎ (From at × (new at ≡ old at ++ num ∷ []))
+-- each key has what it had, and some of the keys have the grant too, which is the last of theirs
+abbrev pub MayAdd : {K : Type 0} → (K → Type 0) → GrantId → (K → List GrantId) → (K → List GrantId) → Type 0
+MayAdd {K} From num old new = (at : K) → (new at ≡ old at) ⊎ (From at × (new at ≡ old at ++ num ∷ []))
 
--- each node feeds what it fed, and exactly the nodes feed the grant too, which is the last of theirs
-pub record AddsEdges (From : Node → Type 0) (num : GrantId) (old new : Node → List GrantId) : Type 0 where
+-- each key has what it had, and exactly the keys have the grant too, which is the last of theirs
+pub record AddsEdges {K : Type 0} (From : K → Type 0) (num : GrantId) (old new : K → List GrantId) : Type 0 where
   pub may : MayAdd From num old new
-  pub all : (at : Node) → From at → new at ≡ old at ++ num ∷ []
+  pub all : (at : K) → From at → new at ≡ old at ++ num ∷ []
 
 -- each of the nodes feeds the grant, and all nodes what they fed; the lists stay in the order of numbers
 pub record Adds (From : Node → Type 0) (num : GrantId) (old new : Node → List GrantId) : Type 0 where

@@ -1,7 +1,11 @@
 pub mod Adding
+pub mod Indexed
+pub mod Keys
 pub mod Arriving
 pub mod Clearing
 pub mod Reaching
 pub mod Room
 pub mod Seeds
+pub mod Ties
 pub mod NewEdges
+pub mod Indexes

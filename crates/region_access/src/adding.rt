@@ -1,13 +1,11 @@
 //! Adding edges, one by one.
 
 ghost use Rattle.std.specs.Prelude.{◌≡◌, ◌≢◌, ◌↔◌, [], Some, IsTrue, OnOk, OnErr};
-ghost use Rattle.share_graph.specs.declared.facts.Node.{Node};
 ghost use Rattle.region_access.specs.Adding.{IsPushed, IsPopped, AddsEdge};
-ghost use Rattle.region_work.specs.Fed.{fed_in};
+ghost use Rattle.region_access.specs.Indexed.{listed_in};
 
+use crate::index::{Index, Key};
 use host_base::{GrantId, Memory};
-use region_work::edges::Edges;
-use share_graph::Node;
 use std::alloc::Global;
 
 // Whether it is a grant.
@@ -34,10 +32,15 @@ fn push_last(fed: &mut Vec<GrantId>, num: GrantId) -> Result<(), Memory>
     }
 }
 
-// Makes a list of one number for a node that has none.
-fn start_edge(alloc: Global, edges: &mut Edges, from: Node, num: GrantId) -> Result<(), Memory>
-    requires { fed_in edges.old.entries from ≡ [] }
-    ensures ok { OnOk result (AddsEdge from num (fed_in edges.old.entries) (fed_in edges.new.entries)) }
+// Makes a list of one number for a key that has none.
+fn start_edge<K: Key>(
+    alloc: Global,
+    edges: &mut Index<K>,
+    from: K,
+    num: GrantId,
+) -> Result<(), Memory>
+    requires { listed_in K.cmp edges.old.entries from ≡ [] }
+    ensures ok { OnOk result (AddsEdge from num (listed_in K.cmp edges.old.entries) (listed_in K.cmp edges.new.entries)) }
     ensures err { OnErr result (edges.new.entries ≡ edges.old.entries) }
 {
     let mut fed = Vec::new(alloc);
@@ -48,11 +51,16 @@ fn start_edge(alloc: Global, edges: &mut Edges, from: Node, num: GrantId) -> Res
     }
 }
 
-/// Adds a grant to those that a node feeds.
-pub fn add_edge(alloc: Global, edges: &mut Edges, from: Node, num: GrantId) -> Result<(), Memory>
-    ensures ok { OnOk result (AddsEdge from num (fed_in edges.old.entries) (fed_in edges.new.entries)) }
-    ensures err { OnErr result (fed_in edges.new.entries from ≡ fed_in edges.old.entries from) }
-    ensures others { (at : Node) → at ≢ from → fed_in edges.new.entries at ≡ fed_in edges.old.entries at }
+/// Adds a grant to those of a key.
+pub fn add_edge<K: Key>(
+    alloc: Global,
+    edges: &mut Index<K>,
+    from: K,
+    num: GrantId,
+) -> Result<(), Memory>
+    ensures ok { OnOk result (AddsEdge from num (listed_in K.cmp edges.old.entries) (listed_in K.cmp edges.new.entries)) }
+    ensures err { OnErr result (listed_in K.cmp edges.new.entries from ≡ listed_in K.cmp edges.old.entries from) }
+    ensures others { (at : K) → at ≢ from → listed_in K.cmp edges.new.entries at ≡ listed_in K.cmp edges.old.entries at }
 {
     match edges.get_mut(&from) {
         Some(fed) => push_last(fed, num),
@@ -69,10 +77,10 @@ fn pop_last(fed: &mut Vec<GrantId>, num: GrantId)
     }
 }
 
-/// Takes a grant out of those that a node feeds, where it is the last of them.
-pub fn remove_edge(edges: &mut Edges, from: Node, num: GrantId)
-    ensures here { IsPopped (fed_in edges.old.entries from) num (fed_in edges.new.entries from) }
-    ensures others { (at : Node) → at ≢ from → fed_in edges.new.entries at ≡ fed_in edges.old.entries at }
+/// Takes a grant out of those of a key, where it is the last of them.
+pub fn remove_edge<K: Key>(edges: &mut Index<K>, from: K, num: GrantId)
+    ensures here { IsPopped (listed_in K.cmp edges.old.entries from) num (listed_in K.cmp edges.new.entries from) }
+    ensures others { (at : K) → at ≢ from → listed_in K.cmp edges.new.entries at ≡ listed_in K.cmp edges.old.entries at }
 {
     if let Some(fed) = edges.get_mut(&from) {
         pop_last(fed, num);

@@ -7,7 +7,7 @@ ghost use Rattle.share_graph.specs.Coherent.{HasNumbers};
 ghost use Rattle.region_access.specs.Arriving.{IsArrivalsOf, IsArrivalsAt};
 ghost use Rattle.region_work.specs.Fed.{fed_in};
 
-use crate::adding::add_edge;
+use crate::adding_all::add_edges;
 use host_base::{GrantId, Memory};
 use region_work::edges::{Edges, fed_by};
 use share_graph::{Node, Tables, node_of};
@@ -22,7 +22,7 @@ pub fn arrivals_of(alloc: Global, tables: &Tables) -> Result<Edges, Memory>
     let mut into = BTreeMap::new(alloc);
     for (place, grant) in tables.grants.as_slice().iter().enumerate() {
         let num = GrantId(place as u32 + 1);
-        add_edge(alloc, &mut into, node_of(num, grant), num)?;
+        add_edges(alloc, &mut into, &[node_of(num, grant)], num)?;
     }
     Ok(into)
 }

@@ -5,10 +5,8 @@ ghost use Rattle.share_graph.specs.declared.facts.Node.{Node};
 ghost use Rattle.share_graph.specs.declared.state.Tables.{Tables};
 ghost use Rattle.share_graph.specs.Coherent.{IsCoherent};
 ghost use Rattle.least_access.specs.Solved.{Table, held_at, IsSolutionOf};
-ghost use Rattle.host_base.specs.declared.ids.GrantId.{GrantId};
-ghost use Rattle.region_access.specs.Adding.{HasSameEdges};
-ghost use Rattle.region_access.specs.Arriving.{IsArrivalsOf};
-ghost use Rattle.region_access.specs.NewEdges.{HasNoRow, HasFeeding, HasArrival, AddsGrant};
+ghost use Rattle.region_access.specs.Indexes.{Entries, entries_of, AreIndexesOf, HaveSame, HaveNew};
+ghost use Rattle.region_access.specs.NewEdges.{HasNoRow, AddsGrant};
 ghost use Rattle.region_work.specs.Fed.{fed_in};
 ghost use Rattle.region_work.specs.Prepared.{Touches, IsPrepared};
 ghost use Rattle.region_access.specs.Room.{HasSameFacts, IsRoom, WasCleared};
@@ -16,6 +14,7 @@ ghost use Rattle.region_work.specs.Working.{IsIndexOf};
 
 use crate::clearing::{clear, undo};
 use crate::fed_grant::{NewGrant, add_new, remove_new};
+use crate::indexes::Indexes;
 use crate::reaching::find_region;
 use crate::room::Room;
 use host_base::Memory;
@@ -72,34 +71,29 @@ fn fill_back(table: &mut Table, room: Room)
     undo(table, room.nodes.as_slice(), room.before.as_slice());
 }
 
-/// Finds the region of the seeds, takes all room that solving it again wants, clears it, and adds the edges of a new grant, if
-/// there is one. Where memory runs out, every fact and every edge is as before.
+/// Finds the region of the seeds, takes all room that solving it again wants, clears it, and adds a new grant, if there is one, to
+/// the indexes. Where memory runs out, every fact and every index is as before.
 pub fn prepare<V: Probe>(
     alloc: Global,
     probe: &V,
     table: &mut Table,
-    edges: &mut Edges,
-    into: &mut Edges,
+    indexes: &mut Indexes,
     seeds: &[Node],
     added: &Option<NewGrant>,
 ) -> Result<Room, Memory>
     requires coherent { IsCoherent (V.tables probe.now) }
-    requires index { IsIndexOf (V.tables probe.now) (fed_in edges.old.entries) }
-    requires arrivals { IsArrivalsOf (V.tables probe.now) (fed_in into.old.entries) }
+    requires indexes { AreIndexesOf (V.tables probe.now) (entries_of indexes.old) }
     requires new { HasNoRow (V.tables probe.now) added.now }
     ensures err { OnErr result (HasSameFacts table.old.entries table.new.entries) }
-    ensures err_edges { OnErr result (HasSameEdges (fed_in edges.old.entries) (fed_in edges.new.entries)) }
-    ensures err_into { OnErr result (HasSameEdges (fed_in into.old.entries) (fed_in into.new.entries)) }
+    ensures err_indexes { OnErr result (HaveSame (entries_of indexes.old) (entries_of indexes.new)) }
     ensures ok { IfOk result (IsRoom (V.tables probe.now) seeds.now table.old.entries table.new.entries) }
     ensures prepared { IfOk result (λ room. (after : Tables) → IsSolutionOf (V.tables probe.now) table.old.entries
         → Touches room.nodes.items (V.tables probe.now) after → IsPrepared after room.nodes.items table.new.entries) }
-    ensures feeding { OnOk result (HasFeeding added.now (fed_in edges.old.entries) (fed_in edges.new.entries)) }
-    ensures arrival { OnOk result (HasArrival added.now (fed_in into.old.entries) (fed_in into.new.entries)) }
-    ensures index_after { OnOk result ((after : Tables) → AddsGrant added.now (V.tables probe.now) after → IsIndexOf after (fed_in edges.new.entries)) }
-    ensures arrivals_after { OnOk result ((after : Tables) → AddsGrant added.now (V.tables probe.now) after → IsArrivalsOf after (fed_in into.new.entries)) }
+    ensures added { OnOk result (HaveNew added.now (entries_of indexes.old) (entries_of indexes.new)) }
+    ensures indexes_after { OnOk result ((after : Tables) → AddsGrant added.now (V.tables probe.now) after → AreIndexesOf after (entries_of indexes.new)) }
 {
-    let room = make_room(alloc, probe, table, edges, seeds)?;
-    match add_new(alloc, edges, into, added) {
+    let room = make_room(alloc, probe, table, &indexes.edges, seeds)?;
+    match add_new(alloc, indexes, added) {
         Ok(()) => Ok(room),
         Err(fault) => {
             fill_back(table, room);
@@ -108,19 +102,12 @@ pub fn prepare<V: Probe>(
     }
 }
 
-/// Takes back what was made ready: each node holds what it held before, and each feeds what it fed.
-pub fn take_back(
-    table: &mut Table,
-    edges: &mut Edges,
-    into: &mut Edges,
-    room: Room,
-    added: &Option<NewGrant>,
-)
+/// Takes back what was made ready: each node holds what it held before, and each index has what it had.
+pub fn take_back(table: &mut Table, indexes: &mut Indexes, room: Room, added: &Option<NewGrant>)
     requires { WasCleared table.old.entries room }
     ensures facts { (t : Tables) (seeds : List Node) (start : Table) → IsRoom t seeds start table.old.entries room → HasSameFacts start table.new.entries }
-    ensures feeding { (base : Node → List GrantId) → HasFeeding added.now base (fed_in edges.old.entries) → HasSameEdges base (fed_in edges.new.entries) }
-    ensures arrival { (base : Node → List GrantId) → HasArrival added.now base (fed_in into.old.entries) → HasSameEdges base (fed_in into.new.entries) }
+    ensures indexes { (base : Entries) → HaveNew added.now base (entries_of indexes.old) → HaveSame base (entries_of indexes.new) }
 {
     fill_back(table, room);
-    remove_new(edges, into, added);
+    remove_new(indexes, added);
 }

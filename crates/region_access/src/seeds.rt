@@ -1,13 +1,17 @@
 //! The seeds of an event: the nodes at which it may give or take something by itself.
 
-ghost use Rattle.std.specs.Prelude.{◌≡◌, ◌⊎◌, ◌↔◌, ◌∷◌, ◌++◌, [], true, false, IsTrue, IfOk, OnOk, Contains};
+ghost use Rattle.std.specs.Prelude.{◌≡◌, ◌⊎◌, ◌↔◌, ◌∷◌, [], Some, IfOk, OnOk, Contains};
 ghost use Rattle.share_graph.specs.declared.facts.Node.{Node};
-ghost use Rattle.share_graph.specs.declared.grants.Need.TheVariants as need;
 ghost use Rattle.share_graph.specs.Coherent.{HasNumbers};
-ghost use Rattle.region_access.specs.Seeds.{IsSeedOfGrant, IsSeedOfOwner, IsNodeOn, IsSeedOfGrain, IsSeedOfAdmin, IsOwnNode, IsSeedOfAccount, IsSeedOf};
+ghost use Rattle.region_access.specs.Seeds.{IsSeedOfGrant, IsSeedOfGrants, IsSeedOfTie, IsSeedOfOwner, IsSeedOfGrain, IsSeedOfAdmin, IsOwnNode, IsSeedOfAccount, IsSeedOf};
+ghost use Rattle.region_access.specs.Ties.{IsTiesOf, tied_in};
 
+use crate::index::Ties;
+use crate::pushing::push_some;
+use crate::tie::Tie;
+use crate::tying::tied_by;
 use host_base::{AccountId, GrainId, GrantId, Memory};
-use share_graph::{Event, Grant, Need, Node, Tables, grain, grant, node_of};
+use share_graph::{Event, Node, Tables, grain, grant, node_of};
 use std::alloc::Global;
 
 // One node alone.
@@ -21,62 +25,32 @@ fn one(alloc: Global, node: Node) -> Result<Vec<Node>, Memory>
     }
 }
 
-// Adds a node, where it is a seed.
-fn push_if(nodes: &mut Vec<Node>, node: Node, is_seed: bool) -> Result<(), Memory>
-    ensures yes { OnOk result (is_seed ≡ true → nodes.new.items ≡ nodes.old.items ++ node ∷ []) }
-    ensures no { OnOk result (is_seed ≡ false → nodes.new.items ≡ nodes.old.items) }
+// The node of a grant, if the grant is there.
+fn node_there(tables: &Tables, num: GrantId) -> Option<Node>
+    ensures { (at : Node) → (result ≡ Some at) ↔ IsSeedOfGrant tables.now num at }
 {
-    if !is_seed {
-        return Ok(());
-    }
-    match nodes.push(node) {
-        Ok(_) => Ok(()),
-        Err(_) => Err(Memory),
+    match grant(tables, num) {
+        Some(row) => Some(node_of(num, row)),
+        None => None,
     }
 }
 
-// Whether a grant is on a grain.
-fn is_on(grant: &Grant, num: GrainId) -> bool
-    ensures { IsTrue result ↔ (grant.now.grain ≡ num) }
+// Adds the nodes of grants.
+fn add_nodes(tables: &Tables, nodes: &mut Vec<Node>, nums: &[GrantId]) -> Result<(), Memory>
+    ensures { OnOk result ((at : Node) → Contains nodes.new.items at ↔ (Contains nodes.old.items at ⊎ IsSeedOfGrants tables.now nums.now at)) }
 {
-    grant.grain == num
-}
-
-// Whether a grant needs an account to be an admin.
-fn needs_admin(grant: &Grant, account: AccountId) -> bool
-    ensures { IsTrue result ↔ Contains grant.now.needs (need.UserIsAdmin account) }
-{
-    grant.needs.as_slice().contains(&Need::UserIsAdmin(account))
-}
-
-// Adds the nodes of a grain's grants.
-fn add_nodes_of_grain(tables: &Tables, nodes: &mut Vec<Node>, num: GrainId) -> Result<(), Memory>
-    requires { HasNumbers tables.now }
-    ensures { OnOk result ((at : Node) → Contains nodes.new.items at ↔ (Contains nodes.old.items at ⊎ IsNodeOn tables.now num at)) }
-{
-    for (place, grant) in tables.grants.as_slice().iter().enumerate() {
-        push_if(
-            nodes,
-            node_of(GrantId(place as u32 + 1), grant),
-            is_on(grant, num),
-        )?;
+    for num in nums {
+        push_some(nodes, node_there(tables, *num))?;
     }
     Ok(())
 }
 
-// Adds the nodes of the grants that need an account to be an admin.
-fn add_needing(tables: &Tables, nodes: &mut Vec<Node>, account: AccountId) -> Result<(), Memory>
-    requires { HasNumbers tables.now }
-    ensures { OnOk result ((at : Node) → Contains nodes.new.items at ↔ (Contains nodes.old.items at ⊎ IsSeedOfAdmin tables.now account at)) }
+// Adds the nodes of the grants that hang on a tie.
+fn add_tied(tables: &Tables, ties: &Ties, nodes: &mut Vec<Node>, on: Tie) -> Result<(), Memory>
+    requires { IsTiesOf tables.now (tied_in ties.now.entries) }
+    ensures { OnOk result ((at : Node) → Contains nodes.new.items at ↔ (Contains nodes.old.items at ⊎ IsSeedOfTie tables.now on at)) }
 {
-    for (place, grant) in tables.grants.as_slice().iter().enumerate() {
-        push_if(
-            nodes,
-            node_of(GrantId(place as u32 + 1), grant),
-            needs_admin(grant, account),
-        )?;
-    }
-    Ok(())
+    add_nodes(tables, nodes, tied_by(ties, on))
 }
 
 // Adds an account's own node on each grain.
@@ -85,7 +59,9 @@ fn add_own(tables: &Tables, nodes: &mut Vec<Node>, account: AccountId) -> Result
     ensures { OnOk result ((at : Node) → Contains nodes.new.items at ↔ (Contains nodes.old.items at ⊎ IsOwnNode tables.now account at)) }
 {
     for (place, _grain) in tables.grains.as_slice().iter().enumerate() {
-        push_if(nodes, Node::User(GrainId(place as u32 + 1), account), true)?;
+        let Ok(_) = nodes.push(Node::User(GrainId(place as u32 + 1), account)) else {
+            return Err(Memory);
+        };
     }
     Ok(())
 }
@@ -94,10 +70,9 @@ fn add_own(tables: &Tables, nodes: &mut Vec<Node>, account: AccountId) -> Result
 fn grant_node(alloc: Global, tables: &Tables, num: GrantId) -> Result<Vec<Node>, Memory>
     ensures { IfOk result (λ nodes. (at : Node) → Contains nodes.items at ↔ IsSeedOfGrant tables.now num at) }
 {
-    match grant(tables, num) {
-        Some(row) => one(alloc, node_of(num, row)),
-        None => Ok(Vec::new(alloc)),
-    }
+    let mut nodes = Vec::new(alloc);
+    push_some(&mut nodes, node_there(tables, num))?;
+    Ok(nodes)
 }
 
 // The owner's node of a grain that is there.
@@ -111,38 +86,60 @@ fn owner_node(alloc: Global, tables: &Tables, num: GrainId) -> Result<Vec<Node>,
 }
 
 // The owner's node of a grain, and the nodes of its grants.
-fn seeds_of_grain(alloc: Global, tables: &Tables, num: GrainId) -> Result<Vec<Node>, Memory>
-    requires { HasNumbers tables.now }
+fn seeds_of_grain(
+    alloc: Global,
+    tables: &Tables,
+    ties: &Ties,
+    num: GrainId,
+) -> Result<Vec<Node>, Memory>
+    requires { IsTiesOf tables.now (tied_in ties.now.entries) }
     ensures { IfOk result (λ nodes. (at : Node) → Contains nodes.items at ↔ IsSeedOfGrain tables.now num at) }
 {
     let mut nodes = owner_node(alloc, tables, num)?;
-    add_nodes_of_grain(tables, &mut nodes, num)?;
+    add_tied(tables, ties, &mut nodes, Tie::Grain(num))?;
     Ok(nodes)
 }
 
 // The nodes of the grants that need an account to be an admin.
-fn seeds_of_admin(alloc: Global, tables: &Tables, account: AccountId) -> Result<Vec<Node>, Memory>
-    requires { HasNumbers tables.now }
+fn seeds_of_admin(
+    alloc: Global,
+    tables: &Tables,
+    ties: &Ties,
+    account: AccountId,
+) -> Result<Vec<Node>, Memory>
+    requires { IsTiesOf tables.now (tied_in ties.now.entries) }
     ensures { IfOk result (λ nodes. (at : Node) → Contains nodes.items at ↔ IsSeedOfAdmin tables.now account at) }
 {
     let mut nodes = Vec::new(alloc);
-    add_needing(tables, &mut nodes, account)?;
+    add_tied(tables, ties, &mut nodes, Tie::Admin(account))?;
     Ok(nodes)
 }
 
 // Those, and the account's own node on each grain.
-fn seeds_of_account(alloc: Global, tables: &Tables, account: AccountId) -> Result<Vec<Node>, Memory>
-    requires { HasNumbers tables.now }
+fn seeds_of_account(
+    alloc: Global,
+    tables: &Tables,
+    ties: &Ties,
+    account: AccountId,
+) -> Result<Vec<Node>, Memory>
+    requires numbers { HasNumbers tables.now }
+    requires ties { IsTiesOf tables.now (tied_in ties.now.entries) }
     ensures { IfOk result (λ nodes. (at : Node) → Contains nodes.items at ↔ IsSeedOfAccount tables.now account at) }
 {
-    let mut nodes = seeds_of_admin(alloc, tables, account)?;
+    let mut nodes = seeds_of_admin(alloc, tables, ties, account)?;
     add_own(tables, &mut nodes, account)?;
     Ok(nodes)
 }
 
-/// The seeds of an event, by the tables before it.
-pub fn seeds_of(alloc: Global, tables: &Tables, event: &Event) -> Result<Vec<Node>, Memory>
-    requires { HasNumbers tables.now }
+/// The seeds of an event, by the tables before it and what their grants hang on.
+pub fn seeds_of(
+    alloc: Global,
+    tables: &Tables,
+    ties: &Ties,
+    event: &Event,
+) -> Result<Vec<Node>, Memory>
+    requires numbers { HasNumbers tables.now }
+    requires ties { IsTiesOf tables.now (tied_in ties.now.entries) }
     ensures { IfOk result (λ nodes. (at : Node) → Contains nodes.items at ↔ IsSeedOf tables.now event.now at) }
 {
     match event {
@@ -150,9 +147,9 @@ pub fn seeds_of(alloc: Global, tables: &Tables, event: &Event) -> Result<Vec<Nod
         Event::GrantAdded(grant) => one(alloc, node_of(grant.num, grant)),
         Event::Claimed(grant, _) => one(alloc, node_of(grant.num, grant)),
         Event::GrantRevoked(num) => grant_node(alloc, tables, *num),
-        Event::TrashedSet(num, _) => seeds_of_grain(alloc, tables, *num),
-        Event::AdminSet(num, _) => seeds_of_admin(alloc, tables, *num),
-        Event::EnabledSet(num, _) => seeds_of_account(alloc, tables, *num),
+        Event::TrashedSet(num, _) => seeds_of_grain(alloc, tables, ties, *num),
+        Event::AdminSet(num, _) => seeds_of_admin(alloc, tables, ties, *num),
+        Event::EnabledSet(num, _) => seeds_of_account(alloc, tables, ties, *num),
         Event::AccountAdded(_)
         | Event::AppAdded(_)
         | Event::SavedAdded(_)

@@ -4,7 +4,7 @@ ghost use Rattle.std.specs.Prelude.{IsTrue};
 
 use crate::fault::NoAnswer;
 use host_base::GrantId;
-use region_access::{arrivals_of, edges_of, seeds_of};
+use region_access::{arrivals_of, edges_of, seeds_of, ties_of};
 use region_work::edges::fed_by;
 use share_graph::{Event, Node, State};
 use state_text::AsNode;
@@ -22,7 +22,8 @@ pub(crate) fn put_seeds(
     if !is_within_limits(&state.tables) {
         return Err(NoAnswer::IllFormed);
     }
-    let seeds = seeds_of(alloc, &state.tables, event)?;
+    let ties = ties_of(alloc, &state.tables)?;
+    let seeds = seeds_of(alloc, &state.tables, &ties, event)?;
     out.push_str("seeds:")?;
     for node in seeds.as_slice() {
         write!(out, " {},", AsNode(*node))?;

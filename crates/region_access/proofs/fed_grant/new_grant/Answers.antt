@@ -30,5 +30,6 @@ returns c = (
               ],
         );
     node = c.node_of.ensures;
+    ties = c.in_ok-ties_of_grant.ensures;
   },
 )

@@ -5,4 +5,4 @@ use Rattle.region_access.proofs.Picked.{PickedBelow}
 use Rattle.region_access.proofs.seeds.add_own.Given as goal
 
 abbrev pub invariant-loop-place : goal.invariant-loop-place
-invariant-loop-place l = PickedBelow l.tables.grains (λ (grain : Grain). Unit {0}) (λ (n : ℕ). λ (grain : Grain). node.User (record { 0 = n }) l.account) l.fn.nodes.items l.nodes.items l.place
+invariant-loop-place l = PickedBelow l.tables.grains (λ (n : ℕ). λ (grain : Grain). node.User (record { 0 = n }) l.account) l.fn.nodes.items l.nodes.items l.place

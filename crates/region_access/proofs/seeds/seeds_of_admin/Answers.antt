@@ -5,7 +5,7 @@ use Rattle.region_access.proofs.seeds.seeds_of_admin.Goals as goal
 
 pub returns : goal.returns
 returns c at =
-    let both = c.in_ok-add_needing.ensures at in (
+    let both = c.in_ok-add_tied.ensures at in (
       λ has.
           elim (both.0 has) [
             | inl before ↦ absurd (contains_none at (subst (λ (xs : List Node). Contains xs at) c.new-nodes.ensures.items before))

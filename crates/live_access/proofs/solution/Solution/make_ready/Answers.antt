@@ -6,6 +6,7 @@ use Rattle.share_graph.specs.History.{after}
 use Rattle.share_graph.proofs.Coherence.{coherent}
 use Rattle.region_work.specs.Fed.{fed_in}
 use Rattle.region_access.specs.Arriving.{IsArrivalsAt}
+use Rattle.region_access.specs.Indexes.{entries_of}
 use Rattle.region_access.specs.Room.{IsRoom}
 use Rattle.live_access.specs.contracts.solution.Solution.{the_view}
 use Rattle.live_access.specs.Kept.{Kept, IsSolvedFor}
@@ -27,20 +28,20 @@ pub returns-in_err-room-clause-err : goal.returns-in_err-room-clause-err
 returns-in_err-room-clause-err g c =
     let t = c.args.state.now.tables in
     let solved = subst (λ (kept : Kept). IsSolvedFor t kept) (sym (ap the_view c.self-inside.view_is ∙ c.self.view_is)) c.requires.solved in
-    on_err c.from_residual-in_err-room.result (same_solved t _ _ c.in_err-room.ensures.err c.in_err-room.ensures.err_edges c.in_err-room.ensures.err_into solved)
+    on_err c.from_residual-in_err-room.result (same_solved t _ _ c.in_err-room.ensures.err c.in_err-room.ensures.err_indexes solved)
 
 pub collect-requires-clause-arrivals : goal.collect-requires-clause-arrivals
 collect-requires-clause-arrivals g c =
     let u : Tables = (after c.args.state.now c.args.event.now).tables in
-    (u, c.in_ok-room.ensures.arrivals_after u (event_adds c.args.state.now c.args.event.now c.in_ok-added.added c.requires.fits c.in_ok-added.ensures))
+    (u, (c.in_ok-room.ensures.indexes_after u (event_adds c.args.state.now c.args.event.now c.in_ok-added.added c.requires.fits c.in_ok-added.ensures)).arrivals)
 
 pub returns-in-Ok-clause-ok : goal.returns-in-Ok-clause-ok
 returns-in-Ok-clause-ok g c =
     let t = c.args.state.now.tables in
     let u : Tables = (after c.args.state.now c.args.event.now).tables in
     let solved = subst (λ (kept : Kept). IsSolvedFor t kept) (sym (ap the_view c.self-inside.view_is ∙ c.self.view_is)) c.requires.solved in
-    let arrivals = c.in_ok-room.ensures.arrivals_after u (event_adds c.args.state.now c.args.event.now c.in_ok-added.added c.requires.fits c.in_ok-added.ensures) in
-    let at = subst (λ (nodes : List Node). IsArrivalsAt nodes (fed_in c.prepare.new.into.entries) c.in-Ok.grants.items) c.as_slice-2.ensures.value c.in-Ok.ensures in
+    let indexes = c.in_ok-room.ensures.indexes_after u (event_adds c.args.state.now c.args.event.now c.in_ok-added.added c.requires.fits c.in_ok-added.ensures) in
+    let at = subst (λ (nodes : List Node). IsArrivalsAt nodes (fed_in c.prepare.new.indexes.arrivals.entries) c.in-Ok.grants.items) c.as_slice-2.ensures.value c.in-Ok.ensures in
     record {
       formed = c.requires.formed;
       fits = c.requires.fits;
@@ -50,9 +51,8 @@ returns-in-Ok-clause-ok g c =
       exact = c.in_ok-seeds.ensures;
       room = subst (λ (seeds : List Node). IsRoom t seeds c.self-inside.inside.0.0.table.entries c.prepare.new.table.entries c.in_ok-room.room) c.as_slice.ensures.value c.in_ok-room.ensures.ok;
       added = c.in_ok-added.ensures;
-      fed = c.in_ok-room.ensures.feeding;
-      into = c.in_ok-room.ensures.arrival;
-      grants = collected u c.in_ok-room.room.nodes.items (fed_in c.prepare.new.into.entries) c.in-Ok.grants.items arrivals at;
+      has_new = c.in_ok-room.ensures.added;
+      grants = collected u c.in_ok-room.room.nodes.items (fed_in c.prepare.new.indexes.arrivals.entries) c.in-Ok.grants.items indexes.arrivals at;
       once = at.once;
     }
 
@@ -62,5 +62,4 @@ returns-clause-err g c =
     let solved = subst (λ (kept : Kept). IsSolvedFor t kept) (sym (ap the_view c.self-inside.view_is ∙ c.self.view_is)) c.requires.solved in
     let room = subst (λ (seeds : List Node). IsRoom t seeds c.self-inside.inside.0.0.table.entries c.prepare.new.table.entries c.in_ok-room.room) c.as_slice.ensures.value c.in_ok-room.ensures.ok in
     same_solved t _ _ (c.take_back.ensures.facts t c.in_ok-seeds.seeds.items c.self-inside.inside.0.0.table.entries room)
-    (c.take_back.ensures.feeding (fed_in c.self-inside.inside.0.1.0.entries) c.in_ok-room.ensures.feeding)
-    (c.take_back.ensures.arrival (fed_in c.self-inside.inside.0.1.1.0.entries) c.in_ok-room.ensures.arrival) solved
+    (c.take_back.ensures.indexes (entries_of c.self-inside.inside.0.1.0) c.in_ok-room.ensures.added) solved

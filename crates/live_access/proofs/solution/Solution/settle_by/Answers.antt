@@ -14,7 +14,7 @@ pub solve_region-requires-clause-index : goal.solve_region-requires-clause-index
 solve_region-requires-clause-index g c =
     let u = g.V.Probe.tables c.args.probe.now in
     let ready = subst (λ (kept : Kept). CanSettle u kept c.args.region) (sym (ap the_view c.self-inside.view_is ∙ c.self.view_is)) (can_settle c.args.self.now c.args.region u c.requires) in
-    ready.index
+    ready.indexes.edges
 
 pub solve_region-requires-clause-grants : goal.solve_region-requires-clause-grants
 solve_region-requires-clause-grants g c =
@@ -33,4 +33,4 @@ pub returns-clause-solved : goal.returns-clause-solved
 returns-clause-solved g c =
     let u = g.V.Probe.tables c.args.probe.now in
     let ready = subst (λ (kept : Kept). CanSettle u kept c.args.region) (sym (ap the_view c.self-inside.view_is ∙ c.self.view_is)) (can_settle c.args.self.now c.args.region u c.requires) in
-    record { solution = c.solve_region.ensures.solution; index = ready.index; arrivals = ready.arrivals }
+    record { solution = c.solve_region.ensures.solution; indexes = ready.indexes }

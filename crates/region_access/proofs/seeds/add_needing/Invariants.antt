@@ -1,9 +1,0 @@
-use Rattle.std.proofs.Common.{Contains}
-use Rattle.share_graph.specs.declared.grants.Grant.{Grant}
-use Rattle.share_graph.specs.declared.grants.Need.TheVariants as need
-use Rattle.region_access.proofs.Everything.{grant_at}
-use Rattle.region_access.proofs.Picked.{PickedBelow}
-use Rattle.region_access.proofs.seeds.add_needing.Given as goal
-
-abbrev pub invariant-loop-place : goal.invariant-loop-place
-invariant-loop-place l = PickedBelow l.tables.grants (λ (grant : Grant). Contains grant.needs (need.UserIsAdmin l.account)) grant_at l.fn.nodes.items l.nodes.items l.place
