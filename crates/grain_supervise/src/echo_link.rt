@@ -5,8 +5,9 @@ ghost use Rattle.grain_supervise.specs.Line.{Line, fresh_line};
 ghost use Rattle.grain_supervise.specs.InMemory.{EchoState, echo_text, echo_answer, echo_back};
 ghost use Rattle.grain_supervise.specs.declared.ask.Ask.{Ask};
 
-use crate::ask::{Ask, put_ask};
+use crate::ask::Ask;
 use crate::link::{AskFault, Link};
+use crate::room::put_in_room;
 use host_base::{Answer, Bytes, CallCount, Fails, GrainId, Memory, RunId};
 use itoa::Buffer;
 use std::alloc::{AllocError, Global};
@@ -122,7 +123,7 @@ impl Link for EchoLink {
             text: kept,
             back,
         };
-        put_ask(&mut self.asked, ask);
+        put_in_room(&mut self.asked, ask);
         if failed {
             Err(AskFault::LinkFailed)
         } else {
