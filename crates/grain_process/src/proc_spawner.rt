@@ -1,8 +1,8 @@
-ghost use Rattle.std.specs.Prelude.{◌≡◌, ◌≤◌, None, IsErrOf};
+ghost use Rattle.std.specs.Prelude.{◌≡◌, ◌<◌, ◌≤◌, length, IfSome};
 ghost use Rattle.host_base.specs.Outside.{Rose};
 ghost use Rattle.grain_supervise.specs.Spawning.{Spawns};
 
-use crate::socket::{is_memory, remove_socket, socket_path};
+use crate::socket::{is_memory, is_socket, remove_socket, socket_path};
 use grain_supervise::{Spawner, StartFault};
 use host_base::{GrainId, RunId};
 use std::alloc::Global;
@@ -18,8 +18,9 @@ const CONNECTIONS: &str = "1000000000";
 /// What a run's program says once it takes connections.
 const READY: &[u8; 6] = b"ready\n";
 
-/// Starts each run as this program itself with the words `grain DIR/run-N.sock 1000000000`, N the run's number, and ends it. What it
-/// starts and stops isn't told. When it is dropped it ends all that still run.
+/// Starts each run as this program itself with the words `grain DIR/run-N.sock 1000000000`, N the run's number, and ends it. A run is
+/// started once that program has said `ready` and its socket is there. What is started and stopped isn't told. When the spawner is
+/// dropped it ends all that still run.
 pub struct ProcSpawner<'a, R: Processes + Files + Alloc> {
     rt: &'a R,
     dir: String,
@@ -36,8 +37,13 @@ impl<'a, R: Processes + Files + Alloc> Model for ProcSpawner<'a, R> {
     ghost view = { λ s. record { faults = s.faults; starts = None; stops = None } };
 }
 
-// Writes the token and a line feed to a child's input, and waits for its line.
-fn greet<P: OpenProcess>(child: &mut Child<P>, token: &[u8]) -> io::Result<()> {
+// Writes the token and a line feed to a child's input, waits for its line, and looks whether its socket is there.
+fn greet<R: Files, P: OpenProcess>(
+    rt: &R,
+    path: &str,
+    child: &mut Child<P>,
+    token: &[u8],
+) -> io::Result<()> {
     if let Some(mut input) = child.stdin.take() {
         input.write_all(token)?;
         input.write_all(b"\n")?;
@@ -46,7 +52,7 @@ fn greet<P: OpenProcess>(child: &mut Child<P>, token: &[u8]) -> io::Result<()> {
     if let Some(output) = &mut child.stdout {
         output.read_exact(&mut line)?;
     }
-    if line == *READY {
+    if line == *READY && is_socket(rt, path) {
         Ok(())
     } else {
         Err(io::Error::from(io::ErrorKind::InvalidData))
@@ -75,7 +81,7 @@ fn launch<R: Processes + Files + Alloc>(
     command.stdout(Stdio::piped());
     command.stderr(Stdio::null());
     let mut child = command.spawn(rt)?;
-    match greet(&mut child, token) {
+    match greet(rt, path, &mut child, token) {
         Ok(()) => Ok(child),
         Err(error) => {
             let _ = end(&mut child);
@@ -85,6 +91,14 @@ fn launch<R: Processes + Files + Alloc>(
     }
 }
 
+// Where a run is among those that run.
+fn place_of<P: OpenProcess>(running: &[(RunId, Child<P>)], run: RunId) -> Option<usize>
+    ensures { IfSome result (λ at. at < length running.now) }
+{
+    running.iter().position(|(number, _)| *number == run)
+}
+
+// A run that is there already isn't started again.
 fn try_start<R: Processes + Files + Alloc>(
     alloc: Global,
     rt: &R,
@@ -93,14 +107,19 @@ fn try_start<R: Processes + Files + Alloc>(
     run: RunId,
     token: &[u8],
 ) -> io::Result<()> {
+    if place_of(running, run).is_some() {
+        return Err(io::Error::from(io::ErrorKind::AlreadyExists));
+    }
     running.reserve(1)?;
     let path = socket_path(alloc, dir, run)?;
     let child = launch(alloc, rt, path.as_str(), token)?;
-    running.push((run, child))?;
-    Ok(())
+    match running.push((run, child)) {
+        Ok(()) => Ok(()),
+        Err(_) => unreachable!(),
+    }
 }
 
-// A run that isn't there has ended.
+// A run that isn't there has ended already.
 fn try_stop<R: Processes + Files + Alloc>(
     alloc: Global,
     rt: &R,
@@ -109,12 +128,9 @@ fn try_stop<R: Processes + Files + Alloc>(
     run: RunId,
 ) -> io::Result<()> {
     let path = socket_path(alloc, dir, run)?;
-    for at in 0..running.len() {
-        if running[at].0 == run {
-            end(&mut running[at].1)?;
-            running.swap_remove(at);
-            break;
-        }
+    if let Some(at) = place_of(running, run) {
+        end(&mut running[at].1)?;
+        running.swap_remove(at);
     }
     remove_socket(rt, path.as_str());
     Ok(())

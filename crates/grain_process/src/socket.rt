@@ -15,11 +15,17 @@ pub fn socket_path(alloc: Global, dir: &str, run: RunId) -> Result<String, Alloc
     format!(in alloc; "{dir}/run-{number}.sock")
 }
 
+/// Whether a socket file is there.
+pub fn is_socket<R: Files>(rt: &R, path: &str) -> bool {
+    match fs::symlink_metadata(rt, path) {
+        Ok(there) => there.file_type().is_socket(),
+        Err(_) => false,
+    }
+}
+
 /// Removes a socket file, if one is there. What isn't a socket is left alone.
 pub fn remove_socket<R: Files>(rt: &R, path: &str) {
-    if let Ok(there) = fs::symlink_metadata(rt, path)
-        && there.file_type().is_socket()
-    {
+    if is_socket(rt, path) {
         let _ = fs::remove_file(rt, path);
     }
 }
