@@ -1,0 +1,3 @@
+pub mod Stated
+pub mod Answering
+pub mod Reading
