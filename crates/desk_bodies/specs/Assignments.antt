@@ -14,9 +14,9 @@ use Rattle.app_manifest.specs.Stated.{only_object}
 use Rattle.desk_bodies.specs.Fields.{stated_or}
 
 -- a set of permissions: a list of at most 64 booleans, which stands for the places at which it has true
-abbrev pub permissions_of : Option Data → Option PermSet
-permissions_of found = do
-  list ← flags_of found
+abbrev pub permissions_of : Data → Option PermSet
+permissions_of d = do
+  list ← flags_of (Some d)
   if nat_le (length list) 64 then Some (set_of list) else None
 
 -- the base of a name: `none` or `all`
@@ -38,8 +38,8 @@ abbrev pub assignment_of : Data → Option Assignment
 assignment_of d = do
   object ← only_object d
   base ← stated_or NoRole base_of (get (codes "base") object)
-  add ← stated_or no_permissions (λ list. permissions_of (Some list)) (get (codes "add") object)
-  remove ← stated_or no_permissions (λ list. permissions_of (Some list)) (get (codes "remove") object)
+  add ← stated_or no_permissions permissions_of (get (codes "add") object)
+  remove ← stated_or no_permissions permissions_of (get (codes "remove") object)
   Some (record { base = base; add = add; remove = remove })
 
 -- the assignment that a missing one counts as: no role, and nothing is added or removed

@@ -33,7 +33,8 @@ holder_of d =
 abbrev pub held_of : Data → Option Need
 held_of d = do
   holder ← holder_of d
-  set ← permissions_of (get (codes "permissions") d)
+  permissions ← get (codes "permissions") d
+  set ← permissions_of permissions
   Some (PermissionsHeld holder set)
 
 -- a need: `token`, `held` or `admin`

@@ -15,26 +15,23 @@ use std::alloc::{AllocError, Global};
 // The most booleans of a list that is taken as a set.
 const SET_LIMIT: u8 = 64;
 
-/// The set of permissions that a field states, or none where it is missing or not of the shape.
-pub(crate) fn permissions_from(
-    alloc: Global,
-    value: Option<&Value>,
-) -> Result<Option<PermSet>, AllocError>
-    ensures { IfOk result (λ found. found ≡ assignments.permissions_of (option_map (λ v. view v.now) value.entry)) }
+/// The set of permissions that a value states, or none where it is not of the shape.
+pub(crate) fn permissions_from(alloc: Global, value: &Value) -> Result<Option<PermSet>, AllocError>
+    ensures { IfOk result (λ found. found ≡ assignments.permissions_of (view value.now)) }
 {
-    let Some(list) = flags_from(alloc, value)? else {
+    let Some(list) = flags_from(alloc, Some(value))? else {
         return Ok(None);
     };
     Ok(PermSet::from_list(&list, SET_LIMIT).ok())
 }
 
-// The same, where a missing field is the empty set.
+// The same of a field, where a missing one is the empty set.
 fn permissions_or_empty(alloc: Global, value: Option<&Value>) -> Result<Option<PermSet>, AllocError>
     ensures { IfOk result (λ found. found
-        ≡ stated_or no_permissions (λ list. assignments.permissions_of (Some list)) (option_map (λ v. view v.now) value.entry)) }
+        ≡ stated_or no_permissions assignments.permissions_of (option_map (λ v. view v.now) value.entry)) }
 {
     match value {
-        Some(value) => permissions_from(alloc, Some(value)),
+        Some(value) => permissions_from(alloc, value),
         None => Ok(Some(PermSet::empty())),
     }
 }
@@ -64,7 +61,7 @@ fn base_from(value: &Value) -> Option<Base>
 }
 
 // The same of a field, where a missing one is no role.
-fn base_or_none(value: Option<&Value>) -> Option<Base>
+fn base_or_no_role(value: Option<&Value>) -> Option<Base>
     ensures { result ≡ stated_or base.NoRole assignments.base_of (option_map (λ v. view v.now) value.entry) }
 {
     match value {
@@ -74,13 +71,13 @@ fn base_or_none(value: Option<&Value>) -> Option<Base>
 }
 
 // The assignment that a value states.
-fn assignment_of(alloc: Global, value: &Value) -> Result<Option<Assignment>, AllocError>
+fn assignment_from(alloc: Global, value: &Value) -> Result<Option<Assignment>, AllocError>
     ensures { IfOk result (λ found. found ≡ assignments.assignment_of (view value.now)) }
 {
     if !value.is_object() {
         return Ok(None);
     }
-    let Some(base) = base_or_none(value.get("base")) else {
+    let Some(base) = base_or_no_role(value.get("base")) else {
         return Ok(None);
     };
     let Some(add) = permissions_or_empty(alloc, value.get("add"))? else {
@@ -93,7 +90,7 @@ fn assignment_of(alloc: Global, value: &Value) -> Result<Option<Assignment>, All
 }
 
 /// The assignment that a field states, which gives no role where the field is missing, or none where it is not of the shape.
-pub(crate) fn assignment_from(
+pub(crate) fn assignment_or_no_role(
     alloc: Global,
     value: Option<&Value>,
 ) -> Result<Option<Assignment>, AllocError>
@@ -101,7 +98,7 @@ pub(crate) fn assignment_from(
         ≡ stated_or assignments.no_assignment assignments.assignment_of (option_map (λ v. view v.now) value.entry)) }
 {
     match value {
-        Some(value) => assignment_of(alloc, value),
+        Some(value) => assignment_from(alloc, value),
         None => Ok(Some(Assignment {
             base: Base::NoRole,
             add: PermSet::empty(),

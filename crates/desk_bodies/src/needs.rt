@@ -38,7 +38,10 @@ fn held_from(alloc: Global, value: &Value) -> Result<Option<Need>, AllocError>
     let Some(holder) = holder_from(value) else {
         return Ok(None);
     };
-    let Some(set) = permissions_from(alloc, value.get("permissions"))? else {
+    let Some(permissions) = value.get("permissions") else {
+        return Ok(None);
+    };
+    let Some(set) = permissions_from(alloc, permissions)? else {
         return Ok(None);
     };
     Ok(Some(Need::PermissionsHeld { holder, set }))
@@ -58,7 +61,7 @@ fn need_from(alloc: Global, value: &Value) -> Result<Option<Need>, AllocError>
 }
 
 // The needs that a value states.
-fn needs_of(alloc: Global, value: &Value) -> Result<Option<Needs>, AllocError>
+fn needs_from(alloc: Global, value: &Value) -> Result<Option<Needs>, AllocError>
     ensures { IfOk result (λ found. found ≡ needs.needs_of (view value.now)) }
 {
     let Some(items) = value.as_array() else {
@@ -75,11 +78,14 @@ fn needs_of(alloc: Global, value: &Value) -> Result<Option<Needs>, AllocError>
 }
 
 /// The needs that a field states, which are none where the field is missing, or nothing where it is not of the shape.
-pub(crate) fn needs_from(alloc: Global, value: Option<&Value>) -> Result<Option<Needs>, AllocError>
+pub(crate) fn needs_or_empty(
+    alloc: Global,
+    value: Option<&Value>,
+) -> Result<Option<Needs>, AllocError>
     ensures { IfOk result (λ found. found ≡ stated_or [] needs.needs_of (option_map (λ v. view v.now) value.entry)) }
 {
     match value {
-        Some(value) => needs_of(alloc, value),
+        Some(value) => needs_from(alloc, value),
         None => Ok(Some(Needs::empty(alloc))),
     }
 }

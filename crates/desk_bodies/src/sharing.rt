@@ -3,10 +3,10 @@
 ghost use Rattle.desk_bodies.specs.Answers.{Answers};
 ghost use Rattle.desk_bodies.specs.Bodies.{child_body, redeem_body, share_body, token_body};
 
-use crate::assignments::assignment_from;
+use crate::assignments::assignment_or_no_role;
 use crate::fault::BodyFault;
 use crate::fields::{account_from, mark_from, token_from};
-use crate::needs::needs_from;
+use crate::needs::needs_or_empty;
 use crate::object::{object_from, text_of};
 use host_base::{AccountId, Digest};
 use perm_roles::Assignment;
@@ -46,10 +46,10 @@ pub fn share_fields(alloc: Global, body: &[u8]) -> Result<ShareFields, BodyFault
     let Some(to) = account_from(object.get("to")) else {
         return Err(BodyFault::BadBody(1));
     };
-    let Some(assignment) = assignment_from(alloc, object.get("assignment"))? else {
+    let Some(assignment) = assignment_or_no_role(alloc, object.get("assignment"))? else {
         return Err(BodyFault::BadBody(2));
     };
-    let Some(needs) = needs_from(alloc, object.get("needs"))? else {
+    let Some(needs) = needs_or_empty(alloc, object.get("needs"))? else {
         return Err(BodyFault::BadBody(3));
     };
     Ok(ShareFields {
@@ -66,10 +66,10 @@ pub fn token_fields(alloc: Global, body: &[u8]) -> Result<TokenFields, BodyFault
     let Some(object) = object_from(alloc, text_of(body))? else {
         return Err(BodyFault::BadBody(0));
     };
-    let Some(assignment) = assignment_from(alloc, object.get("assignment"))? else {
+    let Some(assignment) = assignment_or_no_role(alloc, object.get("assignment"))? else {
         return Err(BodyFault::BadBody(1));
     };
-    let Some(needs) = needs_from(alloc, object.get("needs"))? else {
+    let Some(needs) = needs_or_empty(alloc, object.get("needs"))? else {
         return Err(BodyFault::BadBody(2));
     };
     Ok(TokenFields { assignment, needs })
@@ -86,10 +86,10 @@ pub fn child_fields(alloc: Global, body: &[u8]) -> Result<ChildFields, BodyFault
     let Some(for_sharing) = mark_from(object.get("for_sharing")) else {
         return Err(BodyFault::BadBody(1));
     };
-    let Some(assignment) = assignment_from(alloc, object.get("assignment"))? else {
+    let Some(assignment) = assignment_or_no_role(alloc, object.get("assignment"))? else {
         return Err(BodyFault::BadBody(2));
     };
-    let Some(needs) = needs_from(alloc, object.get("needs"))? else {
+    let Some(needs) = needs_or_empty(alloc, object.get("needs"))? else {
         return Err(BodyFault::BadBody(3));
     };
     Ok(ChildFields {

@@ -2,7 +2,7 @@ use Rattle.std.proofs.Common.{◌≡◌, Some, take}
 use Rattle.serde_json.specs.View.{items_view}
 use Rattle.app_manifest.specs.Fields.{each_of}
 use Rattle.desk_bodies.specs.Needs.{need_of}
-use Rattle.desk_bodies.proofs.needs.needs_of.Given as goal
+use Rattle.desk_bodies.proofs.needs.needs_from.Given as goal
 
 abbrev pub invariant-loop-item : goal.invariant-loop-item
 invariant-loop-item l =

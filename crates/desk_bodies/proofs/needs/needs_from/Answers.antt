@@ -3,7 +3,7 @@ use Rattle.serde_json.specs.View.{view, items_view}
 use Rattle.app_manifest.specs.Fields.{each_of}
 use Rattle.app_manifest.proofs.Listed.{each_of_more, each_of_none}
 use Rattle.desk_bodies.specs.Needs.{need_of}
-use Rattle.desk_bodies.proofs.needs.needs_of.Goals as goal
+use Rattle.desk_bodies.proofs.needs.needs_from.Goals as goal
 
 pub returns-in_default-2 : goal.returns-in_default-2
 returns-in_default-2 c =
