@@ -1,5 +1,6 @@
 -- THE BODIES of the desk's routes. Each definition reads like its row of the table of routes: the object, and its fields in their
--- order. Further keys are ignored, and of a key that stands twice the last value counts, as `serde_json` reads objects.
+-- order, where one with `?` may be missing. Further keys are ignored, and of a key that stands twice the last value counts, as
+-- `serde_json` reads objects.
 use Rattle.std.specs.Prelude.{ℕ, ⊤, Bool, List, [], ◌∷◌, codes, Option, Result, Ok, Err}
 use Rattle.serde_json.specs.Data.{Data}
 use Rattle.serde_json.specs.Find.{get}

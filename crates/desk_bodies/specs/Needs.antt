@@ -12,7 +12,7 @@ use Rattle.app_manifest.specs.Fields.{◌>>=◌, list_of}
 use Rattle.desk_bodies.specs.Fields.{account_of, grain_of, grant_of}
 use Rattle.desk_bodies.specs.Assignments.{permissions_of}
 
--- the shape of the value under a key, where the object has the key; else what the object states without
+-- what the value under a key states, where the object has the key; else what the rest of it says
 abbrev pub by_key : {A : Type 0} → List ℕ → Data → (Data → Option A) → Option A → Option A
 by_key key d shape rest = option_map_or shape (get key d) rest
 
