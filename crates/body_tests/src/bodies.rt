@@ -1,5 +1,6 @@
 //! What bodies state.
 
+use crate::shares::{told_child, told_redeem, told_share, told_tab, told_token};
 use desk_bodies::{account_fields, grain_fields, manifest_field, mark_field, no_fields};
 use std::alloc::{AllocError, Global};
 
@@ -61,6 +62,11 @@ pub fn told(alloc: Global, route: &str, body: &[u8]) -> Result<String, AllocErro
         "grain" => told_grain(alloc, body),
         "app" => told_app(alloc, body),
         "none" => told_none(alloc, body),
+        "tab" => told_tab(alloc, body),
+        "share" => told_share(alloc, body),
+        "token" => told_token(alloc, body),
+        "child" => told_child(alloc, body),
+        "redeem" => told_redeem(alloc, body),
         _ => String::from_str(alloc, "no such route"),
     }
 }

@@ -2,7 +2,8 @@
 //! own, to the byte.
 //!
 //! ```text
-//! ROUTE BODY            what a body of a route states; ROUTE is account, mark, app, grain or none
+//! ROUTE BODY            what a body of a route states; ROUTE is account, mark, app, grain, none, tab, share, token, child or
+//!                       redeem
 //! hex ROUTE BYTES       the same of a body that is written in hexadecimal digits
 //! denied NAME N N       the answer to a denial of that name with these numbers; the same as a refusal has to be equal
 //! refused NAME N N      the answer to a command that is refused
@@ -12,13 +13,15 @@
 //! head WORD ..          the head alone of an answer of the last four words but `framed`
 //! ```
 //!
-//! A kind of row is written by its number, and a manifest's fault by its number and its argument.
+//! What is given and its needs are written in the words of `state_text`, and nothing is left out. A kind of row is written by its
+//! number, and a manifest's fault by its number and its argument.
 #![tactic(auto)]
 
 mod bodies;
 mod making;
 mod naming;
 mod replies;
+mod shares;
 
 use crate::bodies::{told, told_of_hex};
 use crate::replies::replied;
@@ -28,7 +31,16 @@ use std::io;
 // What a line of the input gives.
 fn played(alloc: Global, word: &str, rest: &str) -> Result<String, AllocError> {
     match word {
-        "account" | "mark" | "app" | "grain" | "none" => told(alloc, word, rest.as_bytes()),
+        "account"
+        | "mark"
+        | "app"
+        | "grain"
+        | "none"
+        | "tab"
+        | "share"
+        | "token"
+        | "child"
+        | "redeem" => told(alloc, word, rest.as_bytes()),
         "hex" => {
             let (route, digits) = rest.split_once(' ').unwrap_or((rest, ""));
             told_of_hex(alloc, route, digits)

@@ -1,8 +1,10 @@
 -- THE BODIES of the desk's routes. Each definition reads like its row of the table of routes: the object, and its fields in their
--- order. Further keys are ignored, and of a key that stands twice the last value counts, as `serde_json` reads objects.
-use Rattle.std.specs.Prelude.{ℕ, ⊤, Bool, List, [], ◌∷◌, codes, Result, Ok, Err}
+-- order, where one with `?` may be missing. Further keys are ignored, and of a key that stands twice the last value counts, as
+-- `serde_json` reads objects.
+use Rattle.std.specs.Prelude.{ℕ, ⊤, Bool, List, [], ◌∷◌, codes, Option, Result, Ok, Err}
 use Rattle.serde_json.specs.Data.{Data}
 use Rattle.serde_json.specs.Find.{get}
+use Rattle.host_base.specs.declared.digest.Digest.{Digest}
 use Rattle.app_manifest.specs.declared.manifest.Manifest.{Manifest as AppManifest}
 use Rattle.app_manifest.specs.declared.fault.ManifestFault.{ManifestFault}
 use Rattle.app_manifest.specs.Stated.{object_of, stated_manifest}
@@ -10,8 +12,13 @@ use Rattle.desk_bodies.specs.declared.bodies.AccountFields.{AccountFields}
 use Rattle.desk_bodies.specs.declared.bodies.GrainFields.{GrainFields}
 use Rattle.desk_bodies.specs.declared.fault.BodyFault.{BodyFault}
 use Rattle.desk_bodies.specs.declared.fault.BodyFault.TheVariants.{Manifest}
+use Rattle.desk_bodies.specs.declared.sharing.ChildFields.{ChildFields}
+use Rattle.desk_bodies.specs.declared.sharing.ShareFields.{ShareFields}
+use Rattle.desk_bodies.specs.declared.sharing.TokenFields.{TokenFields}
 use Rattle.desk_bodies.specs.Answers.{field}
-use Rattle.desk_bodies.specs.Fields.{name_of, handle_of, mark_of, app_of}
+use Rattle.desk_bodies.specs.Fields.{stated_or, name_of, handle_of, mark_of, token_of, tab_of, account_of, app_of}
+use Rattle.desk_bodies.specs.Assignments.{assignment_of, no_assignment}
+use Rattle.desk_bodies.specs.Needs.{needs_of}
 
 -- the text that a body is read as: an empty body counts as `{}`
 abbrev pub text_of : List ℕ → List ℕ
@@ -48,6 +55,46 @@ grain_body body =
 -- /grains/{n}/trash, /grains/{n}/untrash and the like: no field
 abbrev pub plain_body : List ℕ → Result ⊤ BodyFault
 plain_body body = in_object body λ object. Ok tt
+
+-- /grains/{n}/share: 1 to, 2 assignment?, 3 needs?
+abbrev pub share_body : List ℕ → Result ShareFields BodyFault
+share_body body =
+    in_object body λ object.
+    field 1 (account_of (get (codes "to") object)) λ to.
+    field 2 (stated_or no_assignment assignment_of (get (codes "assignment") object)) λ assignment.
+    field 3 (stated_or [] needs_of (get (codes "needs") object)) λ needs.
+    Ok (record { to = to; assignment = assignment; needs = needs })
+
+-- /grains/{n}/link and /grains/{n}/token: 1 assignment?, 2 needs?
+abbrev pub token_body : List ℕ → Result TokenFields BodyFault
+token_body body =
+    in_object body λ object.
+    field 1 (stated_or no_assignment assignment_of (get (codes "assignment") object)) λ assignment.
+    field 2 (stated_or [] needs_of (get (codes "needs") object)) λ needs.
+    Ok (record { assignment = assignment; needs = needs })
+
+-- /child: 1 for_sharing, 2 assignment?, 3 needs?
+abbrev pub child_body : List ℕ → Result ChildFields BodyFault
+child_body body =
+    in_object body λ object.
+    field 1 (mark_of (get (codes "for_sharing") object)) λ for_sharing.
+    field 2 (stated_or no_assignment assignment_of (get (codes "assignment") object)) λ assignment.
+    field 3 (stated_or [] needs_of (get (codes "needs") object)) λ needs.
+    Ok (record { for_sharing = for_sharing; assignment = assignment; needs = needs })
+
+-- /redeem: 1 token
+abbrev pub redeem_body : List ℕ → Result Digest BodyFault
+redeem_body body =
+    in_object body λ object.
+    field 1 (token_of (get (codes "token") object)) λ token.
+    Ok token
+
+-- /grains/{n}/open and /open: 1 tab?
+abbrev pub tab_body : List ℕ → Result (Option ℕ) BodyFault
+tab_body body =
+    in_object body λ object.
+    field 1 (tab_of (get (codes "tab") object)) λ tab.
+    Ok tab
 
 -- a manifest, or its fault as the fault of a body
 abbrev pub or_fault : Result AppManifest ManifestFault → Result AppManifest BodyFault

@@ -1,3 +1,5 @@
 pub mod Answers
 pub mod Fields
+pub mod Assignments
+pub mod Needs
 pub mod Bodies

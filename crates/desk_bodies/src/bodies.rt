@@ -4,10 +4,10 @@ ghost use Rattle.std.specs.Prelude.{◌≡◌, true, IfOk};
 ghost use Rattle.share_graph.specs.Fitting.{IsSoundManifest};
 ghost use Rattle.share_graph.specs.Fresh.{is_handle};
 ghost use Rattle.desk_bodies.specs.Answers.{Answers};
-ghost use Rattle.desk_bodies.specs.Bodies.{account_body, grain_body, manifest_body, mark_body, plain_body};
+ghost use Rattle.desk_bodies.specs.Bodies.{account_body, grain_body, manifest_body, mark_body, plain_body, tab_body};
 
 use crate::fault::BodyFault;
-use crate::fields::{app_from, handle_from, mark_from, name_from};
+use crate::fields::{app_from, handle_from, mark_from, name_from, tab_from};
 use crate::object::{object_from, text_of};
 use app_manifest::{Manifest, ManifestError, manifest_from};
 use host_base::AppId;
@@ -72,6 +72,19 @@ pub fn grain_fields(alloc: Global, body: &[u8]) -> Result<GrainFields, BodyFault
         return Err(BodyFault::BadBody(2));
     };
     Ok(GrainFields { app, title })
+}
+
+/// The tab to open for, or none where the body names none.
+pub fn tab_field(alloc: Global, body: &[u8]) -> Result<Option<u64>, BodyFault>
+    ensures stated { Answers (tab_body body.now) result }
+{
+    let Some(object) = object_from(alloc, text_of(body))? else {
+        return Err(BodyFault::BadBody(0));
+    };
+    let Some(tab) = tab_from(object.get("tab")) else {
+        return Err(BodyFault::BadBody(1));
+    };
+    Ok(tab)
 }
 
 /// Nothing: the body only has to be an object.

@@ -6,7 +6,7 @@ ghost use Rattle.share_graph.specs.Fresh.{is_handle};
 ghost use Rattle.desk_bodies.specs.Fields as fields;
 
 use app_manifest::title_from;
-use host_base::AppId;
+use host_base::{AccountId, AppId, Digest, GrainId, GrantId, digest_of};
 use plain_data::Name;
 use serde_json::Value;
 use std::alloc::{AllocError, Global};
@@ -37,6 +37,24 @@ pub(crate) fn mark_from(value: Option<&Value>) -> Option<bool>
     value?.as_bool()
 }
 
+/// The digest of the token that a field states, or none where it is missing or not of the shape.
+pub(crate) fn token_from(value: Option<&Value>) -> Option<Digest>
+    ensures { result ≡ fields.token_of (option_map (λ v. view v.now) value.entry) }
+{
+    let token = value?.as_str()?;
+    Some(digest_of(token.as_bytes()))
+}
+
+/// The tab that a field states or that isn't named where it is missing, or none where it is not of the shape.
+pub(crate) fn tab_from(value: Option<&Value>) -> Option<Option<u64>>
+    ensures { result ≡ fields.tab_of (option_map (λ v. view v.now) value.entry) }
+{
+    match value {
+        Some(value) => Some(Some(value.as_u64()?)),
+        None => Some(None),
+    }
+}
+
 /// The number of 32 bits that a field states, or none where it is missing or not of the shape.
 pub(crate) fn number_from(value: Option<&Value>) -> Option<u32>
     ensures { result ≡ fields.number_of (option_map (λ v. view v.now) value.entry) }
@@ -45,10 +63,34 @@ pub(crate) fn number_from(value: Option<&Value>) -> Option<u32>
     u32::try_from(number).ok()
 }
 
+/// The number of an account that a field states, or none where it is missing or not of the shape.
+pub(crate) fn account_from(value: Option<&Value>) -> Option<AccountId>
+    ensures { result ≡ fields.account_of (option_map (λ v. view v.now) value.entry) }
+{
+    let number = number_from(value)?;
+    Some(AccountId(number))
+}
+
 /// The number of an application that a field states, or none where it is missing or not of the shape.
 pub(crate) fn app_from(value: Option<&Value>) -> Option<AppId>
     ensures { result ≡ fields.app_of (option_map (λ v. view v.now) value.entry) }
 {
     let number = number_from(value)?;
     Some(AppId(number))
+}
+
+/// The number of a grain that a field states, or none where it is missing or not of the shape.
+pub(crate) fn grain_from(value: Option<&Value>) -> Option<GrainId>
+    ensures { result ≡ fields.grain_of (option_map (λ v. view v.now) value.entry) }
+{
+    let number = number_from(value)?;
+    Some(GrainId(number))
+}
+
+/// The number of a grant that a field states, or none where it is missing or not of the shape.
+pub(crate) fn grant_from(value: Option<&Value>) -> Option<GrantId>
+    ensures { result ≡ fields.grant_of (option_map (λ v. view v.now) value.entry) }
+{
+    let number = number_from(value)?;
+    Some(GrantId(number))
 }
