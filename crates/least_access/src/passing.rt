@@ -17,7 +17,7 @@ use crate::needs::are_met;
 use crate::table::{Table, holding};
 use app_manifest::Manifest;
 use host_base::GrantId;
-use perm_roles::{Assignment, PermSet, granted};
+use perm_roles::{Assignment, PermSet};
 use share_graph::{Grant, Node, Tables, app_of, is_kept, may_receive, source_of};
 
 // What an assignment gives by a manifest that it fits.
@@ -27,10 +27,7 @@ fn given_by(manifest: &Manifest, assignment: &Assignment) -> PermSet
     ensures { (p : ℕ) → Has result p ↔ AssignmentGives manifest.now.roles (length manifest.now.permissions) assignment.now p }
 {
     let count = manifest.permissions.as_slice().len() as u8;
-    match granted(manifest.roles.as_slice(), count, assignment) {
-        Ok(set) => set,
-        Err(_) => unreachable!(),
-    }
+    perm_roles::given(manifest.roles.as_slice(), count, assignment)
 }
 
 // The permissions that a grant gives.

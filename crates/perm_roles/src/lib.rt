@@ -5,4 +5,4 @@ mod perm_set;
 mod roles;
 
 pub use perm_set::PermSet;
-pub use roles::{Assignment, Base, Role, RoleFault, granted, is_listed, named_role};
+pub use roles::{Assignment, Base, Role, RoleFault, given, granted, is_listed, named_role};

@@ -123,6 +123,18 @@ pub fn granted(roles: &[Role], count: u8, assignment: &Assignment) -> Result<Per
     Ok(assignment.applied_to(&base))
 }
 
+/// The permissions that an assignment gives, where the roles, the count and the assignment have no fault. It looks at no role but the one that
+/// the base names, or the default one.
+pub fn given(roles: &[Role], count: u8, assignment: &Assignment) -> PermSet
+    requires { HasNoFault roles.now count assignment.now }
+    ensures { (p : ℕ) → Has result p ↔ Gives roles.now count assignment.now p }
+{
+    match base_set(roles, count, assignment.base) {
+        Ok(base) => assignment.applied_to(&base),
+        Err(_) => unreachable!(),
+    }
+}
+
 fn sets_fit(roles: &[Role], count: u8, assignment: &Assignment) -> bool
     ensures { IsTrue result ↔ SetsFit roles.now count assignment.now }
 {
