@@ -19,8 +19,8 @@ use host_base::{Denial, GrainId};
 use least_access::Solved;
 use share_graph::{Caller, Grant, Node, Refusal, Root, State, Tables, by_bearer_token, by_login};
 
-// Whether a node holds entry.
-fn has_entry(tables: &Tables, solved: &Solved, node: Node) -> Result<(), Refusal>
+/// Whether a node holds entry; else the first step that is missing for it.
+pub fn has_entry(tables: &Tables, solved: &Solved, node: Node) -> Result<(), Refusal>
     requires solution { IsSolutionOf tables.now solved.now }
     requires checked { IsChecked tables.now }
     requires there { IsNode tables.now node }
@@ -32,8 +32,8 @@ fn has_entry(tables: &Tables, solved: &Solved, node: Node) -> Result<(), Refusal
     }
 }
 
-// The grant whose token the caller bears, which holds entry.
-fn caller_grant<'a>(
+/// The grant whose token the caller bears, which holds entry.
+pub fn caller_grant<'a>(
     state: &'a State,
     solved: &Solved,
     caller: &Caller,

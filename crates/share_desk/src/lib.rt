@@ -1,7 +1,6 @@
 //! The desk of shares: what becomes of a command on shares, links and tokens.
 #![tactic(auto)]
 
-mod access;
 mod needs;
 mod redeeming;
 mod revoking;
@@ -10,7 +9,6 @@ mod room;
 mod sharing;
 mod tokens;
 
-pub use access::{caller_grant, has_entry};
 pub use needs::{copy_of_needs, good_needs};
 pub use redeeming::redeem;
 pub use revoking::revoke;

@@ -10,12 +10,12 @@ ghost use Rattle.desk_base.specs.Outcomes.{Checks, IsCarried};
 ghost use Rattle.share_desk.specs.Commands.{Redeem, redeem_step};
 ghost use Rattle.share_desk.specs.Rows.{IsShareFrom, all_access as the_all_access};
 
-use crate::access::has_entry;
 use crate::room::has_grant_room;
 use desk_base::{NOTHING, Stop, caller_account};
 use host_base::{AccountId, Denial, Digest, GrainId, GrantId};
 use least_access::Solved;
 use perm_roles::{Assignment, Base, PermSet};
+use session_desk::has_entry;
 use share_graph::{
     Caller, DeskFault, Event, Giver, Grant, Made, Needs, Node, Outcome, Refusal, Rows, State,
     Target, by_bearer_token,

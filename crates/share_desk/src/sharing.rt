@@ -7,7 +7,6 @@ ghost use Rattle.desk_base.specs.Fitting.{RowFits};
 ghost use Rattle.desk_base.specs.Outcomes.{Checks, IsCarried};
 ghost use Rattle.share_desk.specs.Commands.{Share, share_step};
 
-use crate::access::has_entry;
 use crate::needs::{copy_of_needs, good_needs};
 use crate::roles::given_role;
 use crate::room::has_grant_room;
@@ -15,6 +14,7 @@ use desk_base::{NOTHING, Stop, caller_account, known_account, known_grain};
 use host_base::{AccountId, GrainId, GrantId};
 use least_access::Solved;
 use perm_roles::Assignment;
+use session_desk::has_entry;
 use share_graph::{
     Caller, DeskFault, Event, Giver, Grant, Made, Needs, Node, Outcome, Refusal, State, Target,
 };

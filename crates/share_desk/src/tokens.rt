@@ -7,7 +7,6 @@ ghost use Rattle.desk_base.specs.Fitting.{RowFits};
 ghost use Rattle.desk_base.specs.Outcomes.{Checks, IsReady, IsCarriedAt};
 ghost use Rattle.share_desk.specs.Commands.{MakeToken, token_step, Child, child_step};
 
-use crate::access::{caller_grant, has_entry};
 use crate::needs::{copy_of_needs, good_needs};
 use crate::roles::given_role;
 use crate::room::has_grant_room;
@@ -15,6 +14,7 @@ use desk_base::{NOTHING, Stop, caller_account, known_grain};
 use host_base::{AccountId, Digest, GrainId, GrantId};
 use least_access::Solved;
 use perm_roles::Assignment;
+use session_desk::{caller_grant, has_entry};
 use share_graph::{
     Caller, DeskFault, Event, Giver, Grant, Made, Needs, Node, Outcome, Readiness, Refusal, State,
     Target, clash,
