@@ -16,6 +16,7 @@ mod target;
 mod texts;
 
 pub use fault::FrontFault;
+pub use number::path_number;
 pub use reader::RequestReader;
 pub use refusal::Refusal;
 pub use route::Route;

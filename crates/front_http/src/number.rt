@@ -27,7 +27,7 @@ pub fn number_within(digits: &[u8], most: usize) -> Option<usize>
     Some(number)
 }
 
-/// The number of a path's digits.
+/// The number that 1 to 10 decimal digits say, leading zeros among them, if it is one of 32 bits.
 pub fn path_number(digits: &[u8]) -> Option<u32>
     ensures found { IfSome result (λ n. IsNumber digits.now n) }
     ensures whole { (n : ℕ) → IsNumber digits.now n → result ≡ Some n }
