@@ -1,5 +1,5 @@
 -- What holds of the commands holds of orders: one line a command, and nothing above speaks of commands.
-use Rattle.std.proofs.Common.{◌≡◌, ℕ, Option, Some, None, true, false, sym, subst}
+use Rattle.std.proofs.Common.{ℕ, Option, Some, None, true, false, sym, subst}
 use Rattle.host_base.specs.declared.digest.Digest.{Digest}
 use Rattle.share_graph.specs.declared.desk.Caller.{Caller}
 use Rattle.share_graph.specs.declared.desk.Made.{Made}
@@ -13,12 +13,16 @@ use Rattle.desk_base.specs.Fitting.{RowFits}
 use Rattle.desk_base.specs.Steps.{Step, Plain, Drawn}
 use Rattle.account_desk.proofs.OneRows.{add_account_one, set_admin_one, set_enabled_one, add_app_one, new_grain_one, trash_one}
 use Rattle.account_desk.proofs.FitRows.{add_account_fits, set_admin_fits, set_enabled_fits, add_app_fits, new_grain_fits, trash_fits}
+use Rattle.session_desk.proofs.OneRows.{start_run_one, stop_run_one, open_session_one, close_session_one}
+use Rattle.session_desk.proofs.FitRows.{start_run_fits, stop_run_fits, open_session_fits, close_session_fits}
+use Rattle.share_desk.proofs.OneRows.{share_one, make_token_one, child_one, redeem_one, revoke_one}
+use Rattle.share_desk.proofs.FitRows.{share_fits, make_token_fits, child_fits, redeem_fits, revoke_fits}
 use Rattle.desk_orders.specs.declared.order.Command.{Command}
 use Rattle.desk_orders.specs.declared.order.Command.TheVariants as command
 use Rattle.desk_orders.specs.Commands.{Asked, IsStated}
 use Rattle.desk_orders.specs.Orders.{RowBy, RowOf}
 
-one_by : (s : State) → IsWellFormed s → (who : Caller) (c : Command) → IsOne (RowBy s who c)
+pub one_by : (s : State) → IsWellFormed s → (who : Caller) (c : Command) → IsOne (RowBy s who c)
 one_by s formed who (command.AddAccount handle name) = add_account_one s formed who handle name
 one_by s formed who (command.SetAdmin a on) = set_admin_one s formed who a on
 one_by s formed who (command.SetEnabled a on) = set_enabled_one s formed who a on
@@ -26,21 +30,39 @@ one_by s formed who (command.AddApp manifest) = add_app_one s formed who manifes
 one_by s formed who (command.NewGrain app title) = new_grain_one s formed who app title
 one_by s formed who (command.Trash n) = trash_one s formed who n true
 one_by s formed who (command.Untrash n) = trash_one s formed who n false
+one_by s formed who (command.Share n to assignment needs) = share_one s formed who n to assignment needs
+one_by s formed who (command.MakeToken n for_sharing assignment needs) = make_token_one s formed who n for_sharing assignment needs
+one_by s formed who (command.Child for_sharing assignment needs) = child_one s formed who for_sharing assignment needs
+one_by s formed who (command.Redeem token) = redeem_one s formed who token
+one_by s formed who (command.Revoke g) = revoke_one s formed who g
+one_by s formed who (command.StartRun n) = start_run_one s formed who n
+one_by s formed who (command.StopRun n) = stop_run_one s formed who n
+one_by s formed who (command.OpenSession n tab) = open_session_one s formed who n tab
+one_by s formed who (command.CloseSession n) = close_session_one s formed who n
 
 pub order_one : (s : State) → IsWellFormed s → (order : Asked) → IsOne (RowOf s order)
 unfolding RowOf
 order_one s formed order = one_by s formed order.caller order.command
 
-fits_by : (s : State) → IsWellFormed s → (who : Caller) (c : Command) → IsStated c → RowFits s (RowBy s who c)
-fits_by s formed who (command.AddAccount handle name) stated = add_account_fits s formed who handle name stated
+pub fits_by : (s : State) → IsWellFormed s → (who : Caller) (c : Command) → IsStated who c → RowFits s (RowBy s who c)
+fits_by s formed who (command.AddAccount handle name) stated = add_account_fits s formed who handle name stated.1
 fits_by s formed who (command.SetAdmin a on) stated = set_admin_fits s formed who a on
 fits_by s formed who (command.SetEnabled a on) stated = set_enabled_fits s formed who a on
-fits_by s formed who (command.AddApp manifest) stated = add_app_fits s formed who manifest stated
+fits_by s formed who (command.AddApp manifest) stated = add_app_fits s formed who manifest stated.1
 fits_by s formed who (command.NewGrain app title) stated = new_grain_fits s formed who app title
 fits_by s formed who (command.Trash n) stated = trash_fits s formed who n true
 fits_by s formed who (command.Untrash n) stated = trash_fits s formed who n false
+fits_by s formed who (command.Share n to assignment needs) stated = share_fits s formed who n to assignment needs
+fits_by s formed who (command.MakeToken n for_sharing assignment needs) stated = make_token_fits s formed who n for_sharing assignment needs
+fits_by s formed who (command.Child for_sharing assignment needs) stated = child_fits s formed who for_sharing assignment needs
+fits_by s formed who (command.Redeem token) stated = redeem_fits s formed who token
+fits_by s formed who (command.Revoke g) stated = revoke_fits s formed who g
+fits_by s formed who (command.StartRun n) stated = start_run_fits s formed who n
+fits_by s formed who (command.StopRun n) stated = stop_run_fits s formed who n
+fits_by s formed who (command.OpenSession n tab) stated = open_session_fits s formed who n tab
+fits_by s formed who (command.CloseSession n) stated = close_session_fits s formed who n
 
-pub order_fits : (s : State) → IsWellFormed s → (order : Asked) → IsStated order.command → RowFits s (RowOf s order)
+pub order_fits : (s : State) → IsWellFormed s → (order : Asked) → IsStated order.caller order.command → RowFits s (RowOf s order)
 unfolding RowOf
 order_fits s formed order stated = fits_by s formed order.caller order.command stated
 

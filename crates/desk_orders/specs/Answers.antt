@@ -6,14 +6,15 @@ use Rattle.share_graph.specs.declared.event.Event.TheVariants as event
 use Rattle.share_graph.specs.declared.refusal.Refusal.{Refusal}
 use Rattle.share_graph.specs.declared.state.State.{State}
 use Rattle.desk_base.specs.Accepting.{Ready, WantsSecret, Accepts, IsRefusal}
-use Rattle.desk_base.specs.Steps.{Step, Keeps}
-use Rattle.desk_orders.specs.Commands.{Asked}
+use Rattle.desk_base.specs.Steps.{Keeps}
+use Rattle.desk_orders.specs.declared.order.Command.{Command}
+use Rattle.desk_orders.specs.Commands.{Asked, secret_use}
 use Rattle.desk_orders.specs.declared.reply.OrderFault.{OrderFault}
 use Rattle.desk_orders.specs.declared.reply.OrderFault.TheVariants as fault
 use Rattle.desk_orders.specs.declared.reply.Reply.{Reply}
 use Rattle.desk_orders.specs.declared.reply.Reply.TheVariants as reply
 use Rattle.desk_orders.specs.Orders.{RowOf}
-use Rattle.desk_orders.specs.Secrets.{secret_text, text_digest}
+use Rattle.desk_orders.specs.Secrets.{secret_text, shown_by, text_digest}
 
 -- the event starts a run or stops one: then it is the spawner's to do
 abbrev pub IsOfRuns : Event → Type 0
@@ -30,34 +31,31 @@ IsOfTables (event.SessionClosed n) = ⊥
 IsOfTables (event.HandleMade handle) = ⊥
 IsOfTables _ = Unit {0}
 
--- The change is accepted, with the secrets that were drawn for it: none, or the one whose text has its digest.
-abbrev pub AcceptsWith : State → ℕ → (Step → Type 0) → List (List ℕ) → Event → Made → Type 0
-AcceptsWith s n Row [] e made = Accepts s n None Row e made
-AcceptsWith s n Row (secret ∷ []) e made = Accepts s n (Some (text_digest (secret_text secret))) Row e made
-AcceptsWith s n Row (secret ∷ more ∷ rest) e made = ⊥
+-- The change is accepted, with the secrets that were drawn for the order: none, or the one whose text has its digest.
+abbrev pub AcceptsWith : State → ℕ → Asked → List (List ℕ) → Event → Made → Type 0
+AcceptsWith s n order [] e made = Accepts s n None (RowOf s order) e made
+AcceptsWith s n order (secret ∷ []) e made = Accepts s n (Some (text_digest (secret_text order.command secret))) (RowOf s order) e made
+AcceptsWith s n order (secret ∷ more ∷ rest) e made = ⊥
 
 -- The order is refused: by what is ready, or because a row has the digest of the secret that was drawn.
-abbrev pub RefusesWith : State → ℕ → (Step → Type 0) → List (List ℕ) → Refusal → Type 0
-RefusesWith s n Row [] r = IsRefusal s n None Row r
-RefusesWith s n Row (secret ∷ []) r = IsRefusal s n (Some (text_digest (secret_text secret))) Row r
-RefusesWith s n Row (secret ∷ more ∷ rest) r = ⊥
+abbrev pub RefusesWith : State → ℕ → Asked → List (List ℕ) → Refusal → Type 0
+RefusesWith s n order [] r = IsRefusal s n None (RowOf s order) r
+RefusesWith s n order (secret ∷ []) r = IsRefusal s n (Some (text_digest (secret_text order.command secret))) (RowOf s order) r
+RefusesWith s n order (secret ∷ more ∷ rest) r = ⊥
 
--- the reply shows the text of the secret that was drawn, if one was
-abbrev pub shown_text : List (List ℕ) → Option (List ℕ)
-shown_text [] = None
-shown_text (secret ∷ rest) = Some (secret_text secret)
+-- the text of the secret that was drawn, if one was and the reply shows it
+abbrev pub shown_text : Command → List (List ℕ) → Option (List ℕ)
+shown_text c [] = None
+shown_text c (secret ∷ rest) = shown_by (secret_use c) (secret_text c secret)
 
--- The answer to an order at a state with n entries, the secrets that are drawn for it, and the entries that it adds.
-abbrev pub IsAnswerBy : State → ℕ → (Step → Type 0) → Result Reply OrderFault → List (List ℕ) → List Event → Type 0
-IsAnswerBy s n Row (Ok (reply.Refused r)) drawn added = (added ≡ []) × RefusesWith s n Row drawn r
-IsAnswerBy s n Row (Ok (reply.Made made text)) drawn added =
-    ((added ≡ []) × (drawn ≡ []) × (text ≡ None) × Ready n Row (Keeps made))
-    ⊎ ((e : Event) × (added ≡ e ∷ []) × (text ≡ shown_text drawn) × AcceptsWith s n Row drawn e made)
-IsAnswerBy s n Row (Ok (reply.Options list)) drawn added = ⊥
-IsAnswerBy s n Row (Err fault.Secrets) drawn added = (added ≡ []) × (drawn ≡ []) × WantsSecret n Row
-IsAnswerBy s n Row (Err fault.Start) drawn added = (added ≡ []) × ((e : Event) × (made : Made) × IsOfRuns e × AcceptsWith s n Row drawn e made)
-IsAnswerBy s n Row (Err fault.Store) drawn added = (added ≡ []) × ((e : Event) × (made : Made) × IsOfTables e × AcceptsWith s n Row drawn e made)
-IsAnswerBy s n Row (Err fault.Memory) drawn added = (added ≡ [])
-
+-- THE ANSWER to an order at a state with n entries, the secrets that are drawn for it, and the entries that it adds.
 abbrev pub IsAnswer : State → ℕ → Asked → Result Reply OrderFault → List (List ℕ) → List Event → Type 0
-IsAnswer s n order answer drawn added = IsAnswerBy s n (RowOf s order) answer drawn added
+IsAnswer s n order (Ok (reply.Refused r)) drawn added = (added ≡ []) × RefusesWith s n order drawn r
+IsAnswer s n order (Ok (reply.Made made text)) drawn added =
+    ((added ≡ []) × (drawn ≡ []) × (text ≡ None) × Ready n (RowOf s order) (Keeps made))
+    ⊎ ((e : Event) × (added ≡ e ∷ []) × (text ≡ shown_text order.command drawn) × AcceptsWith s n order drawn e made)
+IsAnswer s n order (Ok (reply.Options list)) drawn added = ⊥
+IsAnswer s n order (Err fault.Secrets) drawn added = (added ≡ []) × (drawn ≡ []) × WantsSecret n (RowOf s order)
+IsAnswer s n order (Err fault.Start) drawn added = (added ≡ []) × ((e : Event) × (made : Made) × IsOfRuns e × AcceptsWith s n order drawn e made)
+IsAnswer s n order (Err fault.Store) drawn added = (added ≡ []) × ((e : Event) × (made : Made) × IsOfTables e × AcceptsWith s n order drawn e made)
+IsAnswer s n order (Err fault.Memory) drawn added = (added ≡ [])

@@ -1,5 +1,5 @@
 -- What is decided of an order before anything outside is asked.
-use Rattle.std.specs.Prelude.{◌⊎◌, ℕ, Option, None, Some}
+use Rattle.std.specs.Prelude.{ℕ, None, Some}
 use Rattle.host_base.specs.declared.digest.Digest.{Digest}
 use Rattle.share_graph.specs.declared.state.State.{State}
 use Rattle.share_graph.specs.EventFits.{EventFits}

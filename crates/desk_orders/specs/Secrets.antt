@@ -1,13 +1,31 @@
 -- The secrets that are drawn for an order, and the digests by which they are known.
-use Rattle.std.specs.Prelude.{◌≡◌, ℕ, List, [], ◌∷◌, Option}
+use Rattle.std.specs.Prelude.{◌≡◌, ℕ, List, [], ◌∷◌, Option, Some, None}
 use Rattle.sha2.specs.Sha256.{sha256}
 use Rattle.host_base.specs.declared.digest.Digest.{Digest}
 use Rattle.host_base.specs.Drawing.{Draws}
-use Rattle.share_tokens.specs.Texts.{token_text_of}
+use Rattle.share_tokens.specs.Texts.{token_text_of, key_text_of}
+use Rattle.desk_orders.specs.declared.order.Command.{Command}
+use Rattle.desk_orders.specs.declared.secrets.SecretUse.{SecretUse}
+use Rattle.desk_orders.specs.declared.secrets.SecretUse.TheVariants as secret_uses
+use Rattle.desk_orders.specs.Commands.{secret_use}
 
--- the text by which a drawn secret is handed out
-abbrev pub secret_text : List ℕ → List ℕ
-secret_text secret = token_text_of (record { 0 = secret })
+-- the text by which a secret is known: a key where it is a session's, else a token
+abbrev pub text_by : Option SecretUse → List ℕ → List ℕ
+text_by (Some secret_uses.Session) secret = key_text_of (record { 0 = secret })
+text_by (Some secret_uses.Run) secret = token_text_of (record { 0 = secret })
+text_by (Some secret_uses.Token) secret = token_text_of (record { 0 = secret })
+text_by None secret = token_text_of (record { 0 = secret })
+
+-- what a reply shows of that text: nothing where it is a run's
+abbrev pub shown_by : Option SecretUse → List ℕ → Option (List ℕ)
+shown_by (Some secret_uses.Run) text = None
+shown_by (Some secret_uses.Session) text = Some text
+shown_by (Some secret_uses.Token) text = Some text
+shown_by None text = Some text
+
+-- the text of the secret that is drawn for a command
+unfoldable pub secret_text : Command → List ℕ → List ℕ
+secret_text c secret = text_by (secret_use c) secret
 
 -- the SHA-256 digest of a text
 abbrev pub text_digest : List ℕ → Digest

@@ -1,23 +1,30 @@
 //! What is decided of an order, before anything outside is asked.
 
-ghost use Rattle.std.specs.Prelude.{◌≡◌, true, false};
+ghost use Rattle.std.specs.Prelude.{◌≡◌, ◌<◌, ◌-◌, ◌^◌, length, true, false};
 ghost use Rattle.share_graph.specs.Forms.{IsOne};
 ghost use Rattle.share_graph.specs.WellFormed.{IsWellFormed};
+ghost use Rattle.least_access.specs.Solved.{IsSolutionOf};
 ghost use Rattle.desk_base.specs.Accepting as accepting;
 ghost use Rattle.desk_base.specs.Accepting.{WantsSecret};
-ghost use Rattle.desk_base.specs.Fitting.{RowFits};
 ghost use Rattle.desk_base.specs.Outcomes.{IsReady, IsCarried, IsCarriedAt};
 ghost use Rattle.desk_orders.specs.Commands as commands;
 ghost use Rattle.desk_orders.specs.Deciding.{Decides, DecidesAt, FitsIfDecided};
-ghost use Rattle.desk_orders.specs.Orders.{RowOf};
+ghost use Rattle.desk_orders.specs.Commands.{IsStated};
+ghost use Rattle.desk_orders.specs.Orders.{RowBy, RowOf};
 
-use crate::order::{Command, Order, draws};
+use crate::order::{Command, Order};
+use crate::secrets::draws;
 use account_desk::{
     add_account, add_account_ready, add_app, new_grain, set_admin, set_enabled, trash, untrash,
 };
 use host_base::Digest;
 use least_access::Solved;
-use share_graph::{DeskFault, Event, Kind, Made, Outcome, Readiness, Refusal, State};
+use session_desk::{
+    close_session, open_session, open_session_ready, start_run, start_run_ready, stop_run,
+};
+use share_desk::{child, child_ready, make_token, make_token_ready, redeem, revoke, share};
+use share_graph::{Caller, DeskFault, Event, Kind, Made, Outcome, Readiness, Refusal, State};
+use std::alloc::Global;
 
 /// How many entries a history may have.
 pub const ENTRY_LIMIT: u32 = 1_000_000;
@@ -35,67 +42,144 @@ pub enum Decision {
 }
 
 // Whether an order with a secret gets as far as drawing it.
-#[tactic(auto, unfolding(crate::specs::Orders::RowOf))]
-fn ready(state: &State, solved: &Solved, order: &Order) -> Result<Readiness, DeskFault>
-    requires { commands.draws order.now.command ≡ true }
-    ensures { IsReady (RowOf state.now order.now) result }
+fn ready(
+    state: &State,
+    solved: &Solved,
+    caller: &Caller,
+    command: &Command,
+) -> Result<Readiness, DeskFault>
+    requires formed { IsWellFormed state.now }
+    requires solution { IsSolutionOf state.now.tables solved.now }
+    requires stated { IsStated caller.now command.now }
+    requires draws { commands.draws command.now ≡ true }
+    ensures { IsReady (RowBy state.now caller.now command.now) result }
 {
-    match &order.command {
-        Command::AddAccount(handle, name) => {
-            add_account_ready(state, solved, &order.caller, handle, name)
+    match command {
+        Command::AddAccount(handle, name) => add_account_ready(state, solved, caller, handle, name),
+        Command::MakeToken {
+            grain,
+            for_sharing,
+            assignment,
+            needs,
+        } => make_token_ready(
+            state,
+            solved,
+            caller,
+            *grain,
+            *for_sharing,
+            assignment,
+            needs,
+        ),
+        Command::Child {
+            for_sharing,
+            assignment,
+            needs,
+        } => child_ready(state, solved, caller, *for_sharing, assignment, needs),
+        Command::StartRun(grain) => start_run_ready(state, solved, caller, *grain),
+        Command::OpenSession { grain, tab } => {
+            open_session_ready(state, solved, caller, *grain, *tab)
         }
-        Command::SetAdmin(_, _) => unreachable!(),
-        Command::SetEnabled(_, _) => unreachable!(),
-        Command::AddApp(_) => unreachable!(),
-        Command::NewGrain(_, _) => unreachable!(),
-        Command::Trash(_) => unreachable!(),
-        Command::Untrash(_) => unreachable!(),
+        Command::SetAdmin(_, _) | Command::SetEnabled(_, _) => unreachable!(),
+        Command::AddApp(_) | Command::NewGrain(_, _) => unreachable!(),
+        Command::Trash(_) | Command::Untrash(_) => unreachable!(),
+        Command::Share { .. } | Command::Redeem(_) | Command::Revoke(_) => unreachable!(),
+        Command::StopRun(_) | Command::CloseSession(_) => unreachable!(),
     }
 }
 
 // Carries out an order with a secret, whose digest is given.
-#[tactic(auto, unfolding(crate::specs::Orders::RowOf))]
 fn carry_at(
     state: &State,
     solved: &Solved,
-    order: &Order,
+    caller: &Caller,
+    command: &Command,
     digest: Digest,
 ) -> Result<Outcome, DeskFault>
     requires formed { IsWellFormed state.now }
-    requires draws { commands.draws order.now.command ≡ true }
-    ensures row { IsCarriedAt state.now digest (RowOf state.now order.now) result }
-    ensures fits { RowFits state.now (RowOf state.now order.now) }
+    requires few { length state.now.sessions < 2 ^ 32 - 1 }
+    requires solution { IsSolutionOf state.now.tables solved.now }
+    requires stated { IsStated caller.now command.now }
+    requires draws { commands.draws command.now ≡ true }
+    ensures { IsCarriedAt state.now digest (RowBy state.now caller.now command.now) result }
 {
-    match &order.command {
+    match command {
         Command::AddAccount(handle, name) => {
-            add_account(state, solved, &order.caller, handle, name, digest)
+            add_account(state, solved, caller, handle, name, digest)
         }
-        Command::SetAdmin(_, _) => unreachable!(),
-        Command::SetEnabled(_, _) => unreachable!(),
-        Command::AddApp(_) => unreachable!(),
-        Command::NewGrain(_, _) => unreachable!(),
-        Command::Trash(_) => unreachable!(),
-        Command::Untrash(_) => unreachable!(),
+        Command::MakeToken {
+            grain,
+            for_sharing,
+            assignment,
+            needs,
+        } => make_token(
+            state,
+            solved,
+            caller,
+            *grain,
+            *for_sharing,
+            assignment,
+            needs,
+            digest,
+        ),
+        Command::Child {
+            for_sharing,
+            assignment,
+            needs,
+        } => child(
+            state,
+            solved,
+            caller,
+            *for_sharing,
+            assignment,
+            needs,
+            digest,
+        ),
+        Command::StartRun(grain) => start_run(state, solved, caller, *grain, digest),
+        Command::OpenSession { grain, tab } => {
+            open_session(state, solved, caller, *grain, *tab, digest)
+        }
+        Command::SetAdmin(_, _) | Command::SetEnabled(_, _) => unreachable!(),
+        Command::AddApp(_) | Command::NewGrain(_, _) => unreachable!(),
+        Command::Trash(_) | Command::Untrash(_) => unreachable!(),
+        Command::Share { .. } | Command::Redeem(_) | Command::Revoke(_) => unreachable!(),
+        Command::StopRun(_) | Command::CloseSession(_) => unreachable!(),
     }
 }
 
 // Carries out an order without a secret.
-#[tactic(auto, unfolding(crate::specs::Orders::RowOf))]
-fn carry(state: &State, solved: &Solved, order: &Order) -> Result<Outcome, DeskFault>
+fn carry(
+    alloc: Global,
+    state: &State,
+    solved: &Solved,
+    caller: &Caller,
+    command: &Command,
+) -> Result<Outcome, DeskFault>
     requires formed { IsWellFormed state.now }
-    requires draws { commands.draws order.now.command ≡ false }
-    ensures row { IsCarried (RowOf state.now order.now) result }
-    ensures fits { RowFits state.now (RowOf state.now order.now) }
+    requires solution { IsSolutionOf state.now.tables solved.now }
+    requires stated { IsStated caller.now command.now }
+    requires draws { commands.draws command.now ≡ false }
+    ensures { IsCarried (RowBy state.now caller.now command.now) result }
 {
-    let caller = &order.caller;
-    match &order.command {
-        Command::AddAccount(_, _) => unreachable!(),
+    match command {
         Command::SetAdmin(account, on) => set_admin(state, solved, caller, *account, *on),
         Command::SetEnabled(account, on) => set_enabled(state, solved, caller, *account, *on),
         Command::AddApp(manifest) => add_app(state, solved, caller, manifest),
         Command::NewGrain(app, title) => new_grain(state, solved, caller, *app, title),
         Command::Trash(grain) => trash(state, solved, caller, *grain),
         Command::Untrash(grain) => untrash(state, solved, caller, *grain),
+        Command::Share {
+            grain,
+            to,
+            assignment,
+            needs,
+        } => share(state, solved, caller, *grain, *to, assignment, needs),
+        Command::Redeem(token) => redeem(alloc, state, solved, caller, token),
+        Command::Revoke(grant) => revoke(state, solved, caller, *grant),
+        Command::StopRun(grain) => stop_run(state, solved, caller, *grain),
+        Command::CloseSession(session) => close_session(state, solved, caller, *session),
+        Command::AddAccount(_, _) => unreachable!(),
+        Command::MakeToken { .. } | Command::Child { .. } => unreachable!(),
+        Command::StartRun(_) | Command::OpenSession { .. } => unreachable!(),
     }
 }
 
@@ -106,12 +190,21 @@ fn full() -> Decision
     Decision::Refused(Refusal::TooMany(Kind::Entry, ENTRY_LIMIT))
 }
 
-fn decide_drawing(state: &State, solved: &Solved, entries: u64, order: &Order) -> Decision
-    requires { commands.draws order.now.command ≡ true }
-    ensures decided { Decides state.now entries (RowOf state.now order.now) result }
+fn decide_drawing(
+    state: &State,
+    solved: &Solved,
+    entries: u64,
+    caller: &Caller,
+    command: &Command,
+) -> Decision
+    requires formed { IsWellFormed state.now }
+    requires solution { IsSolutionOf state.now.tables solved.now }
+    requires stated { IsStated caller.now command.now }
+    requires draws { commands.draws command.now ≡ true }
+    ensures decided { Decides state.now entries (RowBy state.now caller.now command.now) result }
     ensures fits { FitsIfDecided state.now result }
 {
-    match ready(state, solved, order) {
+    match ready(state, solved, caller, command) {
         Err(fault) => match fault {
             DeskFault::Refused(refusal) => Decision::Refused(refusal),
             DeskFault::Memory => Decision::Memory,
@@ -129,14 +222,23 @@ fn decide_drawing(state: &State, solved: &Solved, entries: u64, order: &Order) -
     }
 }
 
-fn decide_plain(state: &State, solved: &Solved, entries: u64, order: &Order) -> Decision
+fn decide_plain(
+    alloc: Global,
+    state: &State,
+    solved: &Solved,
+    entries: u64,
+    caller: &Caller,
+    command: &Command,
+) -> Decision
     requires formed { IsWellFormed state.now }
-    requires draws { commands.draws order.now.command ≡ false }
-    ensures decided { Decides state.now entries (RowOf state.now order.now) result }
+    requires solution { IsSolutionOf state.now.tables solved.now }
+    requires stated { IsStated caller.now command.now }
+    requires draws { commands.draws command.now ≡ false }
+    ensures decided { Decides state.now entries (RowBy state.now caller.now command.now) result }
     ensures fits { FitsIfDecided state.now result }
     ensures never_draws { result ≡ Decision.Draw → ⊥ }
 {
-    match carry(state, solved, order) {
+    match carry(alloc, state, solved, caller, command) {
         Err(fault) => match fault {
             DeskFault::Refused(refusal) => Decision::Refused(refusal),
             DeskFault::Memory => Decision::Memory,
@@ -155,36 +257,49 @@ fn decide_plain(state: &State, solved: &Solved, entries: u64, order: &Order) -> 
 }
 
 /// What is decided of an order at that many entries, with no secret. A change that is decided fits the state.
-pub fn decide(state: &State, solved: &Solved, entries: u64, order: &Order) -> Decision
-    requires { IsWellFormed state.now }
+#[tactic(auto, unfolding(crate::specs::Orders::RowOf))]
+pub fn decide(
+    alloc: Global,
+    state: &State,
+    solved: &Solved,
+    entries: u64,
+    order: &Order,
+) -> Decision
+    requires formed { IsWellFormed state.now }
+    requires solution { IsSolutionOf state.now.tables solved.now }
     ensures decided { Decides state.now entries (RowOf state.now order.now) result }
     ensures draws { result ≡ Decision.Draw → commands.draws order.now.command ≡ true }
     ensures one { IsOne (RowOf state.now order.now) }
     ensures fits { FitsIfDecided state.now result }
 {
-    if draws(&order.command) {
-        decide_drawing(state, solved, entries, order)
+    let caller = &order.caller;
+    let command = &order.command;
+    if draws(command) {
+        decide_drawing(state, solved, entries, caller, command)
     } else {
-        decide_plain(state, solved, entries, order)
+        decide_plain(alloc, state, solved, entries, caller, command)
     }
 }
 
-/// What is decided of an order that gets as far as drawing a secret, with the digest of the secret that was drawn. A change that is
-/// decided fits the state.
-pub fn decide_at(
+// The same with the digest of the secret that was drawn.
+fn complete(
     state: &State,
     solved: &Solved,
     entries: u64,
-    order: &Order,
+    caller: &Caller,
+    command: &Command,
     digest: Digest,
 ) -> Decision
     requires formed { IsWellFormed state.now }
-    requires draws { commands.draws order.now.command ≡ true }
-    requires wants { WantsSecret entries (RowOf state.now order.now) }
-    ensures decided { DecidesAt state.now entries digest (RowOf state.now order.now) result }
+    requires few { length state.now.sessions < 2 ^ 32 - 1 }
+    requires solution { IsSolutionOf state.now.tables solved.now }
+    requires stated { IsStated caller.now command.now }
+    requires draws { commands.draws command.now ≡ true }
+    requires wants { WantsSecret entries (RowBy state.now caller.now command.now) }
+    ensures decided { DecidesAt state.now entries digest (RowBy state.now caller.now command.now) result }
     ensures fits { FitsIfDecided state.now result }
 {
-    match carry_at(state, solved, order, digest) {
+    match carry_at(state, solved, caller, command, digest) {
         Err(fault) => match fault {
             DeskFault::Refused(refusal) => Decision::Refused(refusal),
             DeskFault::Memory => Decision::Memory,
@@ -194,4 +309,32 @@ pub fn decide_at(
             Outcome::Change(event, made) => Decision::Change(event, made),
         },
     }
+}
+
+/// What is decided of an order that gets as far as drawing a secret, with the digest of the secret that was drawn. A change that is
+/// decided fits the state.
+#[tactic(auto, unfolding(crate::specs::Orders::RowOf))]
+pub fn decide_at(
+    state: &State,
+    solved: &Solved,
+    entries: u64,
+    order: &Order,
+    digest: Digest,
+) -> Decision
+    requires formed { IsWellFormed state.now }
+    requires few { length state.now.sessions < 2 ^ 32 - 1 }
+    requires solution { IsSolutionOf state.now.tables solved.now }
+    requires draws { commands.draws order.now.command ≡ true }
+    requires wants { WantsSecret entries (RowOf state.now order.now) }
+    ensures decided { DecidesAt state.now entries digest (RowOf state.now order.now) result }
+    ensures fits { FitsIfDecided state.now result }
+{
+    complete(
+        state,
+        solved,
+        entries,
+        &order.caller,
+        &order.command,
+        digest,
+    )
 }

@@ -4,9 +4,10 @@ ghost use Rattle.std.specs.Prelude.{◌≡◌};
 ghost use Rattle.desk_orders.specs.Commands as commands;
 
 use app_manifest::Manifest;
-use host_base::{AccountId, AppId, GrainId};
+use host_base::{AccountId, AppId, Digest, GrainId, GrantId, SessionId};
+use perm_roles::Assignment;
 use plain_data::Name;
-use share_graph::Caller;
+use share_graph::{Caller, Needs};
 use std::marker::Model;
 
 /// What a caller asks for.
@@ -26,9 +27,45 @@ pub enum Command {
     Trash(GrainId),
     /// A grain comes out of the trash.
     Untrash(GrainId),
+    /// A grain is shared with an account.
+    Share {
+        grain: GrainId,
+        to: AccountId,
+        assignment: Assignment,
+        needs: Needs,
+    },
+    /// A token to a grain: a link where it is for sharing, else an API token.
+    MakeToken {
+        grain: GrainId,
+        for_sharing: bool,
+        assignment: Assignment,
+        needs: Needs,
+    },
+    /// A further token from the grant whose token the caller bears.
+    Child {
+        for_sharing: bool,
+        assignment: Assignment,
+        needs: Needs,
+    },
+    /// The link whose token has this digest is redeemed.
+    Redeem(Digest),
+    /// A grant is revoked.
+    Revoke(GrantId),
+    /// A run of a grain starts: of the one that is named, or of the one whose token the caller bears.
+    StartRun(Option<GrainId>),
+    /// The run of a grain stops.
+    StopRun(GrainId),
+    /// A session on a grain, named in the same way, and its tab.
+    OpenSession {
+        grain: Option<GrainId>,
+        tab: Option<u64>,
+    },
+    /// A session is closed.
+    CloseSession(SessionId),
 }
 
-/// A command with its caller. A handle in it has the form of one, and a manifest in it is sound.
+/// A command with its caller, who is as its row asks: a login, a bearer, or either. A grain is named to run or to be opened exactly
+/// where the caller is a login. A handle in it has the form of one, and a manifest in it is sound.
 #[derive(Drop)]
 pub struct Order {
     pub(crate) caller: Caller,
@@ -46,27 +83,15 @@ impl Model for Order {
 
     ghost view = { λ order. record { caller = order.caller; command = order.command } };
 
-    ghost invariant = { λ order. IsStated order.command };
+    ghost invariant = { λ order. IsStated order.caller order.command };
 }
 
 impl Order {
     /// A caller's command.
     pub fn new(caller: Caller, command: Command) -> Self
-        requires { commands.IsStated command }
+        requires { commands.IsStated caller command }
         ensures { result ≡ record { caller = caller; command = command } }
     {
         Order { caller, command }
-    }
-}
-
-/// Whether a command needs a secret, which is drawn for it.
-pub fn draws(command: &Command) -> bool
-    ensures { result ≡ commands.draws command.now }
-{
-    match command {
-        Command::AddAccount(_, _) => true,
-        Command::SetAdmin(_, _) | Command::SetEnabled(_, _) => false,
-        Command::AddApp(_) | Command::NewGrain(_, _) => false,
-        Command::Trash(_) | Command::Untrash(_) => false,
     }
 }

@@ -1,13 +1,10 @@
-use Rattle.desk_orders.specs.Commands.{IsStated}
-use Rattle.desk_orders.specs.Orders.{RowOf}
-use Rattle.desk_orders.proofs.OfOrders.{order_fits}
 use Rattle.desk_orders.proofs.deciding.carry_at.Goals as goal
 
-pub returns-clause-row : goal.returns-clause-row
-unfolding RowOf
-returns-clause-row c = rw (← c.order.view_is, c.in-AddAccount.is) c.add_account.ensures.row
+pub returns-in-AddAccount : goal.returns-in-AddAccount
+returns-in-AddAccount c = rw c.in-AddAccount.is c.add_account.ensures.row
 
-pub returns-clause-fits : goal.returns-clause-fits
-returns-clause-fits c =
-    let stated : IsStated c.args.order.now.command = rw (← c.order.view_is) c.order.invariant in
-    order_fits c.args.state.now c.requires.formed c.args.order.now stated
+pub returns-in-MakeToken : goal.returns-in-MakeToken
+returns-in-MakeToken c = rw c.in-MakeToken.is c.make_token.ensures.row
+
+pub returns-in-Child : goal.returns-in-Child
+returns-in-Child c = rw c.in-Child.is c.child.ensures.row

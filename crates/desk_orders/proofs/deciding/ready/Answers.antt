@@ -1,6 +1,10 @@
-use Rattle.desk_orders.specs.Orders.{RowOf}
 use Rattle.desk_orders.proofs.deciding.ready.Goals as goal
 
-pub returns : goal.returns
-unfolding RowOf
-returns c = rw (← c.order.view_is, c.in-AddAccount.is) c.add_account_ready.ensures
+pub returns-in-AddAccount : goal.returns-in-AddAccount
+returns-in-AddAccount c = rw c.in-AddAccount.is c.add_account_ready.ensures
+
+pub returns-in-MakeToken : goal.returns-in-MakeToken
+returns-in-MakeToken c = rw c.in-MakeToken.is c.make_token_ready.ensures
+
+pub returns-in-Child : goal.returns-in-Child
+returns-in-Child c = rw c.in-Child.is c.child_ready.ensures
