@@ -1,2 +1,4 @@
+pub mod Sessions
+pub mod Keeping
 pub mod Replies
 pub mod Placing

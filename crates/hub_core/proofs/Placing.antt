@@ -1,5 +1,5 @@
 -- An order that was answered at the end of a history, as a desk tells it.
-use Rattle.std.proofs.Common.{◌≡◌, ℕ, ◌≤◌, ◌++◌, List, [], Option, Result, Ok, Err, length, refl, sym, ◌∙◌, ap, arith, append-nil, length-append}
+use Rattle.std.proofs.Common.{◌++◌, List, [], Result, Ok, Err, length, refl, sym, ◌∙◌, ap, arith, append-nil, length-append}
 use Rattle.host_base.specs.Drawing.{Drawer}
 use Rattle.host_base.specs.declared.key.Key.{Key}
 use Rattle.host_base.specs.declared.verdict.Verdict.{Verdict}
@@ -10,6 +10,7 @@ use Rattle.session_table.specs.Verdict.{IsVerdict}
 use Rattle.desk_orders.specs.declared.reply.OrderFault.{OrderFault}
 use Rattle.desk_orders.specs.declared.reply.OrderFault.TheVariants as fault
 use Rattle.desk_orders.specs.declared.reply.Reply.{Reply}
+use Rattle.grain_supervise.specs.Spawning.{Spawns}
 use Rattle.desk_orders.specs.Commands.{Asked}
 use Rattle.hub_core.specs.Book.{Book, Judged, IsCounted, TakesNone, Ordered}
 use Rattle.hub_core.specs.Sharing.{Answered, book_of}
@@ -22,25 +23,27 @@ none_taken book = record {
 }
 
 -- the verdict at the end of the history
-pub judged_here : (start : State) (history : List Event) (drawer : Drawer) (key : Key) (verdict : Verdict) → IsVerdict (replay start history) key verdict → Judged (length history) (book_of start history drawer) key (length history) verdict
-judged_here start history drawer key verdict is = record { before = history; rest = []; seen = sym (append-nil history); place_is = refl; low_is = omega arith; verdict_is = is }
+pub judged_here : (start : State) (history : List Event) (drawer : Drawer) (spawns : Spawns) (key : Key) (verdict : Verdict) → IsVerdict (replay start history) key verdict
+    → Judged (length history) (book_of start history drawer spawns) key (length history) verdict
+judged_here start history drawer spawns key verdict is = record { before = history; rest = []; seen = sym (append-nil history); place_is = refl; low_is = omega arith; verdict_is = is }
 
-counted_by : (start : State) (old new : List Event) (drawer drawer' : Drawer) (order : Asked) (s : State) (answer : Result Reply OrderFault) → Answered s old new drawer drawer' order answer → IsCounted (book_of start old drawer) (book_of start new drawer') answer
-counted_by start old new drawer drawer' order s (Err fault.Store) a = absurd (a.unstored refl)
-counted_by start old new drawer drawer' order s (Err fault.Secrets) a = a.counted refl
-counted_by start old new drawer drawer' order s (Err fault.Start) a = absurd (a.unstarted refl)
-counted_by start old new drawer drawer' order s (Err fault.Memory) a = tt
-counted_by start old new drawer drawer' order s (Ok reply) a = tt
+module _ (start : State) (old new : List Event) (drawer drawer' : Drawer) (spawns spawns' : Spawns) (order : Asked) where
+  counted_by : (s : State) (answer : Result Reply OrderFault) → Answered s old new drawer drawer' spawns spawns' order answer → IsCounted (book_of start old drawer spawns) (book_of start new drawer' spawns') answer
+  counted_by s (Err fault.Store) a = absurd (a.unstored refl)
+  counted_by s (Err fault.Secrets) a = a.counted refl
+  counted_by s (Err fault.Start) a = a.counted_starts refl
+  counted_by s (Err fault.Memory) a = tt
+  counted_by s (Ok reply) a = tt
 
--- the order's place is the end of the history
-pub ordered_here : (start : State) (old new : List Event) (drawer drawer' : Drawer) (order : Asked) (answer : Result Reply OrderFault) → Answered (replay start old) old new drawer drawer' order answer
-    → Ordered (book_of start old drawer) (book_of start new drawer') order (length old) answer
-ordered_here start old new drawer drawer' order answer a = record {
-  drawn = a.drawn;
-  added = a.added;
-  later = record { start = refl; more = a.added; seen = a.entries; store = omega arith; secrets = a.counts; starts = omega arith };
-  placed = record { before = old; rest = []; seen = a.entries ∙ sym (append-nil (old ++ a.added)); place_is = refl; low_is = omega arith; lawful = a.lawful };
-  accepted = ap length a.entries ∙ length-append old a.added;
-  draws = a.draws;
-  counted = counted_by start old new drawer drawer' order (replay start old) answer a;
-}
+  -- the order's place is the end of the history
+  pub ordered_here : (answer : Result Reply OrderFault) → Answered (replay start old) old new drawer drawer' spawns spawns' order answer
+      → Ordered (book_of start old drawer spawns) (book_of start new drawer' spawns') order (length old) answer
+  ordered_here answer a = record {
+    drawn = a.drawn;
+    added = a.added;
+    later = record { start = refl; more = a.added; seen = a.entries; store = omega arith; secrets = a.counts; starts = a.counts_starts };
+    placed = record { before = old; rest = []; seen = a.entries ∙ sym (append-nil (old ++ a.added)); place_is = refl; low_is = omega arith; lawful = a.lawful };
+    accepted = ap length a.entries ∙ length-append old a.added;
+    draws = a.draws;
+    counted = counted_by (replay start old) answer a;
+  }

@@ -1,2 +1,4 @@
 pub mod Book
+pub mod Spawning
 pub mod Sharing
+pub mod Adding

@@ -1,5 +1,5 @@
--- One value that holds a history: what it began with, its entries, and the secrets that are drawn for it.
-use Rattle.std.specs.Prelude.{◌≡◌, ℕ, ◌≤◌, ◌++◌, List, Result, Err, length}
+-- One value that holds a history: what it began with, its entries, the secrets that are drawn for it, and the spawner of its runs.
+use Rattle.std.specs.Prelude.{◌≡◌, ℕ, ◌+◌, ◌<◌, ◌≤◌, ◌++◌, List, Result, Err, length}
 use Rattle.host_base.specs.Drawing.{Drawer}
 use Rattle.host_base.specs.Outside.{Rose}
 use Rattle.share_graph.specs.declared.event.Event.{Event}
@@ -13,34 +13,48 @@ use Rattle.desk_orders.specs.declared.reply.OrderFault.TheVariants as fault
 use Rattle.desk_orders.specs.declared.reply.Reply.{Reply}
 use Rattle.desk_orders.specs.Answers.{IsAnswer}
 use Rattle.desk_orders.specs.Secrets.{DrawsAll}
+use Rattle.grain_supervise.specs.Spawning.{Spawns}
 use Rattle.hub_core.specs.Book.{Book}
+use Rattle.hub_core.specs.Spawning.{Spawned, token_of}
 
-pub record Sharing (S : Type 0) : Type 0 where
+pub record Sharing (S P : Type 0) : Type 0 where
   pub start : State
   pub history : List Event
   pub secrets : S
+  pub spawner : P
 
 -- What a value that holds a history keeps: its state is the replay of the history and well formed, what each node holds is solved for
--- it, and the history isn't longer than it may be.
+-- it, the history isn't longer than it may be, and no more sessions were ever opened than a session's number can say.
 pub record Holds (start state : State) (history : List Event) (kept : Kept) : Type 0 where
   pub replayed : state ≡ replay start history
   pub formed : IsWellFormed state
   pub solved : IsSolvedFor state.tables kept
   pub few : length history ≤ 1000000
+  pub sessions : length state.sessions < 2147483648 + length history
 
--- An order was answered at a state, at the end of a history: lawfully, with the secrets that were drawn for it, and with the entries
--- that it added.
-pub record Answered (s : State) (old new : List Event) (drawer drawer' : Drawer) (order : Order) (answer : Result Reply OrderFault) : Type 0 where
+-- An order was answered at a state, at the end of a history: lawfully, with the secrets that were drawn for it, with the entries that
+-- it added, and with what the spawner was told of them.
+pub record Answered (s : State) (old new : List Event) (drawer drawer' : Drawer) (spawns spawns' : Spawns) (order : Order) (answer : Result Reply OrderFault) : Type 0 where
   pub drawn : List (List ℕ)
   pub added : List Event
   pub lawful : IsAnswer s (length old) order answer drawn added
   pub entries : new ≡ old ++ added
   pub draws : DrawsAll drawer.coming drawer'.coming drawn
+  pub spawned : Spawned spawns spawns' (token_of order drawn) added
   pub counts : drawer.faults ≤ drawer'.faults
+  pub counts_starts : spawns.faults ≤ spawns'.faults
   pub counted : answer ≡ Err fault.Secrets → Rose drawer.faults drawer'.faults
+  pub counted_starts : answer ≡ Err fault.Start → Rose spawns.faults spawns'.faults
   pub unstored : answer ≡ Err fault.Store → ⊥
-  pub unstarted : answer ≡ Err fault.Start → ⊥
 
 -- what a desk tells that has nothing but this
-abbrev pub book_of : State → List Event → Drawer → Book
-book_of start history drawer = record { start = start; seen = history; accepted = length history; store_faults = 0; secret_faults = drawer.faults; start_faults = 0; coming = drawer.coming }
+abbrev pub book_of : State → List Event → Drawer → Spawns → Book
+book_of start history drawer spawns = record {
+  start = start;
+  seen = history;
+  accepted = length history;
+  store_faults = 0;
+  secret_faults = drawer.faults;
+  start_faults = spawns.faults;
+  coming = drawer.coming;
+}

@@ -6,6 +6,7 @@ mod answering;
 mod desk;
 mod locked;
 mod solo;
+mod telling;
 
 pub use desk::Desk;
 pub use desk_orders::{Command, Listed, Order, OrderFault, Reply};

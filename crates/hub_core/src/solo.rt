@@ -7,47 +7,48 @@ ghost use Rattle.hub_core.specs.Sharing.{book_of};
 use crate::desk::Desk;
 use crate::locked::Locked;
 use desk_orders::{Order, OrderFault, Reply};
+use grain_supervise::Spawner;
 use host_base::{Key, Memory, Secrets, Verdict};
 use std::alloc::Global;
 use std::marker::Model;
 
 /// A desk that owns its history: nobody else adds to it, so its places are all of it.
 #[derive(Drop)]
-pub struct SoloDesk<S> {
-    locked: Locked<S>,
+pub struct SoloDesk<S, P> {
+    locked: Locked<S, P>,
 }
 
-impl<S> Model for SoloDesk<S> {
+impl<S, P> Model for SoloDesk<S, P> {
     ghost use Rattle.std.specs.Coded.{codes};
     ghost use Rattle.share_graph.specs.contracts.event.Event as event_type;
     ghost use Rattle.share_graph.specs.contracts.state.State as state_type;
     ghost use Rattle.hub_core.specs.Sharing.{Sharing};
 
-    ghost Value = { Sharing S };
+    ghost Value = { Sharing S P };
 
     ghost coded = { Prim.hlevel (codes, state_type.the_row.coded, event_type.the_row.coded) };
 
     ghost view = { λ desk. desk.locked };
 }
 
-impl<S: Secrets> SoloDesk<S> {
+impl<S: Secrets, P: Spawner> SoloDesk<S, P> {
     /// A desk that owns a history.
-    pub fn new(locked: Locked<S>) -> Self
+    pub fn new(locked: Locked<S, P>) -> Self
         ensures { result ≡ locked }
     {
         SoloDesk { locked }
     }
 
     /// The history, handed back.
-    pub fn into_locked(self) -> Locked<S>
+    pub fn into_locked(self) -> Locked<S, P>
         ensures { result ≡ self }
     {
         self.locked
     }
 }
 
-impl<S: Secrets> Desk for SoloDesk<S> {
-    ghost book = { λ sharing. book_of sharing.start sharing.history (S.drawer sharing.secrets) };
+impl<S: Secrets, P: Spawner> Desk for SoloDesk<S, P> {
+    ghost book = { λ sharing. book_of sharing.start sharing.history (S.drawer sharing.secrets) (P.spawns sharing.spawner) };
 
     fn place(&self) -> u64 {
         self.locked.entries()

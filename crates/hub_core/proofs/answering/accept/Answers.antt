@@ -1,15 +1,8 @@
-use Rattle.std.proofs.Common.{◌∷◌, [], List, length, sym, ◌∙◌, ap, subst, arith, length-append}
-use Rattle.share_graph.specs.declared.event.Event.{Event}
-use Rattle.share_graph.specs.declared.state.State.{State}
-use Rattle.share_graph.specs.History.{after, replay}
-use Rattle.share_graph.specs.WellFormed.{IsWellFormed}
-use Rattle.state_step.proofs.AfterAll.{replay_appended}
+use Rattle.hub_core.proofs.Keeping.{holds_by, entry_of, same_of}
 use Rattle.hub_core.proofs.answering.accept.Goals as goal
 
-pub returns-in-Ok-clause-kept : goal.returns-in-Ok-clause-kept
-returns-in-Ok-clause-kept c = λ start is. record {
-  replayed = c.in-Ok.ensures.state ∙ ap (λ (s : State). after s c.args.event) is ∙ sym (replay_appended start c.args.entries.now.items c.args.event) ∙ ap (λ (xs : List Event). replay start xs) (sym c.in-Ok.ensures.entry);
-  formed = subst (λ (s : State). IsWellFormed s) (sym c.in-Ok.ensures.state) c.requires.fits.formed;
-  solved = c.in-Ok.ensures.solved;
-  few = omega (arith, ap length c.in-Ok.ensures.entry, length-append c.args.entries.now.items (c.args.event ∷ []), c.requires.room);
-}
+pub returns-clause-kept : goal.returns-clause-kept
+returns-clause-kept g c = λ start is.
+    holds_by start c.args.state.now c.args.entries.now.items is c.requires.sessions c.add_entry.new.state c.add_entry.new.entries.items c.add_entry.new.solution c.args.event c.add_entry.result
+    c.requires.formed c.requires.fits c.requires.room c.add_entry.ensures.state (entry_of _ _ _ _ _ _ c.add_entry.result c.add_entry.ensures.adds) c.add_entry.ensures.solved
+    c.add_entry.ensures.same_state (same_of _ _ _ _ _ _ c.add_entry.result c.add_entry.ensures.adds) c.add_entry.ensures.same_solved

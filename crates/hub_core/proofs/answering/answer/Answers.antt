@@ -2,7 +2,7 @@ use Rattle.std.proofs.Common.{ℕ, [], None, subst, refl, arith}
 use Rattle.desk_base.specs.Accepting.{Ready, Accepts}
 use Rattle.desk_base.specs.Steps.{Refuses, Keeps}
 use Rattle.desk_orders.specs.Orders.{RowOf}
-use Rattle.hub_core.proofs.Replies.{answered_refused, answered_same, answered_change}
+use Rattle.hub_core.proofs.Replies.{answered_refused, answered_same, answered_made, answered_fault}
 use Rattle.hub_core.proofs.answering.answer.Goals as goal
 
 pub returns-in-Refused-clause-answered : goal.returns-in-Refused-clause-answered
@@ -10,21 +10,30 @@ returns-in-Refused-clause-answered g c =
     let s = c.args.state.now in
     let drawer = g.S.Secrets.drawer c.args.secrets.now in
     let r = c.in-Refused.refusal in
-    answered_refused s c.args.entries.now.items drawer drawer c.args.order.now [] refl (omega arith) r
+    answered_refused s c.args.entries.now.items drawer drawer c.args.order.now [] refl (omega arith) (g.P.Spawner.spawns c.args.spawner.now) r
     (subst (λ (n : ℕ). Ready n (RowOf s c.args.order.now) (Refuses r)) c.count_of-count.ensures c.in-Refused.ensures.decided)
 
 pub returns-in-Same-clause-answered : goal.returns-in-Same-clause-answered
 returns-in-Same-clause-answered g c =
     let s = c.args.state.now in
     let made = c.in-Same.made in
-    answered_same s c.args.entries.now.items (g.S.Secrets.drawer c.args.secrets.now) c.args.order.now made
+    answered_same s c.args.entries.now.items (g.S.Secrets.drawer c.args.secrets.now) (g.P.Spawner.spawns c.args.spawner.now) c.args.order.now made
     (subst (λ (n : ℕ). Ready n (RowOf s c.args.order.now) (Keeps made)) c.count_of-count.ensures c.in-Same.ensures.decided)
 
-pub returns-in-Change-clause-answered : goal.returns-in-Change-clause-answered
-returns-in-Change-clause-answered g c =
+pub returns-in-Ok-clause-answered : goal.returns-in-Ok-clause-answered
+returns-in-Ok-clause-answered g c =
     let s = c.args.state.now in
     let drawer = g.S.Secrets.drawer c.args.secrets.now in
     let e = c.in-Change.event in
     let made = c.in-Change.made in
-    answered_change s c.args.entries.now.items drawer drawer c.args.order.now [] refl (omega arith) c.accept.new.entries.items e made None refl
-    (subst (λ (n : ℕ). Accepts s n None (RowOf s c.args.order.now) e made) c.count_of-count.ensures c.in-Change.ensures.decided) c.accept.result c.accept.ensures.ok c.accept.ensures.err
+    answered_made s c.args.entries.now.items drawer drawer c.args.order.now [] refl (omega arith) c.accept.new.entries.items (g.P.Spawner.spawns c.args.spawner.now) (g.P.Spawner.spawns c.accept.new.spawner) e made None refl
+    (subst (λ (n : ℕ). Accepts s n None (RowOf s c.args.order.now) e made) c.count_of-count.ensures c.in-Change.ensures.decided) c.in-Ok.ensures.accepted.0 c.in-Ok.ensures.accepted.1
+
+pub returns-in-Err-clause-answered : goal.returns-in-Err-clause-answered
+returns-in-Err-clause-answered g c =
+    let s = c.args.state.now in
+    let drawer = g.S.Secrets.drawer c.args.secrets.now in
+    let e = c.in-Change.event in
+    let made = c.in-Change.made in
+    answered_fault s c.args.entries.now.items drawer drawer c.args.order.now [] refl (omega arith) c.accept.new.entries.items (g.P.Spawner.spawns c.args.spawner.now) (g.P.Spawner.spawns c.accept.new.spawner) e made
+    (subst (λ (n : ℕ). Accepts s n None (RowOf s c.args.order.now) e made) c.count_of-count.ensures c.in-Change.ensures.decided) c.in-Err.fault c.in-Err.ensures.accepted.0 c.in-Err.ensures.accepted.1

@@ -6,4 +6,5 @@ returns g c =
     let old = c.self.inside.locked in
     let new = c.order.new.self in
     rw (← c.self.view_is, c.entries-place.ensures, c.order.ensures.start) (
-    ordered_here old.start old.history new.history (g.S.Secrets.drawer old.secrets) (g.S.Secrets.drawer new.secrets) c.args.order c.order.result c.order.ensures.answered)
+    ordered_here old.start old.history new.history (g.S.Secrets.drawer old.secrets) (g.S.Secrets.drawer new.secrets) (g.P.Spawner.spawns old.spawner) (g.P.Spawner.spawns new.spawner)
+    c.args.order c.order.result c.order.ensures.answered)

@@ -1,0 +1,39 @@
+-- What a spawner is told of what happens to the runs of grains.
+use Rattle.std.specs.Prelude.{◌≡◌, ◌++◌, ℕ, List, [], ◌∷◌, Some}
+use Rattle.host_base.specs.declared.ids.RunId.{RunId}
+use Rattle.share_graph.specs.declared.event.Event.{Event}
+use Rattle.share_graph.specs.declared.event.Event.TheVariants as event
+use Rattle.grain_supervise.specs.declared.start.Start.{Start}
+use Rattle.grain_supervise.specs.Spawning.{Spawns}
+use Rattle.desk_orders.specs.Commands.{Asked}
+use Rattle.desk_orders.specs.Secrets.{secret_text}
+
+-- the starts that an event wants: of the run that it starts, with its token
+abbrev pub starts_of : Event → List ℕ → List Start
+starts_of (event.RunStarted run) token = record { run = run.num; grain = run.grain; token = token } ∷ []
+starts_of _ token = []
+
+-- the stops that an event wants: of the run that it stops
+abbrev pub stops_of : Event → List RunId
+stops_of (event.RunStopped r) = r ∷ []
+stops_of _ = []
+
+-- The spawner was told what an event wants, and nothing else.
+pub record ToldOf (old new : Spawns) (e : Event) (token : List ℕ) : Type 0 where
+  pub starts : (told : List Start) → old.starts ≡ Some told → new.starts ≡ Some (told ++ starts_of e token)
+  pub stops : (told : List RunId) → old.stops ≡ Some told → new.stops ≡ Some (told ++ stops_of e)
+
+-- The spawner was told nothing.
+pub record Untold (old new : Spawns) : Type 0 where
+  pub starts : new.starts ≡ old.starts
+  pub stops : new.stops ≡ old.stops
+
+-- the token that an order's secret is, by its text
+abbrev pub token_of : Asked → List (List ℕ) → List ℕ
+token_of order [] = []
+token_of order (secret ∷ rest) = secret_text order.command secret
+
+-- what the spawner was told of the entries that an order added
+abbrev pub Spawned : Spawns → Spawns → List ℕ → List Event → Type 0
+Spawned old new token [] = Untold old new
+Spawned old new token (e ∷ rest) = ToldOf old new e token
