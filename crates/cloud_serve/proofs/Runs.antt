@@ -17,13 +17,36 @@ use Rattle.cloud_serve.specs.declared.serve.End.TheVariants as end
 use Rattle.hub_core.specs.Book.{Book, Later}
 use Rattle.cloud_serve.specs.Acts.{Act}
 use Rattle.cloud_serve.specs.Effects.{AskedOf, OrderedOf}
-use Rattle.cloud_serve.specs.Turns.{Turn, IsLawfulBy, IsLawful, AreLawful}
+use Rattle.desk_orders.specs.Commands.{Asked}
+use Rattle.cloud_serve.specs.Turns.{Turn, IsMade, MakesOne, MakesBoth, EndsWith, IsLawfulBy, IsLawful, AreLawful, past}
 use Rattle.cloud_serve.specs.Served.{World, InHand, Nothing, Refusing, Answering, Broken, NoRoom, request_in, asked_in, acts_in, HandAt, CauseAt, IsOver, StreamAt, Stands, Complete, limit, Splits, Served}
 use Rattle.cloud_serve.specs.Serving.{ClosesWith, OneMore, Stops, SoFar}
 use Rattle.reply_texts.specs.Texts.{memory_text}
 use Rattle.cloud_serve.proofs.Serving.{stops_no_room}
 use Rattle.cloud_serve.proofs.Growth.{later_longer, asked_none, asked_trans, judged_later, judged_within}
 use Rattle.cloud_serve.proofs.Orders.{ordered_refl, ordered_trans, placed_later, placed_within}
+
+-- an order that was made stays so when more is seen
+made_later : (old new : Book) → Later old new → (low : ℕ) (order : Asked) (act : Act) → IsMade old low order act → IsMade new low order act
+made_later old new later low order act m =
+    record { order_is = m.order_is; placed = placed_later old new low low order act.place act.answer act.drawn act.added later (omega arith) m.placed }
+
+abbrev makes_later : (old new : Book) → Later old new → (low : ℕ) (order : Asked) (turn : Turn) → MakesOne old low order turn → MakesOne new low order turn
+makes_later old new later low order turn m = record { act = m.act; acts_are = m.acts_are; made = made_later old new later low order m.act m.made; ends = m.ends }
+
+abbrev both_later : (old new : Book) → Later old new → (low : ℕ) (first second : Asked) (turn : Turn) → MakesBoth old low first second turn → MakesBoth new low first second turn
+both_later old new later low first second turn m = record {
+  before = m.before;
+  act = m.act;
+  acts_are = m.acts_are;
+  first_made = made_later old new later low first m.before m.first_made;
+  done = m.done;
+  made = made_later old new later (past m.before) second m.act m.made;
+  ends = m.ends;
+}
+
+made_within : (book : Book) (low : ℕ) (order : Asked) (act : Act) (turn : Turn) → IsMade book low order act → EndsWith act turn → turn.reached ≤ length book.seen
+made_within book low order act turn m ends = omega (arith, ends.reached_is, placed_within book low order act.place act.answer act.drawn act.added m.placed)
 
 -- what was lawful stays so when more is seen
 lawful_later : (r : Showing) (old new : Book) → Later old new → (low last : ℕ) (turn : Turn) → IsLawfulBy r old low last turn → IsLawfulBy r new low last turn
@@ -33,29 +56,18 @@ lawful_later (showing.BadBody field) old new later low last turn is = is
 lawful_later (showing.BadManifest bad) old new later low last turn is = is
 lawful_later (showing.Keyed key) old new later low last turn is =
     record { verdict = is.verdict; judged = judged_later old new low low key turn.place is.verdict later (omega arith) is.judged; reached_is = is.reached_is; unordered = is.unordered; follows = is.follows }
-lawful_later (showing.Wants order) old new later low last turn is =
-    let m = is.made in
-    let act = is.act in
-    record {
-      act = act;
-      made = record {
-        acts_are = m.acts_are;
-        order_is = m.order_is;
-        placed = placed_later old new low low order act.place act.answer act.drawn act.added later (omega arith) m.placed;
-        place_is = m.place_is;
-        reached_is = m.reached_is;
-        unasked = m.unasked;
-      };
-      answered = is.answered;
-    }
+lawful_later (showing.Wants order) old new later low last turn is = (makes_later old new later low order turn is.0, is.1)
+lawful_later (showing.Opens first second) old new later low last turn (inl is) = inl (makes_later old new later low first turn is.0, is.1, is.2)
+lawful_later (showing.Opens first second) old new later low last turn (inr is) = inr (both_later old new later low first second turn is.0, is.1)
 
 reached_within : (r : Showing) (book : Book) (low last : ℕ) (turn : Turn) → low ≤ length book.seen → IsLawfulBy r book low last turn → turn.reached ≤ length book.seen
 reached_within showing.NoRoute book low last turn less is = omega (arith, is.reached_is)
 reached_within showing.NoCredential book low last turn less is = omega (arith, is.reached_is)
 reached_within (showing.BadBody field) book low last turn less is = omega (arith, is.reached_is)
 reached_within (showing.BadManifest bad) book low last turn less is = omega (arith, is.reached_is)
-reached_within (showing.Wants order) book low last turn less is =
-    let act = is.act in omega (arith, is.made.reached_is, placed_within book low order act.place act.answer act.drawn act.added is.made.placed)
+reached_within (showing.Wants order) book low last turn less is = made_within book low order is.0.act turn is.0.made is.0.ends
+reached_within (showing.Opens first second) book low last turn less (inl is) = made_within book low first is.0.act turn is.0.made is.0.ends
+reached_within (showing.Opens first second) book low last turn less (inr is) = made_within book (past is.0.before) second is.0.act turn is.0.made is.0.ends
 reached_within (showing.Keyed key) book low last turn less is = omega (arith, is.reached_is, judged_within book low key turn.place is.verdict is.judged)
 
 turns_later : (old new : Book) → Later old new → (low last : ℕ) (turns : List Turn) (high place : ℕ) → AreLawful old low last turns high place → AreLawful new low last turns high place

@@ -12,7 +12,6 @@ use Rattle.grain_supervise.specs.Line.{Line}
 use Rattle.cloud_serve.specs.declared.serve.End.{End}
 use Rattle.cloud_serve.specs.declared.serve.End.TheVariants as end
 use Rattle.hub_core.specs.Book.{Book}
-use Rattle.cloud_serve.specs.Acts.{Act}
 use Rattle.cloud_serve.specs.Effects.{AskedOf, OrderedOf}
 use Rattle.reply_texts.specs.Texts.{wants_head, refusal_status, memory_text}
 use Rattle.cloud_serve.specs.Taking.{Answers, BreaksOff}

@@ -1,5 +1,5 @@
 -- What taking a turn comes to, over plain values.
-use Rattle.std.proofs.Common.{◌≡◌, ℕ, ◌+◌, ◌≤◌, Bool, List, [], ◌∷◌, Option, Result, Ok, Err, IfOk, length, codes, refl, ◌∙◌, ap, subst, arith, inl, inr}
+use Rattle.std.proofs.Common.{◌≡◌, ℕ, ◌+◌, ◌≤◌, Bool, true, false, List, [], ◌∷◌, Option, Result, Ok, Err, IfOk, length, codes, refl, ◌∙◌, ap, subst, arith, inl, inr}
 use Rattle.host_base.specs.declared.bytes.Memory.{Memory}
 use Rattle.host_base.specs.declared.ids.GrainId.{GrainId}
 use Rattle.host_base.specs.declared.ids.RunId.{RunId}
@@ -26,14 +26,15 @@ use Rattle.reply_texts.specs.Refusals.{command_text}
 use Rattle.app_manifest.specs.declared.fault.ManifestFault.{ManifestFault}
 use Rattle.share_graph.specs.declared.refusal.Refusal.TheVariants as refusal
 use Rattle.share_graph.specs.declared.state.State.{State}
-use Rattle.hub_core.specs.Book.{Book, TakesNone, Judged, Ordered}
+use Rattle.hub_core.specs.Book.{Book, Later, TakesNone, Judged, Ordered}
 use Rattle.cloud_serve.specs.Routes.{Shows}
 use Rattle.cloud_serve.specs.Taking.{AsksBy, Asks, ForwardBy, Forwards, Answers, BreaksOff, Takes, IsNoList, answered_at}
 use Rattle.reply_texts.specs.Texts.{wants_head, own_text, denial_text}
 use Rattle.cloud_serve.specs.Acts.{Act}
-use Rattle.cloud_serve.specs.Turns.{Turn, AnswersBack, AnswersOrder, IsMade, IsLawfulBy, IsBegun}
+use Rattle.cloud_serve.specs.Effects.{OrderedOf}
+use Rattle.cloud_serve.specs.Turns.{Turn, AnswersBack, AnswersOrder, IsMade, MakesOne, MakesBoth, IsLawfulBy, IsBegun, is_done, past}
 use Rattle.cloud_serve.proofs.Growth.{later_refl, asked_none, judged_later}
-use Rattle.cloud_serve.proofs.Orders.{ordered_none, ordered_refl, ordered_one, act_of, placed_later}
+use Rattle.cloud_serve.proofs.Orders.{ordered_none, ordered_refl, ordered_one, ordered_trans, act_of, placed_later, placed_within}
 
 -- one text was asked, and what came back is answered, or memory ran out
 pub asks_by : (run : RunId) (grain : GrainId) (text : List ℕ) (head_only : Bool) (back : Option (List ℕ)) (result : Result (List ℕ) Memory) → IfOk result (λ reply. AnswersBack head_only back reply)
@@ -172,19 +173,21 @@ breaks_forwarded old new before after counted counts low request key place permi
       ordered_of = ordered_none old new none;
     }
 
--- an order that was answered, as a turn
-abbrev order_turn : (request : Request) (act : Act) → List ℕ → Turn
-order_turn request act text = record { request = request; place = act.place; reached = act.place + length act.added; asked = []; acts = act ∷ []; answer = text }
+-- an order that was answered, as an act, and the turn that ends with it
+abbrev turn_with : (request : Request) (acts : List Act) (act : Act) → List ℕ → Turn
+turn_with request acts act text = record { request = request; place = act.place; reached = past act; asked = []; acts = acts; answer = text }
 
-made_here : (old new : Book) (low : ℕ) (request : Request) (order : Asked) (place : ℕ) (answer : Result Reply OrderFault) (text : List ℕ) → low ≤ length old.seen → (o : Ordered old new order place answer)
-    → IsMade new low order (order_turn request (act_of order place answer o.drawn o.added) text) (act_of order place answer o.drawn o.added)
-made_here old new low request order place answer text less o = record {
+made_here : (old new last : Book) (low : ℕ) (order : Asked) (place : ℕ) (answer : Result Reply OrderFault) → low ≤ length old.seen → Later new last → (o : Ordered old new order place answer)
+    → IsMade last low order (act_of order place answer o.drawn o.added)
+made_here old new last low order place answer less later o = record { order_is = refl; placed = placed_later new last (length old.seen) low order place answer o.drawn o.added later less o.placed }
+
+abbrev makes_one : (old new : Book) (low : ℕ) (request : Request) (order : Asked) (place : ℕ) (answer : Result Reply OrderFault) (text : List ℕ) → low ≤ length old.seen → (o : Ordered old new order place answer)
+    → MakesOne new low order (turn_with request (act_of order place answer o.drawn o.added ∷ []) (act_of order place answer o.drawn o.added) text)
+makes_one old new low request order place answer text less o = record {
+  act = act_of order place answer o.drawn o.added;
   acts_are = refl;
-  order_is = refl;
-  placed = placed_later new new (length old.seen) low order place answer o.drawn o.added (later_refl new) less o.placed;
-  place_is = refl;
-  reached_is = refl;
-  unasked = refl;
+  made = made_here old new new low order place answer less (later_refl new) o;
+  ends = record { place_is = refl; reached_is = refl; unasked = refl };
 }
 
 -- the desk was given the order, and its answer was answered
@@ -193,11 +196,11 @@ pub answers_ordered : (old new : Book) (line : Line) (counted low last : ℕ) (r
 answers_ordered old new line counted low last request order place answer text less r o is =
     let act : Act = act_of order place answer o.drawn o.added in
     record {
-      turn = order_turn request act text;
+      turn = turn_with request (act ∷ []) act text;
       request_is = refl;
       place_is = refl;
       answer_is = refl;
-      lawful = (showing.Wants order, r, record { act = act; made = made_here old new low request order place answer text less o; answered = is });
+      lawful = (showing.Wants order, r, (makes_one old new low request order place answer text less o, is));
       asked_of = asked_none line;
       counts_is = omega arith;
       ordered_of = ordered_one old new order place answer o;
@@ -209,13 +212,89 @@ pub breaks_ordered : (old new : Book) (line : Line) (counted low : ℕ) (request
 breaks_ordered old new line counted low request order place answer less r o =
     let act : Act = act_of order place answer o.drawn o.added in
     record {
-      turn = order_turn request act [];
+      turn = turn_with request (act ∷ []) act [];
       request_is = refl;
-      begun = inr (showing.Wants order, r, (act, made_here old new low request order place answer [] less o));
+      begun = inr (showing.Wants order, r, makes_one old new low request order place answer [] less o);
       asked_of = asked_none line;
       counts_is = omega arith;
       ordered_of = ordered_one old new order place answer o;
     }
+
+-- the first of two orders wasn't carried out, and its answer was answered
+pub answers_stopped : (old new : Book) (line : Line) (counted low last : ℕ) (request : Request) (first second : Asked) (place : ℕ) (answer : Result Reply OrderFault) (text : List ℕ) → low ≤ length old.seen
+    → Shows request (showing.Opens first second) → Ordered old new first place answer → is_done answer ≡ false → AnswersOrder answer (wants_head request) text → Answers old new line line counted counted low last request place text
+answers_stopped old new line counted low last request first second place answer text less r o undone is =
+    let act : Act = act_of first place answer o.drawn o.added in
+    record {
+      turn = turn_with request (act ∷ []) act text;
+      request_is = refl;
+      place_is = refl;
+      answer_is = refl;
+      lawful = (showing.Opens first second, r, inl (makes_one old new low request first place answer text less o, undone, is));
+      asked_of = asked_none line;
+      counts_is = omega arith;
+      ordered_of = ordered_one old new first place answer o;
+    }
+
+-- the first was given alone, and memory ran out
+pub breaks_stopped : (old new : Book) (line : Line) (counted low : ℕ) (request : Request) (first second : Asked) (place : ℕ) (answer : Result Reply OrderFault) → low ≤ length old.seen
+    → Shows request (showing.Opens first second) → Ordered old new first place answer → BreaksOff old new line line counted counted low request
+breaks_stopped old new line counted low request first second place answer less r o =
+    let act : Act = act_of first place answer o.drawn o.added in
+    record {
+      turn = turn_with request (act ∷ []) act [];
+      request_is = refl;
+      begun = inr (showing.Opens first second, r, inl (makes_one old new low request first place answer [] less o));
+      asked_of = asked_none line;
+      counts_is = omega arith;
+      ordered_of = ordered_one old new first place answer o;
+    }
+
+module _ (old mid new : Book) (low : ℕ) (request : Request) (first second : Asked) (before place : ℕ) (done answer : Result Reply OrderFault) (less : low ≤ length old.seen)
+    (f : Ordered old mid first before done) (o : Ordered mid new second place answer) where
+  -- both orders, one after the other
+  abbrev both : List Act
+  both = act_of first before done f.drawn f.added ∷ act_of second place answer o.drawn o.added ∷ []
+
+  abbrev makes_both : (text : List ℕ) → is_done done ≡ true → MakesBoth new low first second (turn_with request both (act_of second place answer o.drawn o.added) text)
+  makes_both text is = record {
+    before = act_of first before done f.drawn f.added;
+    act = act_of second place answer o.drawn o.added;
+    acts_are = refl;
+    first_made = made_here old mid new low first before done less o.later f;
+    done = is;
+    made = made_here mid new new (before + length f.added) second place answer (placed_within mid (length old.seen) first before done f.drawn f.added f.placed) (later_refl new) o;
+    ends = record { place_is = refl; reached_is = refl; unasked = refl };
+  }
+
+  ordered_both : OrderedOf old new both
+  ordered_both = ordered_trans old mid new (act_of first before done f.drawn f.added ∷ []) (act_of second place answer o.drawn o.added ∷ [])
+      (ordered_one old mid first before done f) (ordered_one mid new second place answer o)
+
+  -- the first of two orders was carried out, and the second answered
+  pub answers_opened : (line : Line) (counted last : ℕ) (text : List ℕ) → Shows request (showing.Opens first second) → is_done done ≡ true → AnswersOrder answer (wants_head request) text
+      → Answers old new line line counted counted low last request place text
+  answers_opened line counted last text r is text_is = record {
+    turn = turn_with request both (act_of second place answer o.drawn o.added) text;
+    request_is = refl;
+    place_is = refl;
+    answer_is = refl;
+    lawful = (showing.Opens first second, r, inr (makes_both text is, text_is));
+    asked_of = asked_none line;
+    counts_is = omega arith;
+    ordered_of = ordered_both;
+  }
+
+  -- both were given, and memory ran out
+  pub breaks_opened : (line : Line) (counted : ℕ) → Shows request (showing.Opens first second) → is_done done ≡ true → BreaksOff old new line line counted counted low request
+  breaks_opened line counted r is = record {
+    turn = turn_with request both (act_of second place answer o.drawn o.added) [];
+    request_is = refl;
+    begun = inr (showing.Opens first second, r, inr (makes_both [] is));
+    asked_of = asked_none line;
+    counts_is = omega arith;
+    ordered_of = ordered_both;
+  }
 
 -- an answer that is lawful is no list
 pub no_list : (s : State) (n : ℕ) (order : Asked) (answer : Result Reply OrderFault) (drawn : List (List ℕ)) (added : List Event) → IsAnswer s n order answer drawn added → IsNoList answer

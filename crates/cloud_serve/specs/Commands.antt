@@ -1,41 +1,68 @@
--- The commands that the desk's routes and their bodies state.
-use Rattle.std.specs.Prelude.{◌≡◌, ℕ, Bool, true, false, List, Option, Some, None, Result, Ok, Err, IfOk}
-use Rattle.desk_bodies.specs.Answers.{Answers}
-use Rattle.desk_bodies.specs.Bodies.{account_body, grain_body, manifest_body, mark_body, plain_body}
+-- What the desk's routes and their bodies ask for.
+use Rattle.std.specs.Prelude.{ℕ, Bool, true, false, List, Option, Some, None, Result, Ok, Err}
+use Rattle.host_base.specs.declared.digest.Digest.{Digest}
+use Rattle.host_base.specs.declared.ids.GrainId.{GrainId}
+use Rattle.share_graph.specs.declared.desk.Caller.{Caller}
+use Rattle.share_graph.specs.declared.desk.Caller.TheVariants as caller
+use Rattle.desk_bodies.specs.Bodies.{account_body, child_body, grain_body, manifest_body, mark_body, plain_body, redeem_body, share_body, tab_body, token_body}
 use Rattle.desk_bodies.specs.declared.fault.BodyFault.{BodyFault}
-use Rattle.desk_orders.specs.Commands.{IsStated}
 use Rattle.desk_orders.specs.declared.order.Command.{Command}
 use Rattle.desk_orders.specs.declared.order.Command.TheVariants as command
 use Rattle.front_http.specs.declared.route.Route.{Route}
 use Rattle.front_http.specs.declared.route.Route.TheVariants as route
+use Rattle.cloud_serve.specs.declared.showing.Showing.{Showing}
+use Rattle.cloud_serve.specs.declared.showing.Showing.TheVariants as showing
+
+-- a caller wants one command
+abbrev pub wants : Caller → Command → Showing
+wants who asked = showing.Wants (record { caller = who; command = asked })
+
+-- A caller wants to open a grain: a run of it is to start, where none is live, and then a session.
+abbrev pub opens : Caller → Option GrainId → Option ℕ → Showing
+opens who n tab = showing.Opens (record { caller = who; command = command.StartRun n }) (record { caller = who; command = command.OpenSession n tab })
 
 -- what is made of what a body states
-abbrev pub stating : {A : Type 0} → (A → Command) → Result A BodyFault → Result Command BodyFault
+abbrev pub stating : {A : Type 0} → (A → Showing) → Result A BodyFault → Result Showing BodyFault
 stating make (Ok x) = Ok (make x)
 stating make (Err fault) = Err fault
 
--- THE COMMAND that a route and a body state, or the fault of the body; none where the route isn't the desk's, or isn't answered yet
-abbrev pub command_at : Route → List ℕ → Option (Result Command BodyFault)
-command_at route.Accounts body = Some (stating (λ fields. command.AddAccount fields.handle fields.name) (account_body body))
-command_at (route.AccountAdmin n) body = Some (stating (λ on. command.SetAdmin (record { 0 = n }) on) (mark_body body))
-command_at (route.AccountEnabled n) body = Some (stating (λ on. command.SetEnabled (record { 0 = n }) on) (mark_body body))
-command_at route.Apps body = Some (stating (λ manifest. command.AddApp manifest) (manifest_body body))
-command_at route.Grains body = Some (stating (λ fields. command.NewGrain fields.app fields.title) (grain_body body))
-command_at (route.GrainTrash n) body = Some (stating (λ _. command.Trash (record { 0 = n })) (plain_body body))
-command_at (route.GrainUntrash n) body = Some (stating (λ _. command.Untrash (record { 0 = n })) (plain_body body))
-command_at _ body = None
+-- WHAT IS ASKED FOR by a route and a body, where the credential has this digest: of an account by its login, of a bearer, or of
+-- either; or the fault of the body. It is none where the route isn't the desk's, or isn't answered yet.
+abbrev pub asked_at : Route → Digest → List ℕ → Option (Result Showing BodyFault)
+asked_at route.Accounts who body = Some (stating (λ fields. wants (caller.Login who) (command.AddAccount fields.handle fields.name)) (account_body body))
+asked_at (route.AccountAdmin n) who body = Some (stating (λ on. wants (caller.Login who) (command.SetAdmin (record { 0 = n }) on)) (mark_body body))
+asked_at (route.AccountEnabled n) who body = Some (stating (λ on. wants (caller.Login who) (command.SetEnabled (record { 0 = n }) on)) (mark_body body))
+asked_at route.Apps who body = Some (stating (λ manifest. wants (caller.Login who) (command.AddApp manifest)) (manifest_body body))
+asked_at route.Grains who body = Some (stating (λ fields. wants (caller.Login who) (command.NewGrain fields.app fields.title)) (grain_body body))
+asked_at (route.GrainTrash n) who body = Some (stating (λ _. wants (caller.Login who) (command.Trash (record { 0 = n }))) (plain_body body))
+asked_at (route.GrainUntrash n) who body = Some (stating (λ _. wants (caller.Login who) (command.Untrash (record { 0 = n }))) (plain_body body))
+asked_at (route.GrainShare n) who body =
+    Some (stating (λ fields. wants (caller.Login who) (command.Share (record { 0 = n }) fields.to fields.assignment fields.needs)) (share_body body))
+asked_at (route.GrainLink n) who body =
+    Some (stating (λ fields. wants (caller.Login who) (command.MakeToken (record { 0 = n }) true fields.assignment fields.needs)) (token_body body))
+asked_at (route.GrainToken n) who body =
+    Some (stating (λ fields. wants (caller.Login who) (command.MakeToken (record { 0 = n }) false fields.assignment fields.needs)) (token_body body))
+asked_at (route.GrainOpen n) who body = Some (stating (λ tab. opens (caller.Login who) (Some (record { 0 = n })) tab) (tab_body body))
+asked_at (route.GrainWake n) who body = Some (stating (λ _. wants (caller.Login who) (command.StartRun (Some (record { 0 = n })))) (plain_body body))
+asked_at (route.GrainStop n) who body = Some (stating (λ _. wants (caller.Login who) (command.StopRun (record { 0 = n }))) (plain_body body))
+asked_at route.Redeem who body = Some (stating (λ token. wants (caller.Login who) (command.Redeem token)) (redeem_body body))
+asked_at (route.GrantRevoke n) who body = Some (stating (λ _. wants (caller.Login who) (command.Revoke (record { 0 = n }))) (plain_body body))
+asked_at (route.SessionClose n) who body = Some (stating (λ _. wants (caller.Either who) (command.CloseSession (record { 0 = n }))) (plain_body body))
+asked_at route.Child who body =
+    Some (stating (λ fields. wants (caller.Bearer who) (command.Child fields.for_sharing fields.assignment fields.needs)) (child_body body))
+asked_at route.Open who body = Some (stating (λ tab. opens (caller.Bearer who) None tab) (tab_body body))
+asked_at route.Wake who body = Some (stating (λ _. wants (caller.Bearer who) (command.StartRun None)) (plain_body body))
+asked_at _ who body = None
 
--- whether a route is the desk's, and answered
+-- whether a route is the desk's, and answered: not the two of the powerbox yet
 abbrev pub is_of_desk : Route → Bool
-is_of_desk route.Accounts = true
-is_of_desk (route.AccountAdmin n) = true
-is_of_desk (route.AccountEnabled n) = true
-is_of_desk route.Apps = true
-is_of_desk route.Grains = true
-is_of_desk (route.GrainTrash n) = true
-is_of_desk (route.GrainUntrash n) = true
-is_of_desk _ = false
-
--- the answer is of the command that is stated: it states it, or its body's fault, or memory ran out
-abbrev pub IsCommand : Option (Result Command BodyFault) → Result Command BodyFault → Type 0
-IsCommand stated answer = (one : Result Command BodyFault) × (stated ≡ Some one) × Answers one answer × IfOk answer IsStated
+is_of_desk (route.GrainQuery n) = false
+is_of_desk (route.GrainChoose n) = false
+is_of_desk (route.Session digest) = false
+is_of_desk route.Api = false
+is_of_desk (route.Use n) = false
+is_of_desk route.Claim = false
+is_of_desk route.Save = false
+is_of_desk route.Restore = false
+is_of_desk route.Drop = false
+is_of_desk _ = true

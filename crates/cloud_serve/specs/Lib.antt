@@ -1,5 +1,6 @@
 pub mod Acts
 pub mod Commands
+pub mod Asking
 pub mod Routes
 pub mod Turns
 pub mod Effects

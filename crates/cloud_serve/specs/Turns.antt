@@ -1,5 +1,5 @@
 -- What one request comes to: its turn, and when a turn is lawful.
-use Rattle.std.specs.Prelude.{◌≡◌, ◌≢◌, ℕ, ◌+◌, ◌⊎◌, Bool, List, [], ◌∷◌, Option, Some, None, Result, Ok, Err, length, codes}
+use Rattle.std.specs.Prelude.{◌≡◌, ◌≢◌, ℕ, ◌+◌, ◌⊎◌, Bool, true, false, List, [], ◌∷◌, Option, Some, None, Result, Ok, Err, length, codes}
 use Rattle.host_base.specs.declared.key.Key.{Key}
 use Rattle.host_base.specs.declared.permit.Permit.{Permit}
 use Rattle.host_base.specs.declared.request.Request.{Request}
@@ -13,6 +13,7 @@ use Rattle.bridge_headers.specs.declared.fault.RelayFault.TheVariants as fault
 use Rattle.grain_supervise.specs.declared.ask.Ask.{Ask}
 use Rattle.cloud_serve.specs.declared.showing.Showing.{Showing}
 use Rattle.cloud_serve.specs.declared.showing.Showing.TheVariants as showing
+use Rattle.share_graph.specs.declared.desk.Made.{Made}
 use Rattle.share_graph.specs.declared.refusal.Refusal.TheVariants as refusal
 use Rattle.desk_orders.specs.declared.reply.OrderFault.{OrderFault}
 use Rattle.desk_orders.specs.declared.reply.OrderFault.TheVariants as order_fault
@@ -66,14 +67,18 @@ Follows (verdict.Forward permit) turn =
     (back : Option (List ℕ)) × (turn.asked ≡ ask_of permit turn.request back ∷ []) × AnswersBack (wants_head turn.request) back turn.answer
 Follows (verdict.Site tag item) turn = ⊥
 
--- what an answer hands out, beside numbers: the text of a secret as a token
-abbrev pub handed_of : Option (List ℕ) → Handed
-handed_of None = handed.Nothing
-handed_of (Some text) = handed.Token text
+-- what an answer hands out, beside numbers: the key of the session that was opened, or a token
+abbrev pub handed_by : Option ℕ → List ℕ → Handed
+handed_by (Some session) text = handed.Key text
+handed_by None text = handed.Token text
+
+abbrev pub handed_of : Made → Option (List ℕ) → Handed
+handed_of made None = handed.Nothing
+handed_of made (Some text) = handed_by made.session text
 
 -- The text of the answer to an order. Want of memory has no text here: it breaks the turn off.
 abbrev pub AnswersOrder : Result Reply OrderFault → Bool → List ℕ → Type 0
-AnswersOrder (Ok (reply.Made made text)) head_only answer = answer ≡ done_text made (handed_of text) head_only
+AnswersOrder (Ok (reply.Made made text)) head_only answer = answer ≡ done_text made (handed_of made text) head_only
 AnswersOrder (Ok (reply.Refused why)) head_only answer = answer ≡ command_text why head_only
 AnswersOrder (Ok (reply.Options list)) head_only answer = ⊥
 AnswersOrder (Err order_fault.Store) head_only answer = answer ≡ fault_text own.StoreFailed head_only
@@ -97,21 +102,54 @@ pub record IsKeyed (book : Book) (low : ℕ) (key : Key) (turn : Turn) : Type 0 
   pub unordered : turn.acts ≡ []
   pub follows : Follows verdict turn
 
--- THE ORDER is made, at the turn's place: its answer is lawful there, what it adds is the entry at that place, and the connection
--- counts it from then on.
-pub record IsMade (book : Book) (low : ℕ) (order : Asked) (turn : Turn) (act : Act) : Type 0 where
-  pub acts_are : turn.acts ≡ act ∷ []
+-- whether an order was carried out
+abbrev pub is_done : Result Reply OrderFault → Bool
+is_done (Ok (reply.Made made text)) = true
+is_done (Ok (reply.Refused why)) = false
+is_done (Ok (reply.Options list)) = false
+is_done (Err fault) = false
+
+-- THE ORDER is made: its answer is lawful at its place, and what it adds is the entry at that place.
+pub record IsMade (book : Book) (low : ℕ) (order : Asked) (act : Act) : Type 0 where
   pub order_is : act.order ≡ order
   pub placed : Placed low book order act.place act.answer act.drawn act.added
+
+-- how far the connection counts the history once an order was made
+abbrev pub past : Act → ℕ
+past act = act.place + length act.added
+
+-- A turn's place is that of its last order, and the connection counts from then on what that one added.
+pub record EndsWith (act : Act) (turn : Turn) : Type 0 where
   pub place_is : turn.place ≡ act.place
-  pub reached_is : turn.reached ≡ act.place + length act.added
+  pub reached_is : turn.reached ≡ past act
   pub unasked : turn.asked ≡ []
 
--- Answered by what became of an order.
-pub record IsOrdered (book : Book) (low : ℕ) (order : Asked) (turn : Turn) : Type 0 where
+-- One order was made on the turn.
+pub record MakesOne (book : Book) (low : ℕ) (order : Asked) (turn : Turn) : Type 0 where
   pub act : Act
-  pub made : IsMade book low order turn act
-  pub answered : AnswersOrder act.answer (wants_head turn.request) turn.answer
+  pub acts_are : turn.acts ≡ act ∷ []
+  pub made : IsMade book low order act
+  pub ends : EndsWith act turn
+
+-- Two orders were made, the second since the first was carried out, and not before what that one added.
+pub record MakesBoth (book : Book) (low : ℕ) (first second : Asked) (turn : Turn) : Type 0 where
+  pub before : Act
+  pub act : Act
+  pub acts_are : turn.acts ≡ before ∷ act ∷ []
+  pub first_made : IsMade book low first before
+  pub done : is_done before.answer ≡ true
+  pub made : IsMade book (past before) second act
+  pub ends : EndsWith act turn
+
+-- answered by what became of an order
+abbrev pub IsOrdered : Book → ℕ → Asked → Turn → Type 0
+IsOrdered book low order turn = (makes : MakesOne book low order turn) × AnswersOrder makes.act.answer (wants_head turn.request) turn.answer
+
+-- Answered by what became of the first order, where it wasn't carried out; else by what became of the second.
+abbrev pub IsOpened : Book → ℕ → Asked → Asked → Turn → Type 0
+IsOpened book low first second turn =
+    ((makes : MakesOne book low first turn) × (is_done makes.act.answer ≡ false) × AnswersOrder makes.act.answer (wants_head turn.request) turn.answer)
+    ⊎ ((makes : MakesBoth book low first second turn) × AnswersOrder makes.act.answer (wants_head turn.request) turn.answer)
 
 -- A lawful turn, where the connection had counted `low` entries and the place before it was `last`.
 abbrev pub IsLawfulBy : Showing → Book → ℕ → ℕ → Turn → Type 0
@@ -121,16 +159,18 @@ IsLawfulBy (showing.BadBody field) book low last turn = IsPlain low last (fault_
 IsLawfulBy (showing.BadManifest bad) book low last turn = IsPlain low last (command_text (refusal.Manifest bad) (wants_head turn.request)) turn
 IsLawfulBy (showing.Keyed key) book low last turn = IsKeyed book low key turn
 IsLawfulBy (showing.Wants order) book low last turn = IsOrdered book low order turn
+IsLawfulBy (showing.Opens first second) book low last turn = IsOpened book low first second turn
 
 abbrev pub IsLawful : Book → ℕ → ℕ → Turn → Type 0
 IsLawful book low last turn = (shown : Showing) × Shows turn.request shown × IsLawfulBy shown book low last turn
 
 -- What may have been done on a turn that memory ran out on: the one text of a request that goes through was asked, or the order was
--- made.
+-- made, or of two the first or both.
 abbrev pub IsBegunBy : Showing → Book → ℕ → Turn → Type 0
 IsBegunBy (showing.Keyed key) book low turn =
     (permit : Permit) × (back : Option (List ℕ)) × Judged low book key turn.place (verdict.Forward permit) × (turn.asked ≡ ask_of permit turn.request back ∷ []) × (turn.acts ≡ [])
-IsBegunBy (showing.Wants order) book low turn = (act : Act) × IsMade book low order turn act
+IsBegunBy (showing.Wants order) book low turn = MakesOne book low order turn
+IsBegunBy (showing.Opens first second) book low turn = MakesOne book low first turn ⊎ MakesBoth book low first second turn
 IsBegunBy showing.NoRoute book low turn = ⊥
 IsBegunBy showing.NoCredential book low turn = ⊥
 IsBegunBy (showing.BadBody field) book low turn = ⊥

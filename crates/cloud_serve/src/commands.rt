@@ -1,153 +1,168 @@
-//! The commands that the desk's routes and their bodies state.
-ghost use Rattle.std.specs.Prelude.{◌≡◌, true, false, IfOk, None, Some, MatchOption, Result};
+//! The commands that the bodies of the desk's routes state.
 ghost use Rattle.desk_bodies.specs.Answers.{Answers};
-ghost use Rattle.desk_bodies.specs.Bodies.{account_body, grain_body, manifest_body, mark_body, plain_body};
-ghost use Rattle.desk_bodies.specs.declared.fault.BodyFault.{BodyFault};
+ghost use Rattle.desk_bodies.specs.Bodies.{account_body, child_body, grain_body, manifest_body, mark_body, plain_body, redeem_body, share_body, tab_body, token_body};
 ghost use Rattle.desk_orders.specs.Commands.{IsStated};
-ghost use Rattle.desk_orders.specs.declared.order.Command.{Command};
 ghost use Rattle.desk_orders.specs.declared.order.Command.TheVariants as command;
-ghost use Rattle.cloud_serve.specs.Commands.{command_at, stating, is_of_desk, IsCommand};
-ghost use Rattle.cloud_serve.specs.Routes.{IsOrdering, IsAtDesk};
+ghost use Rattle.share_graph.specs.declared.desk.Caller.TheVariants as caller;
+ghost use Rattle.cloud_serve.specs.Commands.{stating, wants, opens};
 
 use crate::showing::Showing;
 use desk_bodies::{
-    AccountFields, BodyFault, GrainFields, account_fields, grain_fields, manifest_field,
-    mark_field, no_fields,
+    AccountFields, BodyFault, ChildFields, GrainFields, ShareFields, TokenFields, account_fields,
+    child_fields, grain_fields, manifest_field, mark_field, no_fields, share_fields, tab_field,
+    token_field, token_fields,
 };
-use front_http::Route;
-use host_base::{AccountId, Digest, GrainId, Memory};
+use host_base::{AccountId, Digest, GrainId};
 use hub_core::{Command, Order};
 use share_graph::Caller;
 use std::alloc::Global;
 
-// A new account.
-fn account_command(alloc: Global, body: &[u8]) -> Result<Command, BodyFault>
-    ensures stated { Answers (stating (λ fields. command.AddAccount fields.handle fields.name) (account_body body.now)) result }
-    ensures form { IfOk result IsStated }
+/// A new account.
+pub fn new_account(alloc: Global, who: Digest, body: &[u8]) -> Result<Showing, BodyFault>
+    ensures { Answers (stating (λ fields. wants (caller.Login who) (command.AddAccount fields.handle fields.name)) (account_body body.now)) result }
 {
-    match account_fields(alloc, body) {
-        Ok(AccountFields { handle, name }) => Ok(Command::AddAccount(handle, name)),
-        Err(fault) => Err(fault),
-    }
+    let AccountFields { handle, name } = account_fields(alloc, body)?;
+    Ok(Showing::Wants(Order::new(Caller::Login(who), Command::AddAccount(handle, name))))
 }
 
-// A mark of an account, as an admin or as enabled.
-fn mark_command(
+/// An account becomes an admin, or is one no longer.
+pub fn admin_mark(
     alloc: Global,
+    who: Digest,
     account: AccountId,
-    is_admin: bool,
     body: &[u8],
-) -> Result<Command, BodyFault>
-    ensures admin { is_admin ≡ true → Answers (stating (λ on. command.SetAdmin account on) (mark_body body.now)) result }
-    ensures enabled { is_admin ≡ false → Answers (stating (λ on. command.SetEnabled account on) (mark_body body.now)) result }
-    ensures form { IfOk result IsStated }
+) -> Result<Showing, BodyFault>
+    ensures { Answers (stating (λ on. wants (caller.Login who) (command.SetAdmin account on)) (mark_body body.now)) result }
 {
-    match mark_field(alloc, body) {
-        Ok(on) => {
-            if is_admin {
-                Ok(Command::SetAdmin(account, on))
-            } else {
-                Ok(Command::SetEnabled(account, on))
-            }
-        }
-        Err(fault) => Err(fault),
-    }
+    let on = mark_field(alloc, body)?;
+    Ok(Showing::Wants(Order::new(Caller::Login(who), Command::SetAdmin(account, on))))
 }
 
-// A new application.
-fn app_command(alloc: Global, body: &[u8]) -> Result<Command, BodyFault>
-    ensures stated { Answers (stating (λ manifest. command.AddApp manifest) (manifest_body body.now)) result }
-    ensures form { IfOk result IsStated }
-{
-    match manifest_field(alloc, body) {
-        Ok(manifest) => Ok(Command::AddApp(manifest)),
-        Err(fault) => Err(fault),
-    }
-}
-
-// A new grain.
-fn grain_command(alloc: Global, body: &[u8]) -> Result<Command, BodyFault>
-    ensures stated { Answers (stating (λ fields. command.NewGrain fields.app fields.title) (grain_body body.now)) result }
-    ensures form { IfOk result IsStated }
-{
-    match grain_fields(alloc, body) {
-        Ok(GrainFields { app, title }) => Ok(Command::NewGrain(app, title)),
-        Err(fault) => Err(fault),
-    }
-}
-
-// A grain goes into the trash, or comes out of it.
-fn trash_command(
+/// An account is enabled, or disabled.
+pub fn enabled_mark(
     alloc: Global,
-    grain: GrainId,
-    is_in: bool,
+    who: Digest,
+    account: AccountId,
     body: &[u8],
-) -> Result<Command, BodyFault>
-    ensures into { is_in ≡ true → Answers (stating (λ _. command.Trash grain) (plain_body body.now)) result }
-    ensures out { is_in ≡ false → Answers (stating (λ _. command.Untrash grain) (plain_body body.now)) result }
-    ensures form { IfOk result IsStated }
+) -> Result<Showing, BodyFault>
+    ensures { Answers (stating (λ on. wants (caller.Login who) (command.SetEnabled account on)) (mark_body body.now)) result }
 {
-    match no_fields(alloc, body) {
-        Ok(()) => {
-            if is_in {
-                Ok(Command::Trash(grain))
-            } else {
-                Ok(Command::Untrash(grain))
-            }
-        }
-        Err(fault) => Err(fault),
-    }
+    let on = mark_field(alloc, body)?;
+    Ok(Showing::Wants(Order::new(Caller::Login(who), Command::SetEnabled(account, on))))
 }
 
-// The command that a route and a body state, where the route is the desk's and answered.
-fn command_of(alloc: Global, route: Route, body: &[u8]) -> Option<Result<Command, BodyFault>>
-    ensures { MatchOption result (command_at route body.now ≡ None) (IsCommand (command_at route body.now)) }
+/// A new application.
+pub fn new_app(alloc: Global, who: Digest, body: &[u8]) -> Result<Showing, BodyFault>
+    ensures { Answers (stating (λ manifest. wants (caller.Login who) (command.AddApp manifest)) (manifest_body body.now)) result }
 {
-    match route {
-        Route::Accounts => Some(account_command(alloc, body)),
-        Route::AccountAdmin(num) => Some(mark_command(alloc, AccountId(num), true, body)),
-        Route::AccountEnabled(num) => Some(mark_command(alloc, AccountId(num), false, body)),
-        Route::Apps => Some(app_command(alloc, body)),
-        Route::Grains => Some(grain_command(alloc, body)),
-        Route::GrainTrash(num) => Some(trash_command(alloc, GrainId(num), true, body)),
-        Route::GrainUntrash(num) => Some(trash_command(alloc, GrainId(num), false, body)),
-        _ => None,
-    }
+    let manifest = manifest_field(alloc, body)?;
+    Ok(Showing::Wants(Order::new(Caller::Login(who), Command::AddApp(manifest))))
 }
 
-/// Whether a route is the desk's, and answered.
-pub fn is_answered(route: Route) -> bool
-    ensures { result ≡ is_of_desk route }
+/// A new grain.
+pub fn new_grain(alloc: Global, who: Digest, body: &[u8]) -> Result<Showing, BodyFault>
+    ensures { Answers (stating (λ fields. wants (caller.Login who) (command.NewGrain fields.app fields.title)) (grain_body body.now)) result }
 {
-    match route {
-        Route::Accounts | Route::AccountAdmin(_) | Route::AccountEnabled(_) => true,
-        Route::Apps | Route::Grains => true,
-        Route::GrainTrash(_) | Route::GrainUntrash(_) => true,
-        _ => false,
-    }
+    let GrainFields { app, title } = grain_fields(alloc, body)?;
+    Ok(Showing::Wants(Order::new(Caller::Login(who), Command::NewGrain(app, title))))
 }
 
-// What an account with a login wants.
-fn wanted(digest: Digest, command: Result<Command, BodyFault>) -> Result<Showing, Memory>
-    requires { IfOk command IsStated }
-    ensures { (stated : Result Command BodyFault) → Answers stated command → IfOk result (IsOrdering digest stated) }
+/// A command whose body states nothing.
+pub fn plain(alloc: Global, who: Caller, asked: Command, body: &[u8]) -> Result<Showing, BodyFault>
+    requires { IsStated who asked }
+    ensures { Answers (stating (λ _. wants who asked) (plain_body body.now)) result }
 {
-    match command {
-        Ok(command) => Ok(Showing::Wants(Order::new(Caller::Login(digest), command))),
-        Err(fault) => match fault {
-            BodyFault::BadBody(number) => Ok(Showing::BadBody(number)),
-            BodyFault::Manifest(bad) => Ok(Showing::BadManifest(bad)),
-            BodyFault::Memory => Err(Memory),
+    no_fields(alloc, body)?;
+    Ok(Showing::Wants(Order::new(who, asked)))
+}
+
+/// A share of a grain.
+pub fn new_share(
+    alloc: Global,
+    who: Digest,
+    grain: GrainId,
+    body: &[u8],
+) -> Result<Showing, BodyFault>
+    ensures { Answers (stating (λ fields. wants (caller.Login who) (command.Share grain fields.to fields.assignment fields.needs)) (share_body body.now)) result }
+{
+    let ShareFields {
+        to,
+        assignment,
+        needs,
+    } = share_fields(alloc, body)?;
+    Ok(Showing::Wants(Order::new(
+        Caller::Login(who),
+        Command::Share {
+            grain,
+            to,
+            assignment,
+            needs,
         },
-    }
+    )))
 }
 
-/// What is wanted on a route of the desk with a credential.
-pub fn ordering(alloc: Global, digest: Digest, route: Route, body: &[u8]) -> Result<Showing, Memory>
-    ensures { IfOk result (IsAtDesk (Some digest) (command_at route body.now)) }
+/// A token to a grain: a link where it is for sharing.
+pub fn new_token(
+    alloc: Global,
+    who: Digest,
+    grain: GrainId,
+    for_sharing: bool,
+    body: &[u8],
+) -> Result<Showing, BodyFault>
+    ensures { Answers (stating (λ fields. wants (caller.Login who) (command.MakeToken grain for_sharing fields.assignment fields.needs)) (token_body body.now)) result }
 {
-    match command_of(alloc, route, body) {
-        Some(command) => wanted(digest, command),
-        None => Ok(Showing::NoRoute),
-    }
+    let TokenFields { assignment, needs } = token_fields(alloc, body)?;
+    Ok(Showing::Wants(Order::new(
+        Caller::Login(who),
+        Command::MakeToken {
+            grain,
+            for_sharing,
+            assignment,
+            needs,
+        },
+    )))
+}
+
+/// A further token from a bearer's.
+pub fn new_child(alloc: Global, who: Digest, body: &[u8]) -> Result<Showing, BodyFault>
+    ensures { Answers (stating (λ fields. wants (caller.Bearer who) (command.Child fields.for_sharing fields.assignment fields.needs)) (child_body body.now)) result }
+{
+    let ChildFields {
+        for_sharing,
+        assignment,
+        needs,
+    } = child_fields(alloc, body)?;
+    Ok(Showing::Wants(Order::new(
+        Caller::Bearer(who),
+        Command::Child {
+            for_sharing,
+            assignment,
+            needs,
+        },
+    )))
+}
+
+/// A link is redeemed.
+pub fn redemption(alloc: Global, who: Digest, body: &[u8]) -> Result<Showing, BodyFault>
+    ensures { Answers (stating (λ token. wants (caller.Login who) (command.Redeem token)) (redeem_body body.now)) result }
+{
+    let token = token_field(alloc, body)?;
+    Ok(Showing::Wants(Order::new(Caller::Login(who), Command::Redeem(token))))
+}
+
+/// A grain is opened: by a login, which names it, or by a bearer.
+pub fn opening(
+    alloc: Global,
+    who: Caller,
+    grain: Option<GrainId>,
+    body: &[u8],
+) -> Result<Showing, BodyFault>
+    requires { IsStated who (command.StartRun grain) }
+    ensures { Answers (stating (λ tab. opens who grain tab) (tab_body body.now)) result }
+{
+    let tab = tab_field(alloc, body)?;
+    Ok(Showing::Opens(
+        Order::new(who, Command::StartRun(grain)),
+        Order::new(who, Command::OpenSession { grain, tab }),
+    ))
 }

@@ -1,6 +1,7 @@
 //! One connection, from the bytes that come in to the bytes that go out.
 #![tactic(auto)]
 
+mod asking;
 mod commands;
 mod ending;
 mod serve;

@@ -1,9 +1,8 @@
 //! What a request shows, and so how it is answered.
 ghost use Rattle.std.specs.Prelude.{◌≡◌, IfOk};
-ghost use Rattle.cloud_serve.specs.Commands.{command_at};
 ghost use Rattle.cloud_serve.specs.Routes.{Shows, ShowsAt, IsAtDesk, bearer_showing};
 
-use crate::commands::{is_answered, ordering};
+use crate::asking::{asked_for, is_answered};
 use app_manifest::ManifestFault;
 use front_http::{Route, Routes};
 use host_base::{Digest, Key, Memory, Request};
@@ -25,6 +24,8 @@ pub enum Showing {
     Keyed(Key),
     /// It wants this of the desk.
     Wants(Order),
+    /// It wants a grain opened: the first order starts a run of it, where none is live, and the second opens a session.
+    Opens(Order, Order),
 }
 
 fn credential(bearer: &Option<Digest>) -> Showing
@@ -43,10 +44,10 @@ fn at_desk(
     bearer: &Option<Digest>,
     body: &[u8],
 ) -> Result<Showing, Memory>
-    ensures { IfOk result (IsAtDesk bearer.now (command_at route body.now)) }
+    ensures { IfOk result (IsAtDesk route bearer.now body.now) }
 {
     match bearer {
-        Some(digest) => ordering(alloc, *digest, route, body),
+        Some(digest) => asked_for(alloc, route, *digest, body),
         None => {
             if is_answered(route) {
                 Ok(Showing::NoCredential)

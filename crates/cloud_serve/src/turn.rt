@@ -4,7 +4,7 @@ ghost use Rattle.hub_core.specs.Book.{Book};
 ghost use Rattle.cloud_serve.specs.Routes.{Shows};
 ghost use Rattle.grain_supervise.specs.Line.{Line};
 ghost use Rattle.cloud_serve.specs.Taking.{Asks, Forwards, Takes, IsNoList, answered_at};
-ghost use Rattle.cloud_serve.specs.Turns.{AnswersBack, AnswersOrder};
+ghost use Rattle.cloud_serve.specs.Turns.{AnswersBack, AnswersOrder, handed_of, is_done};
 ghost use Rattle.cloud_serve.specs.declared.showing.Showing.TheVariants as shown;
 
 use crate::showing::{Showing, find_showing};
@@ -18,7 +18,7 @@ use hub_core::{Desk, Order, OrderFault, Reply};
 use reply_texts::{
     Handed, OwnFault, command_reply, denial_reply, done_reply, fault_reply, own_reply, wants_head,
 };
-use share_graph::Refusal;
+use share_graph::{Made, Refusal};
 use std::alloc::Global;
 
 /// The place and the text of an answer.
@@ -129,6 +129,29 @@ fn keyed<D: Desk, L: Link>(
     }
 }
 
+// What an answer hands out, beside numbers: the key of the session that was opened, or a token.
+fn handed(made: &Made, text: Option<Bytes>) -> Handed
+    ensures { result ≡ handed_of made.now text }
+{
+    match text {
+        None => Handed::Nothing,
+        Some(text) => match made.session {
+            Some(_) => Handed::Key(text),
+            None => Handed::Token(text),
+        },
+    }
+}
+
+// Whether an order was carried out.
+fn was_done(answer: &Result<Reply, OrderFault>) -> bool
+    ensures { result ≡ is_done answer.now }
+{
+    match answer {
+        Ok(Reply::Made(_, _)) => true,
+        Ok(Reply::Refused(_)) | Ok(Reply::Options(_)) | Err(_) => false,
+    }
+}
+
 // The text of the answer to an order, which isn't a list.
 fn order_text(
     alloc: Global,
@@ -140,10 +163,10 @@ fn order_text(
 {
     match answer {
         Ok(reply) => match reply {
-            Reply::Made(made, text) => match text {
-                Some(text) => done_reply(alloc, &made, &Handed::Token(text), head_only),
-                None => done_reply(alloc, &made, &Handed::Nothing, head_only),
-            },
+            Reply::Made(made, text) => {
+                let handed = handed(&made, text);
+                done_reply(alloc, &made, &handed, head_only)
+            }
             Reply::Options(_) => unreachable!(),
             Reply::Refused(refusal) => command_reply(alloc, &refusal, head_only),
         },
@@ -171,6 +194,33 @@ fn ordered<D: Desk>(
     match order_text(alloc, answer, wants_head(request)) {
         Ok(text) => Ok(Answered { place, text }),
         Err(Memory) => Err(Memory),
+    }
+}
+
+// A turn on a request that wants a grain opened.
+fn opened<D: Desk>(
+    alloc: Global,
+    request: &Request,
+    first: Order,
+    second: Order,
+    desk: &mut D,
+) -> Result<Answered, Memory>
+    requires shown { Shows request.now (shown.Opens first second) }
+    ensures takes { (low last counted : ℕ) (line : Line) → low ≤ length (D.book desk.old).seen →
+        Takes (D.book desk.old) (D.book desk.new) line line counted counted low last request.now result }
+{
+    let (place, answer) = desk.order(alloc, first);
+    if was_done(&answer) {
+        let (place, answer) = desk.order(alloc, second);
+        match order_text(alloc, answer, wants_head(request)) {
+            Ok(text) => Ok(Answered { place, text }),
+            Err(Memory) => Err(Memory),
+        }
+    } else {
+        match order_text(alloc, answer, wants_head(request)) {
+            Ok(text) => Ok(Answered { place, text }),
+            Err(Memory) => Err(Memory),
+        }
     }
 }
 
@@ -222,6 +272,7 @@ pub fn take_turn<D: Desk, L: Link>(
             }
             Showing::Keyed(key) => keyed(alloc, request, &key, desk, link, forwarded),
             Showing::Wants(order) => ordered(alloc, request, order, desk),
+            Showing::Opens(first, second) => opened(alloc, request, first, second, desk),
         },
     }
 }

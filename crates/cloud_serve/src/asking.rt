@@ -1,0 +1,102 @@
+//! What the desk's routes ask for.
+ghost use Rattle.std.specs.Prelude.{◌≡◌, IfOk, None, MatchOption, Result};
+ghost use Rattle.desk_bodies.specs.declared.fault.BodyFault.{BodyFault};
+ghost use Rattle.desk_bodies.specs.Answers.{Answers};
+ghost use Rattle.cloud_serve.specs.Asking.{AnswersAt};
+ghost use Rattle.cloud_serve.specs.Commands.{asked_at, is_of_desk};
+ghost use Rattle.cloud_serve.specs.Routes.{IsAsked, IsAskedAt};
+ghost use Rattle.cloud_serve.specs.declared.showing.Showing.{Showing};
+
+use crate::commands::{
+    admin_mark, enabled_mark, new_account, new_app, new_child, new_grain, new_share, new_token,
+    opening, plain, redemption,
+};
+use crate::showing::Showing;
+use desk_bodies::BodyFault;
+use front_http::Route;
+use host_base::{AccountId, Digest, GrainId, GrantId, Memory, SessionId};
+use hub_core::Command;
+use share_graph::Caller;
+use std::alloc::Global;
+
+// What a route and a body ask for, where the route is the desk's and answered.
+fn stated(
+    alloc: Global,
+    route: Route,
+    who: Digest,
+    body: &[u8],
+) -> Option<Result<Showing, BodyFault>>
+    ensures { MatchOption result (asked_at route who body.now ≡ None) (AnswersAt (asked_at route who body.now)) }
+{
+    let login = Caller::Login(who);
+    let bearer = Caller::Bearer(who);
+    let either = Caller::Either(who);
+    match route {
+        Route::Accounts => Some(new_account(alloc, who, body)),
+        Route::AccountAdmin(num) => Some(admin_mark(alloc, who, AccountId(num), body)),
+        Route::AccountEnabled(num) => Some(enabled_mark(alloc, who, AccountId(num), body)),
+        Route::Apps => Some(new_app(alloc, who, body)),
+        Route::Grains => Some(new_grain(alloc, who, body)),
+        Route::GrainTrash(num) => Some(plain(alloc, login, Command::Trash(GrainId(num)), body)),
+        Route::GrainUntrash(num) => Some(plain(alloc, login, Command::Untrash(GrainId(num)), body)),
+        Route::GrainShare(num) => Some(new_share(alloc, who, GrainId(num), body)),
+        Route::GrainLink(num) => Some(new_token(alloc, who, GrainId(num), true, body)),
+        Route::GrainToken(num) => Some(new_token(alloc, who, GrainId(num), false, body)),
+        Route::GrainOpen(num) => Some(opening(alloc, login, Some(GrainId(num)), body)),
+        Route::GrainWake(num) => Some(plain(
+            alloc,
+            login,
+            Command::StartRun(Some(GrainId(num))),
+            body,
+        )),
+        Route::GrainStop(num) => Some(plain(alloc, login, Command::StopRun(GrainId(num)), body)),
+        Route::Redeem => Some(redemption(alloc, who, body)),
+        Route::GrantRevoke(num) => Some(plain(alloc, login, Command::Revoke(GrantId(num)), body)),
+        Route::SessionClose(num) => Some(plain(
+            alloc,
+            either,
+            Command::CloseSession(SessionId(num)),
+            body,
+        )),
+        Route::Child => Some(new_child(alloc, who, body)),
+        Route::Open => Some(opening(alloc, bearer, None, body)),
+        Route::Wake => Some(plain(alloc, bearer, Command::StartRun(None), body)),
+        _ => None,
+    }
+}
+
+/// Whether a route is the desk's, and answered.
+pub fn is_answered(route: Route) -> bool
+    ensures { result ≡ is_of_desk route }
+{
+    match route {
+        Route::GrainQuery(_) | Route::GrainChoose(_) => false,
+        Route::Session(_) | Route::Api | Route::Use(_) => false,
+        Route::Claim | Route::Save | Route::Restore | Route::Drop => false,
+        _ => true,
+    }
+}
+
+// What a body comes to.
+fn shown(answer: Result<Showing, BodyFault>) -> Result<Showing, Memory>
+    ensures { (asked : Result Showing BodyFault) → Answers asked answer → IfOk result (IsAsked asked) }
+{
+    match answer {
+        Ok(showing) => Ok(showing),
+        Err(fault) => match fault {
+            BodyFault::BadBody(number) => Ok(Showing::BadBody(number)),
+            BodyFault::Manifest(bad) => Ok(Showing::BadManifest(bad)),
+            BodyFault::Memory => Err(Memory),
+        },
+    }
+}
+
+/// What is asked for on a route of the desk with a credential.
+pub fn asked_for(alloc: Global, route: Route, who: Digest, body: &[u8]) -> Result<Showing, Memory>
+    ensures { IfOk result (IsAskedAt (asked_at route who body.now)) }
+{
+    match stated(alloc, route, who, body) {
+        Some(answer) => shown(answer),
+        None => Ok(Showing::NoRoute),
+    }
+}
