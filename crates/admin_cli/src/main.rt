@@ -1,8 +1,11 @@
-// The program: serves one connection over standard input and output, from the small book. Secrets are of the system's randomness.
+// The program: serves one connection over standard input and output, from the small book, or is a grain on a socket. Secrets are of the
+// system's randomness.
 #![tactic(auto)]
 
-use admin_run::{World, run};
-use grain_supervise::EchoLink;
+use admin_run::{Line, World, line_of, run};
+use conn_door::{Door, MemDoor};
+use grain_process::UnixDoor;
+use grain_supervise::{EchoLink, FakeSpawner};
 use host_base::{Fails, Memory, StdSink, StdSource};
 use rand::rngs::SysRng;
 use std::process::ExitCode;
@@ -24,17 +27,31 @@ fn line(rt: &HostRuntime) -> Result<Vec<String>, Memory> {
     }
 }
 
+// Runs the program with a door.
+fn run_with<E: Door + Drop>(rt: &HostRuntime, words: &[String], door: E) -> u8 {
+    let alloc = rt.alloc();
+    let mut input = StdSource::new(rt.reader());
+    let mut out = StdSink::new(io::writer(rt));
+    let world = World {
+        link: EchoLink::new(alloc, Fails::empty(alloc)),
+        secrets: RngSecrets::new(SysRng::new(rt)),
+        spawner: FakeSpawner::new(alloc, Fails::empty(alloc)),
+        door,
+    };
+    run(alloc, words, &mut input, &mut out, world).status
+}
+
 fn main(rt: HostRuntime) -> ExitCode {
     let alloc = rt.alloc();
     let Ok(words) = line(&rt) else {
         return ExitCode::from(7);
     };
-    let mut input = StdSource::new(rt.reader());
-    let mut out = StdSink::new(io::writer(&rt));
-    let world = World {
-        link: EchoLink::new(alloc, Fails::empty(alloc)),
-        secrets: RngSecrets::new(SysRng::new(&rt)),
+    let words = words.as_slice();
+    let status = match (line_of(words), words) {
+        (Line::Grain(_), [_, socket, _]) => {
+            run_with(&rt, words, UnixDoor::bind(&rt, socket.as_str()))
+        }
+        _ => run_with(&rt, words, MemDoor::new(Vec::new(alloc))),
     };
-    let ran = run(alloc, words.as_slice(), &mut input, &mut out, world);
-    ExitCode::from(ran.status)
+    ExitCode::from(status)
 }

@@ -5,3 +5,4 @@ mod program;
 mod words;
 
 pub use program::{Ran, USAGE, World, run};
+pub use words::{Line, line_of};

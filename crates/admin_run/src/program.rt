@@ -1,31 +1,37 @@
-ghost use Rattle.std.specs.Prelude.{◌≡◌, [], IfOk, IfErr};
-ghost use Rattle.host_base.specs.Outside.{Inlet, Outlet, Rose};
-ghost use Rattle.grain_supervise.specs.Line.{Line};
-ghost use Rattle.admin_run.specs.Words.{IsPlay};
-ghost use Rattle.admin_run.specs.Run.{status_by, Plays, TellsUsage, Completes};
+//! What the program does.
+ghost use Rattle.std.specs.Prelude.{◌≡◌, ℕ, [], IfOk, IfErr};
+ghost use Rattle.admin_run.specs.Words.{IsPlay, IsGrain, IsNoLine};
+ghost use Rattle.admin_run.specs.Run.{status_by, status_of_grain, Plays, ServesGrain, TellsUsage, Completes, HasCause};
 ghost use Rattle.small_book.specs.SmallBook.{small_book};
 
-use crate::words::is_play;
+use crate::words::{Line, line_of};
 use cloud_serve::{End, serve_conn};
-use grain_supervise::Link;
+use conn_door::Door;
+use grain_program::{GrainEnd, run_grain};
+use grain_supervise::{Link, Spawner};
 use host_base::{Memory, Secrets, Sink, Source, WriteFailed};
 use hub_core::{Locked, SoloDesk};
 use small_book::small_book;
 use std::alloc::Global;
 
-/// What the program is run with beside its words, its input and its output: a link to grains, and what secrets are drawn from.
+/// What the program is run with beside its words, its input and its output: a link to grains, what secrets are drawn from, what
+/// starts and stops the runs of grains, and where connections come in.
 #[derive(Debug, Drop)]
-pub struct World<L, S> {
+pub struct World<L, S, P, E> {
     pub link: L,
     pub secrets: S,
+    pub spawner: P,
+    pub door: E,
 }
 
-/// The status of a run, with the link and the secrets handed back.
+/// The status of a run, with the objects of its world handed back.
 #[derive(Debug, Drop)]
-pub struct Ran<L, S> {
+pub struct Ran<L, S, P, E> {
     pub status: u8,
     pub link: L,
     pub secrets: S,
+    pub spawner: P,
+    pub door: E,
 }
 
 /// The line that is written where the words are none of the program's lines.
@@ -46,72 +52,115 @@ fn status_of(end: End) -> u8
     }
 }
 
-// The desk that `play` begins with: over the small book. Where memory runs out the secrets are handed back.
-fn small_desk<S: Secrets>(alloc: Global, secrets: S) -> Result<SoloDesk<S>, S>
-    ensures ok { IfOk result (λ desk. desk ≡ record { start = small_book; history = []; secrets = secrets }) }
-    ensures err { IfErr result (λ back. back ≡ secrets) }
+fn status_of_end(end: GrainEnd) -> u8
+    ensures { result ≡ status_of_grain end }
+{
+    match end {
+        GrainEnd::Done => 0,
+        GrainEnd::DoorFailed => 4,
+        GrainEnd::WriteFailed => 5,
+        GrainEnd::Memory => 7,
+    }
+}
+
+// The desk that `play` begins with: over the small book. Where memory runs out the objects are handed back.
+fn small_desk<S: Secrets, P: Spawner>(
+    alloc: Global,
+    secrets: S,
+    spawner: P,
+) -> Result<SoloDesk<S, P>, (S, P)>
+    ensures ok { IfOk result (λ desk. desk ≡ record { start = small_book; history = []; secrets = secrets; spawner = spawner }) }
+    ensures err { IfErr result (λ back. (back.0 ≡ secrets) × (back.1 ≡ spawner)) }
 {
     match small_book(alloc) {
-        Ok(book) => match Locked::from_state(alloc, book, secrets) {
+        Ok(book) => match Locked::from_state(alloc, book, secrets, spawner) {
             Ok(locked) => Ok(SoloDesk::new(locked)),
-            Err(closed) => Err(closed.secrets),
+            Err(closed) => Err((closed.secrets, closed.spawner)),
         },
-        Err(Memory) => Err(secrets),
+        Err(Memory) => Err((secrets, spawner)),
     }
 }
 
 // Serves one connection from the small book.
-fn play<I: Source, O: Sink, L: Link, S: Secrets>(
+fn play<I: Source, O: Sink, L: Link, S: Secrets, P: Spawner, E: Door>(
     alloc: Global,
     input: &mut I,
     out: &mut O,
-    world: World<L, S>,
-) -> Ran<L, S>
-    ensures plays { Plays (I.inlet input.old) (I.inlet input.new) (O.outlet out.old) (O.outlet out.new)
-        (L.line world.link) (L.line result.link) (S.drawer world.secrets) (S.drawer result.secrets) result.status }
+    world: World<L, S, P, E>,
+) -> Ran<L, S, P, E>
+    ensures plays { Plays
+        (record { inlet = I.inlet input.old; outlet = O.outlet out.old; line = L.line world.link; drawer = S.drawer world.secrets; spawns = P.spawns world.spawner; doorway = E.doorway world.door })
+        (record { inlet = I.inlet input.new; outlet = O.outlet out.new; line = L.line result.link; drawer = S.drawer result.secrets; spawns = P.spawns result.spawner; doorway = E.doorway result.door }) result.status }
     ensures completes { Completes (I.inlet input.old) (I.inlet input.new) (O.outlet out.old) (O.outlet out.new) result.status }
-    ensures read_fault { result.status ≡ 4 → Rose (I.inlet input.old).faults (I.inlet input.new).faults }
-    ensures write_fault { result.status ≡ 5 → Rose (O.outlet out.old).faults (O.outlet out.new).faults }
+    ensures cause { HasCause
+        (record { inlet = I.inlet input.old; outlet = O.outlet out.old; line = L.line world.link; drawer = S.drawer world.secrets; spawns = P.spawns world.spawner; doorway = E.doorway world.door })
+        (record { inlet = I.inlet input.new; outlet = O.outlet out.new; line = L.line result.link; drawer = S.drawer result.secrets; spawns = P.spawns result.spawner; doorway = E.doorway result.door }) result.status }
 {
     let mut link = world.link;
-    match small_desk(alloc, world.secrets) {
-        Err(secrets) => Ran {
+    match small_desk(alloc, world.secrets, world.spawner) {
+        Err((secrets, spawner)) => Ran {
             status: 7,
             link,
             secrets,
+            spawner,
+            door: world.door,
         },
         Ok(mut desk) => {
             let end = serve_conn(alloc, input, out, &mut desk, &mut link);
             let status = status_of(end.end);
-            let secrets = desk.into_locked().into_parts();
+            let (secrets, spawner) = desk.into_locked().into_parts();
             Ran {
                 status,
                 link,
                 secrets,
+                spawner,
+                door: world.door,
             }
         }
     }
 }
 
-/// All that the program does. `play` serves one connection from the small book; any other words get the usage line.
-pub fn run<I: Source, O: Sink, L: Link, S: Secrets>(
+// Is a grain: answers connections at the door.
+fn grain<I: Source, O: Sink, L: Link, S: Secrets, P: Spawner, E: Door>(
     alloc: Global,
-    words: &[String],
     input: &mut I,
     out: &mut O,
-    world: World<L, S>,
-) -> Ran<L, S>
-    ensures play { IsPlay words.now → Plays (I.inlet input.old) (I.inlet input.new) (O.outlet out.old) (O.outlet out.new)
-        (L.line world.link) (L.line result.link) (S.drawer world.secrets) (S.drawer result.secrets) result.status }
-    ensures complete { IsPlay words.now → Completes (I.inlet input.old) (I.inlet input.new) (O.outlet out.old) (O.outlet out.new) result.status }
-    ensures usage { (IsPlay words.now → ⊥) → TellsUsage (I.inlet input.old) (I.inlet input.new) (O.outlet out.old) (O.outlet out.new)
-        (L.line world.link) (L.line result.link) (S.drawer world.secrets) (S.drawer result.secrets) result.status }
-    ensures read_fault { result.status ≡ 4 → Rose (I.inlet input.old).faults (I.inlet input.new).faults }
-    ensures write_fault { result.status ≡ 5 → Rose (O.outlet out.old).faults (O.outlet out.new).faults }
+    world: World<L, S, P, E>,
+    count: u32,
+) -> Ran<L, S, P, E>
+    ensures serves { ServesGrain
+        (record { inlet = I.inlet input.old; outlet = O.outlet out.old; line = L.line world.link; drawer = S.drawer world.secrets; spawns = P.spawns world.spawner; doorway = E.doorway world.door })
+        (record { inlet = I.inlet input.new; outlet = O.outlet out.new; line = L.line result.link; drawer = S.drawer result.secrets; spawns = P.spawns result.spawner; doorway = E.doorway result.door }) count result.status }
+    ensures cause { HasCause
+        (record { inlet = I.inlet input.old; outlet = O.outlet out.old; line = L.line world.link; drawer = S.drawer world.secrets; spawns = P.spawns world.spawner; doorway = E.doorway world.door })
+        (record { inlet = I.inlet input.new; outlet = O.outlet out.new; line = L.line result.link; drawer = S.drawer result.secrets; spawns = P.spawns result.spawner; doorway = E.doorway result.door }) result.status }
 {
-    if is_play(words) {
-        return play(alloc, input, out, world);
+    let _ = input;
+    let mut door = world.door;
+    let end = run_grain(alloc, &mut door, out, count);
+    Ran {
+        status: status_of_end(end),
+        link: world.link,
+        secrets: world.secrets,
+        spawner: world.spawner,
+        door,
     }
+}
+
+// Writes the usage line.
+fn usage<I: Source, O: Sink, L: Link, S: Secrets, P: Spawner, E: Door>(
+    input: &mut I,
+    out: &mut O,
+    world: World<L, S, P, E>,
+) -> Ran<L, S, P, E>
+    ensures tells { TellsUsage
+        (record { inlet = I.inlet input.old; outlet = O.outlet out.old; line = L.line world.link; drawer = S.drawer world.secrets; spawns = P.spawns world.spawner; doorway = E.doorway world.door })
+        (record { inlet = I.inlet input.new; outlet = O.outlet out.new; line = L.line result.link; drawer = S.drawer result.secrets; spawns = P.spawns result.spawner; doorway = E.doorway result.door }) result.status }
+    ensures cause { HasCause
+        (record { inlet = I.inlet input.old; outlet = O.outlet out.old; line = L.line world.link; drawer = S.drawer world.secrets; spawns = P.spawns world.spawner; doorway = E.doorway world.door })
+        (record { inlet = I.inlet input.new; outlet = O.outlet out.new; line = L.line result.link; drawer = S.drawer result.secrets; spawns = P.spawns result.spawner; doorway = E.doorway result.door }) result.status }
+{
+    let _ = input;
     let status = match out.put(USAGE) {
         Ok(()) => 2,
         Err(WriteFailed) => 5,
@@ -120,5 +169,37 @@ pub fn run<I: Source, O: Sink, L: Link, S: Secrets>(
         status,
         link: world.link,
         secrets: world.secrets,
+        spawner: world.spawner,
+        door: world.door,
+    }
+}
+
+/// All that the program does. `play` serves one connection from the small book; `grain SOCKET COUNT` prints `ready` and answers so many
+/// connections at its door with what they were asked; any other words get the usage line.
+pub fn run<I: Source, O: Sink, L: Link, S: Secrets, P: Spawner, E: Door>(
+    alloc: Global,
+    words: &[String],
+    input: &mut I,
+    out: &mut O,
+    world: World<L, S, P, E>,
+) -> Ran<L, S, P, E>
+    ensures play { IsPlay words.now → Plays
+        (record { inlet = I.inlet input.old; outlet = O.outlet out.old; line = L.line world.link; drawer = S.drawer world.secrets; spawns = P.spawns world.spawner; doorway = E.doorway world.door })
+        (record { inlet = I.inlet input.new; outlet = O.outlet out.new; line = L.line result.link; drawer = S.drawer result.secrets; spawns = P.spawns result.spawner; doorway = E.doorway result.door }) result.status }
+    ensures complete { IsPlay words.now → Completes (I.inlet input.old) (I.inlet input.new) (O.outlet out.old) (O.outlet out.new) result.status }
+    ensures grain { (count : ℕ) → IsGrain words.now count → ServesGrain
+        (record { inlet = I.inlet input.old; outlet = O.outlet out.old; line = L.line world.link; drawer = S.drawer world.secrets; spawns = P.spawns world.spawner; doorway = E.doorway world.door })
+        (record { inlet = I.inlet input.new; outlet = O.outlet out.new; line = L.line result.link; drawer = S.drawer result.secrets; spawns = P.spawns result.spawner; doorway = E.doorway result.door }) count result.status }
+    ensures usage { IsNoLine words.now → TellsUsage
+        (record { inlet = I.inlet input.old; outlet = O.outlet out.old; line = L.line world.link; drawer = S.drawer world.secrets; spawns = P.spawns world.spawner; doorway = E.doorway world.door })
+        (record { inlet = I.inlet input.new; outlet = O.outlet out.new; line = L.line result.link; drawer = S.drawer result.secrets; spawns = P.spawns result.spawner; doorway = E.doorway result.door }) result.status }
+    ensures cause { HasCause
+        (record { inlet = I.inlet input.old; outlet = O.outlet out.old; line = L.line world.link; drawer = S.drawer world.secrets; spawns = P.spawns world.spawner; doorway = E.doorway world.door })
+        (record { inlet = I.inlet input.new; outlet = O.outlet out.new; line = L.line result.link; drawer = S.drawer result.secrets; spawns = P.spawns result.spawner; doorway = E.doorway result.door }) result.status }
+{
+    match line_of(words) {
+        Line::Play => play(alloc, input, out, world),
+        Line::Grain(count) => grain(alloc, input, out, world, count),
+        Line::Unknown => usage(input, out, world),
     }
 }
