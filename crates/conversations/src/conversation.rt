@@ -11,6 +11,8 @@ pub struct Conversation {
     pub answered: Vec<u8>,
     /// What must have been asked of grains, one text after another, where that is told.
     pub asked: Option<Vec<u8>>,
+    /// What the spawner must have been told, a line for each start and then for each stop, where that is told.
+    pub told: Option<Vec<u8>>,
     /// The answers of the grains, one after another. Where there are none, each text is its own answer.
     pub grains: Vec<Vec<u8>>,
     /// How many bytes the source gives at a time at the most, where that is told.
@@ -20,6 +22,7 @@ pub struct Conversation {
     pub sink_fails: Vec<u64>,
     pub link_fails: Vec<u64>,
     pub draw_fails: Vec<u64>,
+    pub spawner_fails: Vec<u64>,
     /// The secrets that are drawn, each 32 times this byte, where they aren't those in sequence.
     pub secrets: Option<Vec<u8>>,
     pub status: u8,
@@ -41,12 +44,14 @@ impl Conversation {
             sent: Vec::new(alloc),
             answered: Vec::new(alloc),
             asked: None,
+            told: None,
             grains: Vec::new(alloc),
             gives: None,
             source_fails: Vec::new(alloc),
             sink_fails: Vec::new(alloc),
             link_fails: Vec::new(alloc),
             draw_fails: Vec::new(alloc),
+            spawner_fails: Vec::new(alloc),
             secrets: None,
             status: 0,
             repeats: 1,

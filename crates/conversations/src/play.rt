@@ -2,7 +2,8 @@
 
 use crate::conversation::Conversation;
 use admin_run::{World, run};
-use grain_supervise::{Ask, CannedLink, EchoLink, Link};
+use conn_door::MemDoor;
+use grain_supervise::{Ask, CannedLink, EchoLink, FakeSpawner, Link};
 use host_base::{Answer, ListSecrets, MemSink, MemSource, Secrets, SeqSecrets};
 use plain_data::List;
 use std::alloc::{AllocError, Global};
@@ -19,6 +20,12 @@ pub enum Difference {
     },
     #[error("what was asked is equal up to byte {equal}, of {wanted}; {came} came")]
     Asked {
+        equal: usize,
+        wanted: usize,
+        came: usize,
+    },
+    #[error("what the spawner was told is equal up to byte {equal}, of {wanted}; {came} came")]
+    Told {
         equal: usize,
         wanted: usize,
         came: usize,
@@ -57,6 +64,23 @@ fn texts(alloc: Global, asked: &[Ask]) -> Result<Vec<u8>, AllocError> {
     Ok(all)
 }
 
+// What a spawner was told: its starts, and then its stops.
+fn told(alloc: Global, spawner: &FakeSpawner) -> Result<Vec<u8>, AllocError> {
+    let mut all = Vec::new(alloc);
+    for start in spawner.starts() {
+        let (run, grain) = (start.run.0, start.grain.0);
+        let line = format!(in alloc; "start {run} {grain} ")?;
+        all.extend_from_slice(line.as_bytes())?;
+        all.extend_from_slice(start.token.as_slice())?;
+        all.extend_from_slice(b"\r\n")?;
+    }
+    for run in spawner.stops() {
+        let line = format!(in alloc; "stop {}\r\n", run.0)?;
+        all.extend_from_slice(line.as_bytes())?;
+    }
+    Ok(all)
+}
+
 /// What is sent, and what must come of it.
 #[derive(Debug, Drop)]
 struct Part {
@@ -65,23 +89,40 @@ struct Part {
     status: u8,
 }
 
+/// What came of a part: what was written, what the spawner was told, and the status.
+#[derive(Debug, Drop)]
+struct Came {
+    out: MemSink,
+    told: Vec<u8>,
+    status: u8,
+}
+
 // What came of a part that isn't as the conversation says.
 fn compared(
     alloc: Global,
     conversation: &Conversation,
     part: &Part,
-    came: &[u8],
+    came: &Came,
     asked: &[Ask],
-    status: u8,
 ) -> Result<Vec<Difference>, AllocError> {
     let mut found = Vec::new(alloc);
     let wanted = part.answered.as_slice();
-    if let Some(equal) = equal_up_to(wanted, came) {
+    let written = came.out.written();
+    if let Some(equal) = equal_up_to(wanted, written) {
         found.push(Difference::Answered {
             equal,
             wanted: wanted.len(),
-            came: came.len(),
+            came: written.len(),
         })?;
+    }
+    if let Some(wanted) = &conversation.told {
+        if let Some(equal) = equal_up_to(wanted.as_slice(), came.told.as_slice()) {
+            found.push(Difference::Told {
+                equal,
+                wanted: wanted.len(),
+                came: came.told.len(),
+            })?;
+        }
     }
     if let Some(wanted) = &conversation.asked {
         let came = texts(alloc, asked)?;
@@ -93,10 +134,10 @@ fn compared(
             })?;
         }
     }
-    if status != part.status {
+    if came.status != part.status {
         found.push(Difference::Status {
             wanted: part.status,
-            came: status,
+            came: came.status,
         })?;
     }
     Ok(found)
@@ -127,19 +168,33 @@ fn grain_answers(alloc: Global, conversation: &Conversation) -> Result<List<Answ
     Ok(answers)
 }
 
-// Plays a part with a link and secrets: what was written, the link, and the status.
+// Plays a part with a link and secrets: what came of it, and the link.
 fn played_with<L: Link + Drop, S: Secrets + Drop>(
     alloc: Global,
     conversation: &Conversation,
     part: &Part,
     link: L,
     secrets: S,
-) -> Result<(MemSink, L, u8), AllocError> {
+) -> Result<(Came, L), AllocError> {
     let mut input = source(alloc, conversation, part)?;
     let mut out = MemSink::new(alloc, List::new(conversation.sink_fails.clone()?));
     let words = conversation.words.as_slice();
-    let ran = run(alloc, words, &mut input, &mut out, World { link, secrets });
-    Ok((out, ran.link, ran.status))
+    let fails = List::new(conversation.spawner_fails.clone()?);
+    let spawner = FakeSpawner::new(alloc, fails);
+    let door = MemDoor::new(Vec::new(alloc));
+    let world = World {
+        link,
+        secrets,
+        spawner,
+        door,
+    };
+    let ran = run(alloc, words, &mut input, &mut out, world);
+    let came = Came {
+        out,
+        told: told(alloc, &ran.spawner)?,
+        status: ran.status,
+    };
+    Ok((came, ran.link))
 }
 
 // The secrets that a conversation lists.
@@ -162,7 +217,7 @@ fn played<L: Link + Drop>(
     conversation: &Conversation,
     part: &Part,
     link: L,
-) -> Result<(MemSink, L, u8), AllocError> {
+) -> Result<(Came, L), AllocError> {
     match &conversation.secrets {
         Some(bytes) => {
             let secrets = listed(alloc, conversation, bytes.as_slice())?;
@@ -181,27 +236,13 @@ fn part_differences(
     let fails = List::new(conversation.link_fails.clone()?);
     if conversation.grains.is_empty() {
         let link = EchoLink::new(alloc, fails);
-        let (out, link, status) = played(alloc, conversation, part, link)?;
-        return compared(
-            alloc,
-            conversation,
-            part,
-            out.written(),
-            link.asked(),
-            status,
-        );
+        let (came, link) = played(alloc, conversation, part, link)?;
+        return compared(alloc, conversation, part, &came, link.asked());
     }
     let answers = grain_answers(alloc, conversation)?;
     let link = CannedLink::new(alloc, answers, fails);
-    let (out, link, status) = played(alloc, conversation, part, link)?;
-    compared(
-        alloc,
-        conversation,
-        part,
-        out.written(),
-        link.asked(),
-        status,
-    )
+    let (came, link) = played(alloc, conversation, part, link)?;
+    compared(alloc, conversation, part, &came, link.asked())
 }
 
 // The part of the first bytes of a conversation.

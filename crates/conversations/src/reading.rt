@@ -72,6 +72,7 @@ fn read_setting(
                 "sink" => conversation.sink_fails = calls,
                 "link" => conversation.link_fails = calls,
                 "draw" => conversation.draw_fails = calls,
+                "spawner" => conversation.spawner_fails = calls,
                 "secrets" => conversation.secrets = Some(low_bytes(alloc, calls.as_slice())?),
                 _ => return Ok(false),
             }
@@ -96,6 +97,12 @@ fn read_line(
         let mut asked = conversation.asked.take().unwrap_or(Vec::new(alloc));
         let read = put_line(alloc, &mut asked, text)?;
         conversation.asked = Some(asked);
+        return Ok(read);
+    }
+    if let Some(text) = after(line, "!") {
+        let mut told = conversation.told.take().unwrap_or(Vec::new(alloc));
+        let read = put_line(alloc, &mut told, text)?;
+        conversation.told = Some(told);
         return Ok(read);
     }
     if let Some(text) = after(line, "|") {

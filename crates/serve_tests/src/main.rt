@@ -3,7 +3,7 @@
 #![tactic(auto)]
 
 use cloud_serve::{ConnEnd, serve_conn};
-use grain_supervise::EchoLink;
+use grain_supervise::{EchoLink, FakeSpawner};
 use host_base::{AccountId, Fails, GrainId, MemSink, MemSource, Memory, Secrets, SeqSecrets};
 use hub_core::{Locked, SoloDesk};
 use rand::rngs::SysRng;
@@ -21,9 +21,10 @@ fn bytes_of(alloc: Global, text: &str) -> Result<Vec<u8>, AllocError> {
 }
 
 // A server of the small book.
-fn desk(alloc: Global) -> Result<SoloDesk<SeqSecrets>, Memory> {
+fn desk(alloc: Global) -> Result<SoloDesk<SeqSecrets, FakeSpawner>, Memory> {
     let book = small_book(alloc)?;
-    match Locked::from_state(alloc, book, SeqSecrets::new()) {
+    let spawner = FakeSpawner::new(alloc, Fails::empty(alloc));
+    match Locked::from_state(alloc, book, SeqSecrets::new(), spawner) {
         Ok(locked) => Ok(SoloDesk::new(locked)),
         Err(_) => Err(Memory),
     }
