@@ -1,9 +1,9 @@
 -- What is put together of the fields is exact.
-use Rattle.std.proofs.Common.{◌≡◌, ℕ, Bool, true, false, [], ◌∷◌, List, Option, refl, ap, ◌∙◌, arith, lit≤}
+use Rattle.std.proofs.Common.{ℕ, true, false, [], ◌∷◌, List, Option, refl, ap, lit≤}
 use Rattle.std.specs.Int.{w64}
 use Rattle.perm_roles.specs.PermSet.{bits_of}
 use Rattle.row_formats.specs.declared.fault.RowFault.TheVariants.{BadField, BadVersion}
-use Rattle.row_formats.specs.Format.{Format, number, bytes, text, flag, flag_number, always, made, first_version, digest, text_above, is_above}
+use Rattle.row_formats.specs.Format.{Format, number, text, flag, flag_number, always, first_version, digest, text_above, is_above}
 use Rattle.row_formats.specs.Sets.{set, set_of_word}
 use Rattle.row_formats.specs.Exact.{IsExact}
 use Rattle.row_formats.proofs.Fields.{bytes_exact, number_exact, text_exact, wide64}

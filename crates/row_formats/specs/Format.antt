@@ -157,15 +157,11 @@ count limit = only (λ n. nat_le n limit) (number w16)
 abbrev pub list_at : {A : Type 0} → ℕ → (Option A → Place → Read A) → Place → Read (List A)
 list_at limit read p = (count limit).read p >>= λ n. items_at read None n.0 n.1
 
--- a list that is written: a count, and the items
-abbrev pub list_bytes : {A : Type 0} → (Option A → A → List ℕ) → List A → List ℕ
-list_bytes write xs = number_bytes w16 (length xs) ++ write_items write None xs
-
 -- a list of at most so many items, each in a format that may depend on the item before it
 abbrev pub chain : {A : Type 0} → ℕ → (Option A → Format A) → Format (List A)
 chain limit f = record {
   fits = λ xs. (count limit).fits (length xs) × AllFit (λ last. (f last).fits) None xs;
-  write = list_bytes (λ last. (f last).write);
+  write = λ xs. number_bytes w16 (length xs) ++ write_items (λ last. (f last).write) None xs;
   read = list_at limit (λ last. (f last).read);
 }
 

@@ -66,16 +66,12 @@ pub fn read_body<T: Stored + Drop>(alloc: Global, num: u32, body: &[u8]) -> Resu
     ensures only { (x : T) → Spells (first_version (T.format num)) x body.now → GivesWhole (λ x. x) result (Ok x) }
 
     // A body that is cut off is short at its end.
-    ensures short {
-        (x : T) (k : ℕ) → (T.format num).fits x → k < length ((first_version (T.format num)).write x)
-        → body.now ≡ take k ((first_version (T.format num)).write x) → GivesWhole (λ x. x) result (Err (Short k))
-    }
+    ensures short { (x : T) (k : ℕ) → (T.format num).fits x → k < length ((first_version (T.format num)).write x)
+        → body.now ≡ take k ((first_version (T.format num)).write x) → GivesWhole (λ x. x) result (Err (Short k)) }
 
     // What stands behind a row is spare from its first byte on.
-    ensures spare {
-        (x : T) (byte : ℕ) (more : List ℕ) → (T.format num).fits x → body.now ≡ (first_version (T.format num)).write x ++ byte ∷ more
-        → GivesWhole (λ x. x) result (Err (Spare (length ((first_version (T.format num)).write x))))
-    }
+    ensures spare { (x : T) (byte : ℕ) (more : List ℕ) → (T.format num).fits x → body.now ≡ (first_version (T.format num)).write x ++ byte ∷ more
+        → GivesWhole (λ x. x) result (Err (Spare (length ((first_version (T.format num)).write x)))) }
 
     // Which value or which fault it is.
     ensures exact { GivesWhole (λ x. x) result (whole (first_version (T.format num)).read body.now) }

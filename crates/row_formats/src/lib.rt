@@ -9,6 +9,6 @@ mod writer;
 
 pub use bodies::{Stored, read_body, write_body};
 pub use fault::{ReadError, RowFault};
-pub use lists::{FromReader, ToWriter, read_list, write_list};
+pub use lists::{RowField, read_list, write_list};
 pub use reader::Reader;
 pub use writer::Writer;

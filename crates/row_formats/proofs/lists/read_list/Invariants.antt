@@ -5,5 +5,5 @@ use Rattle.row_formats.proofs.lists.read_list.Given as goal
 
 abbrev pub invariant-loop : goal.invariant-loop
 invariant-loop g l =
-    with_front l.items (items_at (λ last. g.T.FromReader.read_at) (last_of l.items) (l.count - l.counter) l.reader)
-    ≡ list_at l.limit (λ last. g.T.FromReader.read_at) l.fn.reader
+    with_front l.items (items_at (λ last. g.T.RowField.format.read) (last_of l.items) (l.count - l.counter) l.reader)
+    ≡ list_at l.limit (λ last. g.T.RowField.format.read) l.fn.reader

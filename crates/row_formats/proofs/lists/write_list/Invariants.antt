@@ -5,4 +5,4 @@ use Rattle.row_formats.proofs.lists.write_list.Given as goal
 
 abbrev pub invariant-loop-item : goal.invariant-loop-item
 invariant-loop-item g l =
-    l.writer ≡ (l.fn.writer ++ number_bytes w16 (length l.items)) ++ write_items (λ last. g.T.ToWriter.text_of) None (take l.item-index l.items)
+    l.writer ≡ (l.fn.writer ++ number_bytes w16 (length l.items)) ++ write_items (λ last. g.T.RowField.format.write) None (take l.item-index l.items)
