@@ -1,14 +1,12 @@
-//! Lists in rows: one loop that reads, and one that writes, for every type of item.
+//! Fields and lists of rows: one loop that reads, and one that writes, for every type of item.
 
 ghost use Rattle.std.specs.Prelude.{◌≡◌, ◌++◌, ◌<◌, ◌^◌, ℕ, length, OnOk};
 ghost use Rattle.row_formats.specs.Gives.{Gives};
 ghost use Rattle.row_formats.specs.Format.{list};
 
-use crate::fault::ReadError;
-use crate::reader::Reader;
-use crate::writer::Writer;
 use host_base::Memory;
 use plain_data::List;
+use row_formats::{ReadError, Reader, Writer};
 use std::alloc::Global;
 
 /// A type whose values are fields of rows.

@@ -2,7 +2,7 @@ use Rattle.std.proofs.Common.{arith}
 use Rattle.row_formats.specs.Format.{first_version}
 use Rattle.row_formats.proofs.Basics.{first_version_exact}
 use Rattle.row_formats.proofs.Whole.{is_found, is_only, is_short, is_spare}
-use Rattle.row_formats.proofs.bodies.read_body.Goals as goal
+use Rattle.row_codec.proofs.bodies.read_body.Goals as goal
 
 pub returns-clause-found : goal.returns-clause-found
 returns-clause-found g c =

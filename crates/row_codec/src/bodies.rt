@@ -7,10 +7,8 @@ ghost use Rattle.row_formats.specs.Format.{first_version};
 ghost use Rattle.row_formats.specs.Exact.{Spells};
 ghost use Rattle.row_formats.specs.declared.fault.RowFault.TheVariants.{Short, Spare};
 
-use crate::fault::{ReadError, RowFault};
-use crate::reader::Reader;
-use crate::writer::Writer;
 use host_base::{Bytes, Memory};
+use row_formats::{ReadError, Reader, RowFault, Writer};
 use std::alloc::Global;
 
 /// A type whose values are stored as rows.

@@ -1,6 +1,6 @@
 use Rattle.std.proofs.Common.{◌++◌, ap, ◌∙◌}
 use Rattle.row_formats.proofs.Puts.{puts_on, all_put}
-use Rattle.row_formats.proofs.lists.write_list.Goals as goal
+use Rattle.row_codec.proofs.fields.write_list.Goals as goal
 
 pub loop-item-preserved : goal.loop-item-preserved
 loop-item-preserved g c =

@@ -1,6 +1,6 @@
 use Rattle.std.proofs.lemmas.Result.{err_from_is_err_and}
 use Rattle.row_formats.proofs.Loop.{goes_on, ends, is_done}
-use Rattle.row_formats.proofs.lists.read_list.Goals as goal
+use Rattle.row_codec.proofs.fields.read_list.Goals as goal
 
 pub returns-in_err-item : goal.returns-in_err-item
 returns-in_err-item g c =

@@ -1,7 +1,7 @@
 use Rattle.std.proofs.Common.{◌≡◌, ◌-◌}
 use Rattle.row_formats.specs.Format.{list_at, items_at, last_of}
 use Rattle.row_formats.proofs.Loop.{with_front}
-use Rattle.row_formats.proofs.lists.read_list.Given as goal
+use Rattle.row_codec.proofs.fields.read_list.Given as goal
 
 abbrev pub invariant-loop : goal.invariant-loop
 invariant-loop g l =

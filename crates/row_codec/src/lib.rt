@@ -1,0 +1,9 @@
+//! The rows of the tables as bytes: each row's fields, read and written.
+#![tactic(auto)]
+
+mod bodies;
+mod fields;
+mod rows;
+
+pub use bodies::{Stored, read_body, write_body};
+pub use fields::{RowField, read_list, write_list};
