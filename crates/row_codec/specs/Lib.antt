@@ -1,3 +1,5 @@
 pub mod Ids
 pub mod Rows
 pub mod RowsExact
+pub mod GrantRow
+pub mod GrantExact

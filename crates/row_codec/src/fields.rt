@@ -1,6 +1,6 @@
 //! Fields and lists of rows: one loop that reads, and one that writes, for every type of item.
 
-ghost use Rattle.std.specs.Prelude.{◌≡◌, ◌++◌, ◌<◌, ◌^◌, ℕ, length, OnOk};
+ghost use Rattle.std.specs.Prelude.{◌≡◌, ◌++◌, ℕ, OnOk};
 ghost use Rattle.row_formats.specs.Gives.{Gives};
 ghost use Rattle.row_formats.specs.Format.{list};
 
@@ -45,12 +45,12 @@ pub fn read_list<T: RowField + Drop>(
     Ok(items)
 }
 
-/// Writes a list: its count, and the items. Any limit on a list is written alike.
+/// Writes a list: its count, and the items. Any limit on a list is written alike. Of a list above every limit the lowest sixteen
+/// bits of its length stand as the count.
 pub fn write_list<T: RowField>(writer: &mut Writer, items: &[T]) -> Result<(), Memory>
-    requires { length items.now < 2 ^ 16 }
     ensures { OnOk result ((limit : ℕ) → writer.new ≡ writer.old ++ (list limit T.format).write items.now) }
 {
-    writer.u16(items.len() as u16)?;
+    writer.count(items.len())?;
     for item in items {
         item.write_field(writer)?;
     }

@@ -3,6 +3,7 @@
 
 mod bodies;
 mod fields;
+mod grants;
 mod rows;
 
 pub use bodies::{Stored, read_body, write_body};

@@ -6,6 +6,7 @@ pub mod Choices
 pub mod Chains
 pub mod Integer
 pub mod Words
+pub mod Counts
 pub mod Basics
 pub mod Whole
 pub mod Loop

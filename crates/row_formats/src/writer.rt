@@ -32,6 +32,15 @@ fn put_i128(bytes: &mut Bytes, n: i128) -> Result<(), Memory>
     Ok(())
 }
 
+// The lowest sixteen bits of a number, big end first.
+fn put_count(bytes: &mut Bytes, length: usize) -> Result<(), Memory>
+    ensures { OnOk result (bytes.new ≡ bytes.old ++ number_bytes w16 length) }
+{
+    let count = (length % 65_536) as u16;
+    bytes.put(&count.to_be_bytes())?;
+    Ok(())
+}
+
 impl Writer {
     /// A writer that wrote nothing yet.
     pub fn new(alloc: Global) -> Self
@@ -110,6 +119,13 @@ impl Writer {
         ensures { OnOk result (self.new ≡ self.old ++ set.write positions.now) }
     {
         self.u64(positions.bits())
+    }
+
+    /// The count of a list, in two bytes: the lowest sixteen bits of the list's length.
+    pub fn count(&mut self, length: usize) -> Result<(), Memory>
+        ensures { OnOk result (self.new ≡ self.old ++ number_bytes w16 length) }
+    {
+        put_count(&mut self.bytes, length)
     }
 
     /// A text: its length in two bytes, and its bytes.
