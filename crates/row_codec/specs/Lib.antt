@@ -3,3 +3,5 @@ pub mod Rows
 pub mod RowsExact
 pub mod GrantRow
 pub mod GrantExact
+pub mod ValueFormat
+pub mod ValueExact

@@ -5,6 +5,7 @@ mod bodies;
 mod fields;
 mod grants;
 mod rows;
+mod values;
 
 pub use bodies::{Stored, read_body, write_body};
 pub use fields::{RowField, read_list, write_list};

@@ -70,7 +70,7 @@ made_exact {A} {B} make parts f back ef = record {
   short = λ x at k h lt. bind_err (f.read (record { at = at; rest = take k (f.write (parts x)) })) _ (Short (at + k)) (ef.short (parts x) at k h.0 lt);
 }
 
-tested : {A : Type 0} (b : Bool) (x y : A) → cond b (Some x) None ≡ Some y → (b ≡ true) × (x ≡ y)
+pub tested : {A : Type 0} (b : Bool) (x y : A) → cond b (Some x) None ≡ Some y → (b ≡ true) × (x ≡ y)
 tested true x y e = (refl, cc)
 tested false x y e = absurd cc
 
