@@ -5,3 +5,5 @@ pub mod GrantRow
 pub mod GrantExact
 pub mod ValueFormat
 pub mod ValueExact
+pub mod AppRow
+pub mod AppExact

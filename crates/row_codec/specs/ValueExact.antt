@@ -1,5 +1,5 @@
 -- An aid for proofs: the format of a tag's value has one spelling for each value.
-use Rattle.std.proofs.Common.{◌≡◌, ℕ, zero, suc, List, [], ◌∷◌, Option, refl, sym, ap, lit≤}
+use Rattle.std.proofs.Common.{◌≡◌, ℕ, zero, suc, List, [], ◌∷◌, refl, sym, ap, lit≤}
 use Rattle.std.specs.Prelude.{option_map}
 use Rattle.row_formats.specs.declared.fault.RowFault.TheVariants.{BadField}
 use Rattle.row_formats.specs.Exact.{IsExact}

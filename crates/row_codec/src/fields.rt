@@ -47,7 +47,14 @@ pub fn read_list<T: RowField + Drop>(
 
 /// Writes a list: its count, and the items. Any limit on a list is written alike. Of a list above every limit the lowest sixteen
 /// bits of its length stand as the count.
-pub fn write_list<T: RowField>(writer: &mut Writer, items: &[T]) -> Result<(), Memory>
+pub fn write_list<T: RowField>(writer: &mut Writer, whole: &List<T>) -> Result<(), Memory>
+    ensures { OnOk result ((limit : ℕ) → writer.new ≡ writer.old ++ (list limit T.format).write whole.now) }
+{
+    write_slice(writer, whole.as_slice())
+}
+
+/// Writes a slice as a list, in the same way.
+pub fn write_slice<T: RowField>(writer: &mut Writer, items: &[T]) -> Result<(), Memory>
     ensures { OnOk result ((limit : ℕ) → writer.new ≡ writer.old ++ (list limit T.format).write items.now) }
 {
     writer.count(items.len())?;

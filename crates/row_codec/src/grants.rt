@@ -264,7 +264,7 @@ fn put_grant(writer: &mut Writer, g: &Grant) -> Result<(), Memory>
     put_giver(writer, g.giver)?;
     put_target(writer, g.target)?;
     put_assignment(writer, &g.assignment)?;
-    write_list(writer, g.needs.as_slice())?;
+    write_list(writer, &g.needs)?;
     put_token(writer, g.digest)?;
     writer.flag(g.revoked)
 }

@@ -1,6 +1,6 @@
 //! The value of a tag in a row.
 
-ghost use Rattle.std.specs.Prelude.{◌≡◌, ◌++◌, ◌≤◌, ℕ, map, option_map, OnOk};
+ghost use Rattle.std.specs.Prelude.{◌≡◌, ◌++◌, ◌≤◌, None, map, option_map, OnOk};
 ghost use Rattle.powerbox_match.specs.Value.{tag_data, field_data, fields_data, items_data, nesting, fields_nesting, items_nesting};
 ghost use Rattle.row_formats.specs.Gives.{Gives};
 ghost use Rattle.row_formats.specs.Format.{integer, chain, list, last_of, text_above};
@@ -91,4 +91,73 @@ fn items_of(alloc: Global, reader: &mut Reader, depth: u8) -> Result<Vec<TagValu
         items.push(item)?;
     }
     Ok(items)
+}
+
+// A number that a value holds.
+fn put_number(writer: &mut Writer, number: &i128) -> Result<(), Memory>
+    ensures { OnOk result (writer.new ≡ writer.old ++ integer.write number.now) }
+{
+    writer.i128(*number)
+}
+
+/// Writes a value that nests no deeper than this.
+#[cycle(put_value)]
+pub(crate) fn put_value(writer: &mut Writer, written: &TagValue, depth: u8) -> Result<(), Memory>
+    requires { nesting (tag_data written.now) ≤ depth }
+    ensures { OnOk result (writer.new ≡ writer.old ++ (value depth).write (tag_data written.now)) }
+{
+    match written {
+        TagValue::Any => writer.u8(0)?,
+        TagValue::Number(number) => {
+            writer.u8(1)?;
+            put_number(writer, number)?;
+        }
+        TagValue::Text(text) => {
+            writer.u8(2)?;
+            writer.name(text)?;
+        }
+        TagValue::Fields(fields) => {
+            writer.u8(3)?;
+            put_fields(writer, fields, depth - 1)?;
+        }
+        TagValue::Items(items) => {
+            writer.u8(4)?;
+            put_items(writer, items, depth - 1)?;
+        }
+    }
+    Ok(())
+}
+
+#[cycle(put_value)]
+fn put_field(writer: &mut Writer, field: &(Name, TagValue), depth: u8) -> Result<(), Memory>
+    requires { nesting (tag_data field.now.1) ≤ depth }
+    ensures { OnOk result (writer.new ≡ writer.old ++ (entry (value depth) None).write (field_data field.now)) }
+{
+    writer.name(&field.0)?;
+    put_value(writer, &field.1, depth)?;
+    Ok(())
+}
+
+#[cycle(put_value)]
+fn put_fields(writer: &mut Writer, fields: &[(Name, TagValue)], depth: u8) -> Result<(), Memory>
+    requires { fields_nesting (fields_data fields.now) ≤ depth }
+    ensures { OnOk result (writer.new ≡ writer.old ++ (chain 1000 (entry (value depth))).write (map field_data fields.now)) }
+{
+    writer.count(fields.len())?;
+    for field in fields {
+        put_field(writer, field, depth)?;
+    }
+    Ok(())
+}
+
+#[cycle(put_value)]
+fn put_items(writer: &mut Writer, items: &[TagValue], depth: u8) -> Result<(), Memory>
+    requires { items_nesting (items_data items.now) ≤ depth }
+    ensures { OnOk result (writer.new ≡ writer.old ++ (list 1000 (value depth)).write (map tag_data items.now)) }
+{
+    writer.count(items.len())?;
+    for item in items {
+        put_value(writer, item, depth)?;
+    }
+    Ok(())
 }

@@ -1,11 +1,8 @@
 use Rattle.std.proofs.Common.{◌++◌, ap, ◌∙◌}
-use Rattle.row_formats.proofs.Puts.{puts_on, all_put}
+use Rattle.row_formats.specs.Format.{list}
+use Rattle.row_codec.proofs.Joined.{on_ok}
 use Rattle.row_codec.proofs.fields.write_list.Goals as goal
 
-pub loop-item-preserved : goal.loop-item-preserved
-loop-item-preserved g c =
-    puts_on (λ last. g.T.RowField.format.write) c.args.items.now c.loop-item.item-index _ _ _ _ c.loop-item-test.true c.loop-item.invariant
-    (c.in_ok-write_field.ensures ∙ ap (λ x. c.loop-item.writer ++ g.T.RowField.format.write x) c.item-item.is)
-
 pub returns : goal.returns
-returns g c limit = all_put (λ last. g.T.RowField.format.write) c.args.items.now c.loop-item.item-index _ _ _ c.loop-item-test.false c.loop-item.invariant
+returns g c =
+    on_ok c.write_slice.result (λ put limit. put limit ∙ ap (λ items. c.args.writer.now ++ (list limit g.T.RowField.format).write items) c.as_slice.ensures) c.write_slice.ensures

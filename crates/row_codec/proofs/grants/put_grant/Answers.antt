@@ -1,4 +1,4 @@
-use Rattle.std.proofs.Common.{ℕ, List, ◌++◌, ap, ◌∙◌}
+use Rattle.std.proofs.Common.{ℕ, List, ◌++◌}
 use Rattle.row_formats.specs.Format.{flag, list}
 use Rattle.row_codec.specs.Ids.{grain_id}
 use Rattle.row_codec.specs.GrantRow.{giver_format, target_format, assignment, need_format, token}
@@ -21,7 +21,6 @@ returns c =
     (behind c.u32.new.self by (to ++ (given ++ (needs ++ (tokens ++ revoked)))) c.put_giver.new.writer end c.in_ok-put_giver.ensures
     (behind c.put_giver.new.writer to (given ++ (needs ++ (tokens ++ revoked))) c.put_target.new.writer end c.in_ok-put_target.ensures
     (behind c.put_target.new.writer given (needs ++ (tokens ++ revoked)) c.put_assignment.new.writer end c.in_ok-put_assignment.ensures
-    (behind c.put_assignment.new.writer needs (tokens ++ revoked) c.write_list.new.writer end
-    (c.in_ok-write_list.ensures 65535 ∙ ap (λ ns. c.put_assignment.new.writer ++ (list 65535 need_format).write ns) c.as_slice.ensures)
+    (behind c.put_assignment.new.writer needs (tokens ++ revoked) c.write_list.new.writer end (c.in_ok-write_list.ensures 65535)
     (behind c.write_list.new.writer tokens revoked c.put_token.new.writer end c.in_ok-put_token.ensures last))))))
     c.flag.ensures

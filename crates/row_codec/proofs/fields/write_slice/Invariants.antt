@@ -1,7 +1,7 @@
 use Rattle.std.proofs.Common.{◌≡◌, ◌++◌, None, length, take}
 use Rattle.std.specs.Int.{w16}
 use Rattle.row_formats.specs.Format.{number_bytes, write_items}
-use Rattle.row_codec.proofs.fields.write_list.Given as goal
+use Rattle.row_codec.proofs.fields.write_slice.Given as goal
 
 abbrev pub invariant-loop-item : goal.invariant-loop-item
 invariant-loop-item g l =
