@@ -1,0 +1,4 @@
+pub mod Joined
+pub mod Views
+pub mod ValuesRead
+pub mod Written

@@ -1,0 +1,26 @@
+use Rattle.std.proofs.Common.{ℕ, List, ◌++◌}
+use Rattle.row_formats.specs.Format.{flag, list}
+use Rattle.row_codec.specs.Ids.{grain_id}
+use Rattle.row_codec.specs.GrantRow.{giver_format, target_format, assignment, need_format, token}
+use Rattle.row_codec.proofs.Joined.{on_ok, behind}
+use Rattle.row_codec.proofs.grants.put_grant.Goals as goal
+
+pub returns : goal.returns
+returns c =
+    let g = c.args.g.now in
+    let end : List ℕ = c.flag.new.self in
+    let revoked : List ℕ = flag.write g.revoked in
+    let tokens : List ℕ = token.write g.digest in
+    let needs : List ℕ = (list 65535 need_format).write g.needs in
+    let given : List ℕ = assignment.write g.assignment in
+    let to : List ℕ = target_format.write g.target in
+    let by : List ℕ = giver_format.write g.giver in
+    on_ok c.flag.result
+    (λ last num.
+    behind c.args.writer.now (grain_id.write g.grain) (by ++ (to ++ (given ++ (needs ++ (tokens ++ revoked))))) c.u32.new.self end c.in_ok-u32.ensures
+    (behind c.u32.new.self by (to ++ (given ++ (needs ++ (tokens ++ revoked)))) c.put_giver.new.writer end c.in_ok-put_giver.ensures
+    (behind c.put_giver.new.writer to (given ++ (needs ++ (tokens ++ revoked))) c.put_target.new.writer end c.in_ok-put_target.ensures
+    (behind c.put_target.new.writer given (needs ++ (tokens ++ revoked)) c.put_assignment.new.writer end c.in_ok-put_assignment.ensures
+    (behind c.put_assignment.new.writer needs (tokens ++ revoked) c.write_list.new.writer end (c.in_ok-write_list.ensures 65535)
+    (behind c.write_list.new.writer tokens revoked c.put_token.new.writer end c.in_ok-put_token.ensures last))))))
+    c.flag.ensures

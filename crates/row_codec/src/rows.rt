@@ -1,0 +1,143 @@
+//! Accounts, grains and saved references as rows.
+
+ghost use Rattle.std.specs.Prelude.{◌≡◌, ℕ, ◌++◌, OnOk};
+ghost use Rattle.row_formats.specs.Gives.{Gives};
+ghost use Rattle.row_codec.specs.Rows.{account, grain, saved};
+
+use crate::bodies::Stored;
+use host_base::{AccountId, AppId, GrainId, GrantId, Memory, SavedId};
+use row_formats::{ReadError, Reader, Writer};
+use share_graph::{Account, Grain, Saved};
+use std::alloc::Global;
+
+fn account_of(alloc: Global, reader: &mut Reader, num: u32) -> Result<Account, ReadError>
+    ensures { Gives (λ x. x) result reader.new ((account num).read reader.old) }
+{
+    let handle = reader.name(alloc)?;
+    let name = reader.name(alloc)?;
+    let login = reader.digest()?;
+    let admin = reader.flag()?;
+    let enabled = reader.flag()?;
+    Ok(Account {
+        num: AccountId(num),
+        handle,
+        name,
+        login,
+        admin,
+        enabled,
+    })
+}
+
+fn put_account(writer: &mut Writer, a: &Account) -> Result<(), Memory>
+    ensures { OnOk result ((num : ℕ) → writer.new ≡ writer.old ++ (account num).write a.now) }
+{
+    writer.name(&a.handle)?;
+    writer.name(&a.name)?;
+    writer.digest(&a.login)?;
+    writer.flag(a.admin)?;
+    writer.flag(a.enabled)
+}
+
+impl Stored for Account {
+    ghost use Rattle.row_codec.specs.Rows.{account};
+    ghost use Rattle.row_codec.specs.RowsExact.{account_exact};
+
+    ghost format = { account };
+
+    fn read_fields(alloc: Global, reader: &mut Reader, num: u32) -> Result<Account, ReadError> {
+        account_of(alloc, reader, num)
+    }
+
+    fn write_fields(&self, writer: &mut Writer) -> Result<(), Memory> {
+        put_account(writer, self)
+    }
+
+    ghost exact = { account_exact };
+}
+
+fn grain_of(alloc: Global, reader: &mut Reader, num: u32) -> Result<Grain, ReadError>
+    ensures { Gives (λ x. x) result reader.new ((grain num).read reader.old) }
+{
+    let app = AppId(reader.u32()?);
+    let owner = AccountId(reader.u32()?);
+    let title = reader.name(alloc)?;
+    let trashed = reader.flag()?;
+    Ok(Grain {
+        num: GrainId(num),
+        app,
+        owner,
+        title,
+        trashed,
+    })
+}
+
+fn put_grain(writer: &mut Writer, g: &Grain) -> Result<(), Memory>
+    ensures { OnOk result ((num : ℕ) → writer.new ≡ writer.old ++ (grain num).write g.now) }
+{
+    writer.u32(g.app.0)?;
+    writer.u32(g.owner.0)?;
+    writer.name(&g.title)?;
+    writer.flag(g.trashed)
+}
+
+impl Stored for Grain {
+    ghost use Rattle.row_codec.specs.Rows.{grain};
+    ghost use Rattle.row_codec.specs.RowsExact.{grain_exact};
+
+    ghost format = { grain };
+
+    fn read_fields(alloc: Global, reader: &mut Reader, num: u32) -> Result<Grain, ReadError> {
+        grain_of(alloc, reader, num)
+    }
+
+    fn write_fields(&self, writer: &mut Writer) -> Result<(), Memory> {
+        put_grain(writer, self)
+    }
+
+    ghost exact = { grain_exact };
+}
+
+fn saved_of(alloc: Global, reader: &mut Reader, num: u32) -> Result<Saved, ReadError>
+    ensures { Gives (λ x. x) result reader.new ((saved num).read reader.old) }
+{
+    let holder = GrainId(reader.u32()?);
+    let grant = GrantId(reader.u32()?);
+    let label = reader.name(alloc)?;
+    let digest = reader.digest()?;
+    let dropped = reader.flag()?;
+    Ok(Saved {
+        num: SavedId(num),
+        holder,
+        grant,
+        label,
+        digest,
+        dropped,
+    })
+}
+
+fn put_saved(writer: &mut Writer, s: &Saved) -> Result<(), Memory>
+    ensures { OnOk result ((num : ℕ) → writer.new ≡ writer.old ++ (saved num).write s.now) }
+{
+    writer.u32(s.holder.0)?;
+    writer.u32(s.grant.0)?;
+    writer.name(&s.label)?;
+    writer.digest(&s.digest)?;
+    writer.flag(s.dropped)
+}
+
+impl Stored for Saved {
+    ghost use Rattle.row_codec.specs.Rows.{saved};
+    ghost use Rattle.row_codec.specs.RowsExact.{saved_exact};
+
+    ghost format = { saved };
+
+    fn read_fields(alloc: Global, reader: &mut Reader, num: u32) -> Result<Saved, ReadError> {
+        saved_of(alloc, reader, num)
+    }
+
+    fn write_fields(&self, writer: &mut Writer) -> Result<(), Memory> {
+        put_saved(writer, self)
+    }
+
+    ghost exact = { saved_exact };
+}

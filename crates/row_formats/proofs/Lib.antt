@@ -1,0 +1,13 @@
+pub mod Steps
+pub mod Names
+pub mod Fields
+pub mod Parts
+pub mod Choices
+pub mod Chains
+pub mod Integer
+pub mod Words
+pub mod Counts
+pub mod Basics
+pub mod Whole
+pub mod Loop
+pub mod Puts

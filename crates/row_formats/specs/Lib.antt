@@ -1,0 +1,5 @@
+pub mod Place
+pub mod Format
+pub mod Sets
+pub mod Exact
+pub mod Gives
