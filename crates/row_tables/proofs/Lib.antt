@@ -1,0 +1,3 @@
+pub mod SectionLoop
+pub mod SectionExact
+pub mod Listing
