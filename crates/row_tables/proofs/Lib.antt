@@ -1,3 +1,4 @@
 pub mod SectionLoop
 pub mod SectionExact
 pub mod Listing
+pub mod Refusing

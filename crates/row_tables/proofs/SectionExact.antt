@@ -151,7 +151,7 @@ past_grants kind t ne other = past_rows kind 4 grant 1 t.grants (section_rows 5 
 past_grains : (kind : ℕ) (t : Tables) → 3 ≢ kind → 4 ≢ kind → 5 ≢ kind → IsPast kind (section_rows 3 grain 1 t.grains ++ (section_rows 4 grant 1 t.grants ++ section_rows 5 saved 1 t.saved))
 past_grains kind t ne next other = past_rows kind 3 grain 1 t.grains (section_rows 4 grant 1 t.grants ++ section_rows 5 saved 1 t.saved) ne (past_grants kind t next other)
 
-tables_again : (t : Tables) → HaveRows t → tables_of (rows_of t) ≡ Ok t
+pub tables_again : (t : Tables) → HaveRows t → tables_of (rows_of t) ≡ Ok t
 unfolding tables_of
 tables_again t h =
     let saveds : List Row = section_rows 5 saved 1 t.saved in
@@ -180,6 +180,3 @@ is_found rows (Err e) b h = tt
 pub have_rows : (rows : List Row) (r : Result Tables LoadFault) → IfOk r (λ t. AreBytes rows (length rows)) → GivesRow (λ t. t) r (tables_of rows) → IfOk r HaveRows
 have_rows rows (Ok t) b h = (tables_found rows t (all_bytes rows b) h).1
 have_rows rows (Err e) b h = tt
-
-pub is_only : (rows : List Row) (r : Result Tables LoadFault) → GivesRow (λ t. t) r (tables_of rows) → (t : Tables) → HaveRows t → rows ≡ rows_of t → GivesRow (λ u. u) r (Ok t)
-is_only rows r h t fits e = subst (λ (read : Result Tables BadRow). GivesRow (λ u. u) r read) (ap tables_of e ∙ tables_again t fits) h

@@ -1,3 +1,4 @@
 pub mod Sections
 pub mod TablesRows
 pub mod RowOf
+pub mod Checks

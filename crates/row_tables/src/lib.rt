@@ -1,6 +1,7 @@
 //! The rows of the tables: the tables that rows state, or the first bad row.
 #![tactic(auto)]
 
+mod checking;
 mod sections;
 mod stored;
 mod tables;
