@@ -1,5 +1,5 @@
 -- Tables that were read are within the limits, and what has a fault is not without one.
-use Rattle.std.proofs.Common.{◌≡◌, ◌⊎◌, ℕ, suc, ◌+◌, ◌≤◌, List, [], ◌∷◌, length, Option, Some, Result, Ok, Err, refl, sym, ap, subst, ◌∙◌, arith, inl, inr}
+use Rattle.std.proofs.Common.{◌≡◌, ℕ, suc, ◌+◌, ◌≤◌, List, [], ◌∷◌, length, Some, Result, Ok, Err, sym, ap, subst, ◌∙◌, arith, inl, inr}
 use Rattle.std.specs.Prelude.{IfOk}
 use Rattle.share_graph.specs.Checked.{IsChecked, TablesFault}
 use Rattle.share_graph.specs.WellFormed.{IsWithinLimits}
@@ -17,7 +17,7 @@ use Rattle.row_tables.specs.declared.stored.LoadFault.{LoadFault}
 use Rattle.row_tables.specs.declared.stored.LoadFault.TheVariants as load
 use Rattle.row_tables.specs.Sections.{SectionFits, FailsRows, GivesRow}
 use Rattle.row_tables.specs.TablesRows.{HaveRows, rows_of, tables_of}
-use Rattle.row_tables.specs.Checks.{bad_ref, IsBadRow, GivesTables}
+use Rattle.row_tables.specs.Checks.{bad_ref, GivesTables}
 use Rattle.row_tables.proofs.SectionExact.{tables_again}
 
 few : {A : Type 0} (limit : ℕ) (format : ℕ → Format A) (n : ℕ) (xs : List A) → n ≤ limit + 1 → SectionFits limit format n xs → n + length xs ≤ limit + 1

@@ -6,7 +6,6 @@ use Rattle.std.proofs.lemmas.List.{drop_more, drop_all}
 use Rattle.row_formats.specs.declared.fault.RowFault.{RowFault}
 use Rattle.row_formats.specs.declared.fault.RowFault.TheVariants.{BadField}
 use Rattle.row_tables.specs.declared.stored.Row.{Row}
-use Rattle.row_tables.specs.declared.stored.BadRow.{BadRow}
 use Rattle.row_tables.specs.declared.stored.LoadFault.{LoadFault}
 use Rattle.row_formats.specs.Place.{◌>>=◌, whole}
 use Rattle.row_formats.specs.Format.{Format, first_version}

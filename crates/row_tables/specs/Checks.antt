@@ -1,5 +1,5 @@
 -- Rows that state tables, of which one doesn't fit the others.
-use Rattle.std.specs.Prelude.{◌≡◌, ◌⊎◌, ℕ, ◌+◌, ◌-◌, List, length, Option, Some, Result, Ok, Err}
+use Rattle.std.specs.Prelude.{◌≡◌, ◌⊎◌, ℕ, ◌+◌, ◌-◌, List, length, Some, Result, Ok, Err}
 use Rattle.share_graph.specs.Checked.{IsChecked, TablesFault}
 use Rattle.share_graph.specs.declared.fault.GraphFault.{GraphFault}
 use Rattle.share_graph.specs.declared.fault.GraphFault.TheVariants as fault

@@ -2,11 +2,13 @@
 #![tactic(auto)]
 
 mod checking;
+mod one_row;
 mod sections;
 mod stored;
 mod tables;
 mod writing;
 
+pub use one_row::row_bytes;
 pub use stored::{BadRow, LoadFault, Row};
-pub use tables::read_tables;
+pub use tables::tables_of;
 pub use writing::rows_of;

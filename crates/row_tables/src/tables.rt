@@ -77,7 +77,7 @@ fn read_checked(alloc: Global, rows: &[Row]) -> Result<Tables, LoadFault>
 ///
 /// # Errors
 /// Want of memory, and the first bad row.
-pub fn read_tables(alloc: Global, rows: &[Row]) -> Result<Tables, LoadFault>
+pub fn tables_of(alloc: Global, rows: &[Row]) -> Result<Tables, LoadFault>
     // What is read has these rows, is within the limits, and has no fault.
     ensures found { IfOk result HaveRows }
     ensures rows { IfOk result (λ t. rows.now ≡ rows_of t) }

@@ -12,7 +12,7 @@ use share_graph::Tables;
 use std::alloc::Global;
 
 // The row of a kind and a number that a value is written as.
-fn stored<T: Stored>(alloc: Global, kind: u8, num: u32, value: &T) -> Result<Row, Memory>
+pub(crate) fn stored<T: Stored>(alloc: Global, kind: u8, num: u32, value: &T) -> Result<Row, Memory>
     ensures { IfOk result (λ r. r ≡ stored kind T.format num value.now) }
 {
     let body = write_body(alloc, value)?;
