@@ -2,3 +2,4 @@ pub mod SectionLoop
 pub mod SectionExact
 pub mod Listing
 pub mod Refusing
+pub mod ListRows

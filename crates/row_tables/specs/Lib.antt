@@ -2,3 +2,4 @@ pub mod Sections
 pub mod TablesRows
 pub mod RowOf
 pub mod Checks
+pub mod RowAfter
