@@ -3,3 +3,4 @@ pub mod SectionExact
 pub mod Listing
 pub mod Refusing
 pub mod ListRows
+pub mod NextRows

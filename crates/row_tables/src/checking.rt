@@ -27,6 +27,7 @@ fn start_of(tables: &Tables, kind: Kind) -> usize
     }
 }
 
+// The bad row of a kind and a number, with the number of its fault.
 fn bad_row(tables: &Tables, kind: Kind, num: u32, number: u8) -> BadRow
     requires { IsWithinLimits tables.now }
     ensures { result ≡ bad_row tables.now kind num number }

@@ -14,31 +14,41 @@ use host_base::Memory;
 use share_graph::{Account, Event, Grain, Grant, Saved, Tables, account, grain, grant, saved};
 use std::alloc::Global;
 
+// A copy of an account.
 fn copy_of_account(account: &Account) -> Result<Account, Memory>
     ensures { IfOk result (λ copy. copy ≡ account.now) }
 {
     Ok(account.clone()?)
 }
 
+// A copy of a grain.
 fn copy_of_grain(grain: &Grain) -> Result<Grain, Memory>
     ensures { IfOk result (λ copy. copy ≡ grain.now) }
 {
     Ok(grain.clone()?)
 }
 
+// A copy of a grant.
 fn copy_of_grant(grant: &Grant) -> Result<Grant, Memory>
     ensures { IfOk result (λ copy. copy ≡ grant.now) }
 {
     Ok(grant.clone()?)
 }
 
+// A copy of a saved reference.
 fn copy_of_saved(saved: &Saved) -> Result<Saved, Memory>
     ensures { IfOk result (λ copy. copy ≡ saved.now) }
 {
     Ok(saved.clone()?)
 }
 
-fn admin_set(alloc: Global, row: Option<&Account>, num: u32, on: bool) -> Result<Option<Row>, Memory>
+// The row of an account after it was made an admin, or no longer is one.
+fn admin_set(
+    alloc: Global,
+    row: Option<&Account>,
+    num: u32,
+    on: bool,
+) -> Result<Option<Row>, Memory>
     ensures { IfOk result (λ r. r ≡ option_map (stored 1 an_account num) (option_map (with_admin on) (option_copied row.entry))) }
 {
     match row {
@@ -51,6 +61,7 @@ fn admin_set(alloc: Global, row: Option<&Account>, num: u32, on: bool) -> Result
     }
 }
 
+// The row of an account after it was enabled or disabled.
 fn enabled_set(
     alloc: Global,
     row: Option<&Account>,
@@ -69,7 +80,13 @@ fn enabled_set(
     }
 }
 
-fn trashed_set(alloc: Global, row: Option<&Grain>, num: u32, on: bool) -> Result<Option<Row>, Memory>
+// The row of a grain after it was put into the trash, or taken out of it.
+fn trashed_set(
+    alloc: Global,
+    row: Option<&Grain>,
+    num: u32,
+    on: bool,
+) -> Result<Option<Row>, Memory>
     ensures { IfOk result (λ r. r ≡ option_map (stored 3 a_grain num) (option_map (with_trashed on) (option_copied row.entry))) }
 {
     match row {
@@ -82,6 +99,7 @@ fn trashed_set(alloc: Global, row: Option<&Grain>, num: u32, on: bool) -> Result
     }
 }
 
+// The row of a grant after it was revoked.
 fn grant_revoked(alloc: Global, row: Option<&Grant>, num: u32) -> Result<Option<Row>, Memory>
     ensures { IfOk result (λ r. r ≡ option_map (stored 4 a_grant num) (option_map revoked (option_copied row.entry))) }
 {
@@ -95,6 +113,7 @@ fn grant_revoked(alloc: Global, row: Option<&Grant>, num: u32) -> Result<Option<
     }
 }
 
+// The row of a saved reference after it was dropped.
 fn saved_dropped(alloc: Global, row: Option<&Saved>, num: u32) -> Result<Option<Row>, Memory>
     ensures { IfOk result (λ r. r ≡ option_map (stored 5 a_saved num) (option_map dropped (option_copied row.entry))) }
 {

@@ -13,6 +13,7 @@ use row_codec::Stored;
 use share_graph::{Kind, Tables, account, app, grain, grant, saved};
 use std::alloc::Global;
 
+// The row of a kind and a number that a value is written as, if there is one.
 fn stored_if<T: Stored>(
     alloc: Global,
     kind: u8,
