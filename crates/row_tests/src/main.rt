@@ -9,6 +9,7 @@
 //! fronts                whether each front of each body is short at its end
 //! behind                whether a byte behind each body is spare
 //! grain NUM             the row of that grain, by itself
+//! after EVENT NUM       the row that an event changes, as it is then: admin, disable, trash, revoke, close
 //! ```
 #![tactic(auto)]
 
