@@ -20,6 +20,7 @@ const MOST_TAGS: u16 = 32;
 
 const DEPTH: u8 = 16;
 
+// A permission of an application.
 fn permission_of(alloc: Global, reader: &mut Reader) -> Result<PermissionDef, ReadError>
     ensures { Gives (λ x. x) result reader.new (permission.read reader.old) }
 {
@@ -35,6 +36,7 @@ fn permission_of(alloc: Global, reader: &mut Reader) -> Result<PermissionDef, Re
     })
 }
 
+// Writes a permission.
 fn put_permission(writer: &mut Writer, p: &PermissionDef) -> Result<(), Memory>
     ensures { OnOk result (writer.new ≡ writer.old ++ permission.write p.now) }
 {
@@ -58,6 +60,7 @@ impl RowField for PermissionDef {
     }
 }
 
+// A role of an application.
 fn role_of(alloc: Global, reader: &mut Reader) -> Result<Role, ReadError>
     ensures { Gives (λ x. x) result reader.new (role.read reader.old) }
 {
@@ -75,6 +78,7 @@ fn role_of(alloc: Global, reader: &mut Reader) -> Result<Role, ReadError>
     })
 }
 
+// Writes a role.
 fn put_role(writer: &mut Writer, r: &Role) -> Result<(), Memory>
     ensures { OnOk result (writer.new ≡ writer.old ++ role.write r.now) }
 {
@@ -99,6 +103,7 @@ impl RowField for Role {
     }
 }
 
+// A quality: which of three.
 fn quality_of(reader: &mut Reader) -> Result<Quality, ReadError>
     ensures { Gives (λ x. x) result reader.new (quality.read reader.old) }
 {
@@ -111,6 +116,7 @@ fn quality_of(reader: &mut Reader) -> Result<Quality, ReadError>
     }
 }
 
+// Writes a quality.
 fn put_quality(writer: &mut Writer, how: Quality) -> Result<(), Memory>
     ensures { OnOk result (writer.new ≡ writer.old ++ quality.write how) }
 {
@@ -121,6 +127,7 @@ fn put_quality(writer: &mut Writer, how: Quality) -> Result<(), Memory>
     }
 }
 
+// A tag. What was read of its value is within the limits of one.
 fn tag_of(alloc: Global, reader: &mut Reader) -> Result<Tag, ReadError>
     ensures { Gives (λ x. x) result reader.new (tag.read reader.old) }
 {
@@ -129,6 +136,7 @@ fn tag_of(alloc: Global, reader: &mut Reader) -> Result<Tag, ReadError>
     Ok(Tag::new(id, value))
 }
 
+// Writes a tag.
 fn put_tag(writer: &mut Writer, t: &Tag) -> Result<(), Memory>
     ensures { OnOk result (writer.new ≡ writer.old ++ tag.write t.now) }
 {
@@ -150,6 +158,7 @@ impl RowField for Tag {
     }
 }
 
+// A descriptor: its quality, and at most 32 tags.
 fn descriptor_of(alloc: Global, reader: &mut Reader) -> Result<Descriptor, ReadError>
     ensures { Gives (λ x. x) result reader.new (descriptor.read reader.old) }
 {
@@ -158,6 +167,7 @@ fn descriptor_of(alloc: Global, reader: &mut Reader) -> Result<Descriptor, ReadE
     Ok(Descriptor::new(tags.into_vec(), quality))
 }
 
+// Writes a descriptor.
 fn put_descriptor(writer: &mut Writer, d: &Descriptor) -> Result<(), Memory>
     ensures { OnOk result (writer.new ≡ writer.old ++ descriptor.write d.now) }
 {
@@ -179,6 +189,7 @@ impl RowField for Descriptor {
     }
 }
 
+// The fields of an application.
 fn app_from(alloc: Global, reader: &mut Reader, num: u32) -> Result<App, ReadError>
     ensures { Gives (λ x. x) result reader.new ((app num).read reader.old) }
 {
@@ -199,6 +210,7 @@ fn app_from(alloc: Global, reader: &mut Reader, num: u32) -> Result<App, ReadErr
     })
 }
 
+// Writes the fields of an application.
 fn put_app(writer: &mut Writer, a: &App) -> Result<(), Memory>
     ensures { OnOk result ((num : ℕ) → writer.new ≡ writer.old ++ (app num).write a.now) }
 {

@@ -12,6 +12,7 @@ use row_formats::{ReadError, Reader, RowFault, Writer};
 use share_graph::{Giver, Grant, Need, Node, Target};
 use std::alloc::Global;
 
+// A giver: which of three, and its parts.
 fn giver_of(reader: &mut Reader) -> Result<Giver, ReadError>
     ensures { Gives (λ x. x) result reader.new (giver_format.read reader.old) }
 {
@@ -29,6 +30,7 @@ fn giver_of(reader: &mut Reader) -> Result<Giver, ReadError>
     }
 }
 
+// Writes a giver.
 fn put_giver(writer: &mut Writer, giver: Giver) -> Result<(), Memory>
     ensures { OnOk result (writer.new ≡ writer.old ++ giver_format.write giver) }
 {
@@ -50,6 +52,7 @@ fn put_giver(writer: &mut Writer, giver: Giver) -> Result<(), Memory>
     }
 }
 
+// A target: which of four, and its part.
 fn target_of(reader: &mut Reader) -> Result<Target, ReadError>
     ensures { Gives (λ x. x) result reader.new (target_format.read reader.old) }
 {
@@ -66,6 +69,7 @@ fn target_of(reader: &mut Reader) -> Result<Target, ReadError>
     }
 }
 
+// Writes a target.
 fn put_target(writer: &mut Writer, target: Target) -> Result<(), Memory>
     ensures { OnOk result (writer.new ≡ writer.old ++ target_format.write target) }
 {
@@ -89,6 +93,7 @@ fn put_target(writer: &mut Writer, target: Target) -> Result<(), Memory>
     }
 }
 
+// A base: which of three, and its part.
 fn base_of(reader: &mut Reader) -> Result<Base, ReadError>
     ensures { Gives (λ x. x) result reader.new (base_format.read reader.old) }
 {
@@ -101,6 +106,7 @@ fn base_of(reader: &mut Reader) -> Result<Base, ReadError>
     }
 }
 
+// Writes a base.
 fn put_base(writer: &mut Writer, base: Base) -> Result<(), Memory>
     ensures { OnOk result (writer.new ≡ writer.old ++ base_format.write base) }
 {
@@ -114,6 +120,7 @@ fn put_base(writer: &mut Writer, base: Base) -> Result<(), Memory>
     }
 }
 
+// An assignment: its base, what is added, and what is removed.
 fn assignment_of(reader: &mut Reader) -> Result<Assignment, ReadError>
     ensures { Gives (λ x. x) result reader.new (assignment.read reader.old) }
 {
@@ -123,6 +130,7 @@ fn assignment_of(reader: &mut Reader) -> Result<Assignment, ReadError>
     Ok(Assignment { base, add, remove })
 }
 
+// Writes an assignment.
 fn put_assignment(writer: &mut Writer, a: &Assignment) -> Result<(), Memory>
     ensures { OnOk result (writer.new ≡ writer.old ++ assignment.write a.now) }
 {
@@ -131,6 +139,7 @@ fn put_assignment(writer: &mut Writer, a: &Assignment) -> Result<(), Memory>
     writer.set(&a.remove)
 }
 
+// Who holds something: an account on a grain, or a grant.
 fn node_of(reader: &mut Reader) -> Result<Node, ReadError>
     ensures { Gives (λ x. x) result reader.new (node_format.read reader.old) }
 {
@@ -146,6 +155,7 @@ fn node_of(reader: &mut Reader) -> Result<Node, ReadError>
     }
 }
 
+// Writes who holds something.
 fn put_node(writer: &mut Writer, node: Node) -> Result<(), Memory>
     ensures { OnOk result (writer.new ≡ writer.old ++ node_format.write node) }
 {
@@ -162,6 +172,7 @@ fn put_node(writer: &mut Writer, node: Node) -> Result<(), Memory>
     }
 }
 
+// A need: which of three, and its parts.
 fn need_of(reader: &mut Reader) -> Result<Need, ReadError>
     ensures { Gives (λ x. x) result reader.new (need_format.read reader.old) }
 {
@@ -178,6 +189,7 @@ fn need_of(reader: &mut Reader) -> Result<Need, ReadError>
     }
 }
 
+// Writes a need.
 fn put_need(writer: &mut Writer, need: Need) -> Result<(), Memory>
     ensures { OnOk result (writer.new ≡ writer.old ++ need_format.write need) }
 {
@@ -212,6 +224,7 @@ impl RowField for Need {
     }
 }
 
+// The digest of a token, where there is one.
 fn token_of(reader: &mut Reader) -> Result<Option<Digest>, ReadError>
     ensures { Gives (λ x. x) result reader.new (token.read reader.old) }
 {
@@ -223,6 +236,7 @@ fn token_of(reader: &mut Reader) -> Result<Option<Digest>, ReadError>
     }
 }
 
+// Writes the digest of a token, or that there is none.
 fn put_token(writer: &mut Writer, digest: Option<Digest>) -> Result<(), Memory>
     ensures { OnOk result (writer.new ≡ writer.old ++ token.write digest) }
 {
@@ -235,6 +249,7 @@ fn put_token(writer: &mut Writer, digest: Option<Digest>) -> Result<(), Memory>
     }
 }
 
+// The fields of a grant.
 fn grant_of(alloc: Global, reader: &mut Reader, num: u32) -> Result<Grant, ReadError>
     ensures { Gives (λ x. x) result reader.new ((grant num).read reader.old) }
 {
@@ -257,6 +272,7 @@ fn grant_of(alloc: Global, reader: &mut Reader, num: u32) -> Result<Grant, ReadE
     })
 }
 
+// Writes the fields of a grant.
 fn put_grant(writer: &mut Writer, g: &Grant) -> Result<(), Memory>
     ensures { OnOk result ((num : ℕ) → writer.new ≡ writer.old ++ (grant num).write g.now) }
 {

@@ -10,6 +10,7 @@ use row_formats::{ReadError, Reader, Writer};
 use share_graph::{Account, Grain, Saved};
 use std::alloc::Global;
 
+// The fields of an account.
 fn account_of(alloc: Global, reader: &mut Reader, num: u32) -> Result<Account, ReadError>
     ensures { Gives (λ x. x) result reader.new ((account num).read reader.old) }
 {
@@ -28,6 +29,7 @@ fn account_of(alloc: Global, reader: &mut Reader, num: u32) -> Result<Account, R
     })
 }
 
+// Writes the fields of an account.
 fn put_account(writer: &mut Writer, a: &Account) -> Result<(), Memory>
     ensures { OnOk result ((num : ℕ) → writer.new ≡ writer.old ++ (account num).write a.now) }
 {
@@ -55,6 +57,7 @@ impl Stored for Account {
     ghost exact = { account_exact };
 }
 
+// The fields of a grain.
 fn grain_of(alloc: Global, reader: &mut Reader, num: u32) -> Result<Grain, ReadError>
     ensures { Gives (λ x. x) result reader.new ((grain num).read reader.old) }
 {
@@ -71,6 +74,7 @@ fn grain_of(alloc: Global, reader: &mut Reader, num: u32) -> Result<Grain, ReadE
     })
 }
 
+// Writes the fields of a grain.
 fn put_grain(writer: &mut Writer, g: &Grain) -> Result<(), Memory>
     ensures { OnOk result ((num : ℕ) → writer.new ≡ writer.old ++ (grain num).write g.now) }
 {
@@ -97,6 +101,7 @@ impl Stored for Grain {
     ghost exact = { grain_exact };
 }
 
+// The fields of a saved reference.
 fn saved_of(alloc: Global, reader: &mut Reader, num: u32) -> Result<Saved, ReadError>
     ensures { Gives (λ x. x) result reader.new ((saved num).read reader.old) }
 {
@@ -115,6 +120,7 @@ fn saved_of(alloc: Global, reader: &mut Reader, num: u32) -> Result<Saved, ReadE
     })
 }
 
+// Writes the fields of a saved reference.
 fn put_saved(writer: &mut Writer, s: &Saved) -> Result<(), Memory>
     ensures { OnOk result ((num : ℕ) → writer.new ≡ writer.old ++ (saved num).write s.now) }
 {

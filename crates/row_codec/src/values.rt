@@ -49,6 +49,7 @@ pub(crate) fn value_of(alloc: Global, reader: &mut Reader, depth: u8) -> Result<
     }
 }
 
+// A field: its name, above that of the last one, and its value.
 #[cycle(value)]
 fn field_of(
     alloc: Global,
@@ -63,6 +64,7 @@ fn field_of(
     Ok((name, value))
 }
 
+// Named fields, as many as their count says.
 #[cycle(value)]
 fn fields_of(
     alloc: Global,
@@ -80,6 +82,7 @@ fn fields_of(
     Ok(fields)
 }
 
+// Items, as many as their count says.
 #[cycle(value)]
 fn items_of(alloc: Global, reader: &mut Reader, depth: u8) -> Result<Vec<TagValue>, ReadError>
     ensures { Gives (λ vs. map tag_data vs.items) result reader.new ((list 1000 (value depth)).read reader.old) }
@@ -128,6 +131,7 @@ pub(crate) fn put_value(writer: &mut Writer, written: &TagValue, depth: u8) -> R
     Ok(())
 }
 
+// Writes a field.
 #[cycle(put_value)]
 fn put_field(writer: &mut Writer, field: &(Name, TagValue), depth: u8) -> Result<(), Memory>
     requires { nesting (tag_data field.now.1) ≤ depth }
@@ -138,6 +142,7 @@ fn put_field(writer: &mut Writer, field: &(Name, TagValue), depth: u8) -> Result
     Ok(())
 }
 
+// Writes named fields, none of which nests deeper than this.
 #[cycle(put_value)]
 fn put_fields(writer: &mut Writer, fields: &[(Name, TagValue)], depth: u8) -> Result<(), Memory>
     requires { fields_nesting (fields_data fields.now) ≤ depth }
@@ -150,6 +155,7 @@ fn put_fields(writer: &mut Writer, fields: &[(Name, TagValue)], depth: u8) -> Re
     Ok(())
 }
 
+// Writes items, none of which nests deeper than this.
 #[cycle(put_value)]
 fn put_items(writer: &mut Writer, items: &[TagValue], depth: u8) -> Result<(), Memory>
     requires { items_nesting (items_data items.now) ≤ depth }

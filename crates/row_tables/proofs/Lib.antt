@@ -1,0 +1,6 @@
+pub mod SectionLoop
+pub mod SectionExact
+pub mod Listing
+pub mod Refusing
+pub mod ListRows
+pub mod NextRows

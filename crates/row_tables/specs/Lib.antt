@@ -1,0 +1,5 @@
+pub mod Sections
+pub mod TablesRows
+pub mod RowOf
+pub mod Checks
+pub mod RowAfter

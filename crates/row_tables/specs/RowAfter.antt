@@ -1,0 +1,33 @@
+-- The row of the tables that an event adds or changes, as it stands after the event.
+use Rattle.std.specs.Prelude.{◌≡◌, ◌+◌, length, Option}
+use Rattle.std.specs.Option.{option_and_then}
+use Rattle.share_graph.specs.declared.event.Event.{Event}
+use Rattle.share_graph.specs.declared.event.Event.TheVariants as event
+use Rattle.share_graph.specs.declared.state.Tables.{Tables}
+use Rattle.share_graph.specs.History.{tables_after}
+use Rattle.state_step.specs.Changed.{changed_row}
+use Rattle.row_tables.specs.declared.stored.Row.{Row}
+use Rattle.row_tables.specs.RowOf.{row_of}
+
+-- a row that the event adds has the next number of its kind
+abbrev pub AddsNext : Tables → Event → Type 0
+AddsNext t (event.AccountAdded account) = account.num.0 ≡ length t.accounts + 1
+AddsNext t (event.AppAdded app) = app.num.0 ≡ length t.apps + 1
+AddsNext t (event.GrainAdded grain) = grain.num.0 ≡ length t.grains + 1
+AddsNext t (event.GrantAdded grant) = grant.num.0 ≡ length t.grants + 1
+AddsNext t (event.Claimed grant handle) = grant.num.0 ≡ length t.grants + 1
+AddsNext t (event.SavedAdded saved) = saved.num.0 ≡ length t.saved + 1
+AddsNext t (event.AdminSet a on) = Unit {0}
+AddsNext t (event.EnabledSet a on) = Unit {0}
+AddsNext t (event.TrashedSet n on) = Unit {0}
+AddsNext t (event.GrantRevoked g) = Unit {0}
+AddsNext t (event.SavedDropped v) = Unit {0}
+AddsNext t (event.RunStarted run) = Unit {0}
+AddsNext t (event.RunStopped r) = Unit {0}
+AddsNext t (event.SessionOpened session) = Unit {0}
+AddsNext t (event.SessionClosed n) = Unit {0}
+AddsNext t (event.HandleMade handle) = Unit {0}
+
+-- the row that the event adds or changes, in the tables after it; none where it leaves the tables as they are
+abbrev pub row_after : Tables → Event → Option Row
+row_after t e = option_and_then (λ named. row_of (tables_after t e) named.0 named.1) (changed_row e)

@@ -1,0 +1,155 @@
+//! The row that an event adds or changes.
+
+ghost use Rattle.std.specs.Prelude.{◌≡◌, IfOk, option_map};
+ghost use Rattle.std.specs.Option.{option_copied};
+ghost use Rattle.share_graph.specs.Setting.{with_admin, with_enabled, with_trashed, revoked, dropped};
+ghost use Rattle.row_codec.specs.Rows.{account as an_account, grain as a_grain, saved as a_saved};
+ghost use Rattle.row_codec.specs.GrantRow.{grant as a_grant};
+ghost use Rattle.row_tables.specs.Sections.{stored};
+ghost use Rattle.row_tables.specs.RowAfter.{AddsNext, row_after};
+
+use crate::stored::Row;
+use crate::writing::stored;
+use host_base::Memory;
+use share_graph::{Account, Event, Grain, Grant, Saved, Tables, account, grain, grant, saved};
+use std::alloc::Global;
+
+// A copy of an account.
+fn copy_of_account(account: &Account) -> Result<Account, Memory>
+    ensures { IfOk result (λ copy. copy ≡ account.now) }
+{
+    Ok(account.clone()?)
+}
+
+// A copy of a grain.
+fn copy_of_grain(grain: &Grain) -> Result<Grain, Memory>
+    ensures { IfOk result (λ copy. copy ≡ grain.now) }
+{
+    Ok(grain.clone()?)
+}
+
+// A copy of a grant.
+fn copy_of_grant(grant: &Grant) -> Result<Grant, Memory>
+    ensures { IfOk result (λ copy. copy ≡ grant.now) }
+{
+    Ok(grant.clone()?)
+}
+
+// A copy of a saved reference.
+fn copy_of_saved(saved: &Saved) -> Result<Saved, Memory>
+    ensures { IfOk result (λ copy. copy ≡ saved.now) }
+{
+    Ok(saved.clone()?)
+}
+
+// The row of an account after it was made an admin, or no longer is one.
+fn admin_set(
+    alloc: Global,
+    row: Option<&Account>,
+    num: u32,
+    on: bool,
+) -> Result<Option<Row>, Memory>
+    ensures { IfOk result (λ r. r ≡ option_map (stored 1 an_account num) (option_map (with_admin on) (option_copied row.entry))) }
+{
+    match row {
+        Some(row) => {
+            let mut changed = copy_of_account(row)?;
+            changed.admin = on;
+            Ok(Some(stored(alloc, 1, num, &changed)?))
+        }
+        None => Ok(None),
+    }
+}
+
+// The row of an account after it was enabled or disabled.
+fn enabled_set(
+    alloc: Global,
+    row: Option<&Account>,
+    num: u32,
+    on: bool,
+) -> Result<Option<Row>, Memory>
+    ensures { IfOk result (λ r. r ≡ option_map (stored 1 an_account num) (option_map (with_enabled on) (option_copied row.entry))) }
+{
+    match row {
+        Some(row) => {
+            let mut changed = copy_of_account(row)?;
+            changed.enabled = on;
+            Ok(Some(stored(alloc, 1, num, &changed)?))
+        }
+        None => Ok(None),
+    }
+}
+
+// The row of a grain after it was put into the trash, or taken out of it.
+fn trashed_set(
+    alloc: Global,
+    row: Option<&Grain>,
+    num: u32,
+    on: bool,
+) -> Result<Option<Row>, Memory>
+    ensures { IfOk result (λ r. r ≡ option_map (stored 3 a_grain num) (option_map (with_trashed on) (option_copied row.entry))) }
+{
+    match row {
+        Some(row) => {
+            let mut changed = copy_of_grain(row)?;
+            changed.trashed = on;
+            Ok(Some(stored(alloc, 3, num, &changed)?))
+        }
+        None => Ok(None),
+    }
+}
+
+// The row of a grant after it was revoked.
+fn grant_revoked(alloc: Global, row: Option<&Grant>, num: u32) -> Result<Option<Row>, Memory>
+    ensures { IfOk result (λ r. r ≡ option_map (stored 4 a_grant num) (option_map revoked (option_copied row.entry))) }
+{
+    match row {
+        Some(row) => {
+            let mut changed = copy_of_grant(row)?;
+            changed.revoked = true;
+            Ok(Some(stored(alloc, 4, num, &changed)?))
+        }
+        None => Ok(None),
+    }
+}
+
+// The row of a saved reference after it was dropped.
+fn saved_dropped(alloc: Global, row: Option<&Saved>, num: u32) -> Result<Option<Row>, Memory>
+    ensures { IfOk result (λ r. r ≡ option_map (stored 5 a_saved num) (option_map dropped (option_copied row.entry))) }
+{
+    match row {
+        Some(row) => {
+            let mut changed = copy_of_saved(row)?;
+            changed.dropped = true;
+            Ok(Some(stored(alloc, 5, num, &changed)?))
+        }
+        None => Ok(None),
+    }
+}
+
+/// Writes the row that an event adds to the tables or changes in them, as it stands after the event. An event that changes sessions,
+/// runs or handles alone has none.
+#[tactic(auto, using(crate::proofs::ListRows::row_added, crate::proofs::ListRows::row_changed))]
+pub fn row_after(alloc: Global, tables: &Tables, event: &Event) -> Result<Option<Row>, Memory>
+    requires { AddsNext tables.now event.now }
+    ensures { IfOk result (λ r. r ≡ row_after tables.now event.now) }
+{
+    match event {
+        Event::AccountAdded(row) => Ok(Some(stored(alloc, 1, row.num.0, row)?)),
+        Event::AppAdded(row) => Ok(Some(stored(alloc, 2, row.num.0, row)?)),
+        Event::GrainAdded(row) => Ok(Some(stored(alloc, 3, row.num.0, row)?)),
+        Event::GrantAdded(row) => Ok(Some(stored(alloc, 4, row.num.0, row)?)),
+        Event::Claimed(row, _) => Ok(Some(stored(alloc, 4, row.num.0, row)?)),
+        Event::SavedAdded(row) => Ok(Some(stored(alloc, 5, row.num.0, row)?)),
+        Event::AdminSet(num, on) => admin_set(alloc, account(tables, *num), num.0, *on),
+        Event::EnabledSet(num, on) => enabled_set(alloc, account(tables, *num), num.0, *on),
+        Event::TrashedSet(num, on) => trashed_set(alloc, grain(tables, *num), num.0, *on),
+        Event::GrantRevoked(num) => grant_revoked(alloc, grant(tables, *num), num.0),
+        Event::SavedDropped(num) => saved_dropped(alloc, saved(tables, *num), num.0),
+        Event::RunStarted(_)
+        | Event::RunStopped(_)
+        | Event::SessionOpened(_)
+        | Event::SessionClosed(_)
+        | Event::HandleMade(_) => Ok(None),
+    }
+}

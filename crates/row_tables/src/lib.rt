@@ -1,0 +1,16 @@
+//! The rows of the tables: the tables that rows state, or the first bad row.
+#![tactic(auto)]
+
+mod checking;
+mod events;
+mod one_row;
+mod sections;
+mod stored;
+mod tables;
+mod writing;
+
+pub use events::row_after;
+pub use one_row::row_bytes;
+pub use stored::{BadRow, LoadFault, Row};
+pub use tables::tables_of;
+pub use writing::rows_of;

@@ -1,0 +1,40 @@
+//! Plays worked rows of tables as bytes, one word a line of the input:
+//!
+//! ```text
+//! book                  the rows are those of the small book, which are printed
+//! none                  there are no rows
+//! row KIND NUM HEX      one row more
+//! body INDEX HEX        another body for the row of that index, from 0
+//! tables                what the rows state: printed by its numbers of rows, and whether it has the same rows; or the first bad row
+//! fronts                whether each front of each body is short at its end
+//! behind                whether a byte behind each body is spare
+//! grain NUM             the row of that grain, by itself
+//! after EVENT NUM       the row that an event changes, as it is then: admin, disable, trash, revoke, close
+//! ```
+#![tactic(auto)]
+
+mod playing;
+
+use crate::playing::{Play, play};
+use std::io;
+
+fn main(rt: HostRuntime) -> io::Result<()> {
+    let alloc = rt.alloc();
+    let mut state = Play::new(alloc);
+    for line in rt.lines(alloc) {
+        let line = line?;
+        if line.is_empty() || line.starts_with('#') {
+            continue;
+        }
+        println!(rt; "{line}")?;
+        match play(alloc, &mut state, line.as_str()) {
+            Ok(text) => {
+                for part in text.lines() {
+                    println!(rt; "    {part}")?;
+                }
+            }
+            Err(_) => println!(rt; "    out of memory")?,
+        }
+    }
+    Ok(())
+}

@@ -1,0 +1,260 @@
+//! What a line of the input comes to.
+
+use host_base::{AccountId, Bytes, GrainId, GrantId, Memory, SessionId};
+use row_formats::RowFault;
+use row_tables::{BadRow, LoadFault, Row, row_after, row_bytes, rows_of, tables_of};
+use share_graph::{Event, Kind, Tables, grain};
+use small_book::small_book;
+use std::alloc::{AllocError, Global};
+
+/// The rows that are played with.
+#[derive(Debug, Drop)]
+pub struct Play {
+    rows: Vec<Row>,
+}
+
+impl Play {
+    /// No rows.
+    pub fn new(alloc: Global) -> Self {
+        Play {
+            rows: Vec::new(alloc),
+        }
+    }
+}
+
+// A copy of rows, of which the one of an index has another body.
+fn with_body(alloc: Global, rows: &[Row], at: usize, body: &[u8]) -> Result<Vec<Row>, AllocError> {
+    let mut all = Vec::new(alloc);
+    for (place, row) in rows.iter().enumerate() {
+        let body = if place == at {
+            body
+        } else {
+            row.body.as_slice()
+        };
+        all.push(Row {
+            kind: row.kind,
+            num: row.num,
+            body: Bytes::new(Vec::from_slice(alloc, body)?),
+        })?;
+    }
+    Ok(all)
+}
+
+// A row as a line.
+fn line_of(alloc: Global, row: &Row) -> Result<String, AllocError> {
+    let (kind, num) = (row.kind, row.num);
+    let body = hex::encode(alloc, row.body.as_slice())?;
+    format!(in alloc; "{kind} {num} {body}\n")
+}
+
+// The rows of the small book, and a text of them.
+fn book(alloc: Global, state: &mut Play) -> Result<String, Memory> {
+    let book = small_book(alloc)?;
+    state.rows = rows_of(alloc, &book.tables)?;
+    let mut text = String::new(alloc);
+    for row in &state.rows {
+        text.push_str(line_of(alloc, row)?.as_str())?;
+    }
+    Ok(text)
+}
+
+// Whether rows are the same, one by one.
+fn are_same(rows: &[Row], others: &[Row]) -> bool {
+    rows.len() == others.len()
+        && rows.iter().zip(others.iter()).all(|(row, other)| {
+            row.kind == other.kind
+                && row.num == other.num
+                && row.body.as_slice() == other.body.as_slice()
+        })
+}
+
+// The numbers of rows of tables.
+fn numbers(alloc: Global, tables: &Tables) -> Result<String, AllocError> {
+    let accounts = tables.accounts.as_slice().len();
+    let apps = tables.apps.as_slice().len();
+    let grains = tables.grains.as_slice().len();
+    let grants = tables.grants.as_slice().len();
+    let saved = tables.saved.as_slice().len();
+    format!(in alloc;
+        "{accounts} accounts, {apps} apps, {grains} grains, {grants} grants, {saved} saved"
+    )
+}
+
+// What rows state.
+fn stated(alloc: Global, rows: &[Row]) -> Result<String, Memory> {
+    match tables_of(alloc, rows) {
+        Ok(tables) => {
+            let again = rows_of(alloc, &tables)?;
+            let same = are_same(rows, again.as_slice());
+            let numbers = numbers(alloc, &tables)?;
+            Ok(format!(in alloc; "{numbers}; the same rows again: {same}")?)
+        }
+        Err(LoadFault::BadRow(bad)) => Ok(format!(in alloc; "{bad}")?),
+        Err(LoadFault::Memory) => Err(Memory),
+    }
+}
+
+// The first bad row of rows of which one has another body.
+fn bad_row(alloc: Global, rows: &[Row], at: usize, body: &[u8]) -> Result<Option<BadRow>, Memory> {
+    let rows = with_body(alloc, rows, at, body)?;
+    match tables_of(alloc, rows.as_slice()) {
+        Ok(_) => Ok(None),
+        Err(LoadFault::BadRow(bad)) => Ok(Some(bad)),
+        Err(LoadFault::Memory) => Err(Memory),
+    }
+}
+
+// How many fronts of a row's body are short at their end.
+fn short_fronts(alloc: Global, rows: &[Row], at: usize, body: &[u8]) -> Result<usize, Memory> {
+    let mut short = 0usize;
+    for length in 0..body.len() {
+        let wanted = BadRow {
+            index: at,
+            fault: RowFault::Short(length),
+        };
+        if bad_row(alloc, rows, at, &body[..length])? == Some(wanted) {
+            short = short.saturating_add(1);
+        }
+    }
+    Ok(short)
+}
+
+// Each row with how many of its fronts are short.
+fn fronts(alloc: Global, rows: &[Row]) -> Result<String, Memory> {
+    let mut text = String::new(alloc);
+    for (at, row) in rows.iter().enumerate() {
+        let body = row.body.as_slice();
+        let short = short_fronts(alloc, rows, at, body)?;
+        let all = body.len();
+        let line = format!(in alloc; "row {at}: {short} of {all} fronts are short\n")?;
+        text.push_str(line.as_str())?;
+    }
+    Ok(text)
+}
+
+// Each row with what comes of a byte more.
+fn behind(alloc: Global, rows: &[Row]) -> Result<String, Memory> {
+    let mut text = String::new(alloc);
+    for (at, row) in rows.iter().enumerate() {
+        let mut body = Vec::from_slice(alloc, row.body.as_slice())?;
+        body.push(0)?;
+        let line = match bad_row(alloc, rows, at, body.as_slice())? {
+            Some(bad) => format!(in alloc; "{bad}\n")?,
+            None => format!(in alloc; "row {at} is read\n")?,
+        };
+        text.push_str(line.as_str())?;
+    }
+    Ok(text)
+}
+
+// The row of a grain of the small book.
+fn grain_row(alloc: Global, num: u32) -> Result<String, Memory> {
+    let book = small_book(alloc)?;
+    if grain(&book.tables, GrainId(num)).is_none() {
+        return Ok(String::from_str(alloc, "no grain")?);
+    }
+    let row = row_bytes(alloc, &book.tables, Kind::Grain, num)?;
+    Ok(line_of(alloc, &row)?)
+}
+
+// The event that a word and a number state.
+fn event_from(word: &str, num: u32) -> Option<Event> {
+    match word {
+        "admin" => Some(Event::AdminSet(AccountId(num), true)),
+        "disable" => Some(Event::EnabledSet(AccountId(num), false)),
+        "trash" => Some(Event::TrashedSet(GrainId(num), true)),
+        "revoke" => Some(Event::GrantRevoked(GrantId(num))),
+        "close" => Some(Event::SessionClosed(SessionId(num))),
+        _ => None,
+    }
+}
+
+// The row of the small book that an event changes.
+fn after(alloc: Global, word: &str, num: u32) -> Result<String, Memory> {
+    let book = small_book(alloc)?;
+    let Some(event) = event_from(word, num) else {
+        return Ok(String::from_str(alloc, "no event")?);
+    };
+    match row_after(alloc, &book.tables, &event)? {
+        Some(row) => Ok(line_of(alloc, &row)?),
+        None => Ok(String::from_str(alloc, "no row")?),
+    }
+}
+
+// The row that three words state.
+fn row_from(alloc: Global, kind: &str, num: &str, body: &str) -> Result<Option<Row>, AllocError> {
+    let (Ok(kind), Ok(num)) = (kind.parse::<u8>(), num.parse::<u32>()) else {
+        return Ok(None);
+    };
+    match hex::decode(alloc, body) {
+        Ok(body) => Ok(Some(Row {
+            kind,
+            num,
+            body: Bytes::new(body),
+        })),
+        Err(_) => Ok(None),
+    }
+}
+
+// Adds the row that words state.
+fn add_row(alloc: Global, state: &mut Play, words: &[&str]) -> Result<String, Memory> {
+    let row = match words {
+        [kind, num, body] => row_from(alloc, kind, num, body)?,
+        [kind, num] => row_from(alloc, kind, num, "")?,
+        _ => None,
+    };
+    match row {
+        Some(row) => {
+            state.rows.push(row)?;
+            Ok(String::new(alloc))
+        }
+        None => Ok(String::from_str(alloc, "no row")?),
+    }
+}
+
+// Gives a row another body.
+fn change_body(alloc: Global, state: &mut Play, words: &[&str]) -> Result<String, Memory> {
+    if let [at, body] = words
+        && let Ok(at) = at.parse::<usize>()
+        && let Ok(body) = hex::decode(alloc, body)
+    {
+        state.rows = with_body(alloc, state.rows.as_slice(), at, body.as_slice())?;
+        return Ok(String::new(alloc));
+    }
+    Ok(String::from_str(alloc, "no body")?)
+}
+
+// The words of a line.
+fn words_of(alloc: Global, line: &str) -> Result<Vec<&str>, AllocError> {
+    let mut words = Vec::new(alloc);
+    for word in line.split_whitespace() {
+        words.push(word)?;
+    }
+    Ok(words)
+}
+
+/// What a line comes to.
+pub fn play(alloc: Global, state: &mut Play, line: &str) -> Result<String, Memory> {
+    let words = words_of(alloc, line)?;
+    match words.as_slice() {
+        ["book"] => book(alloc, state),
+        ["none"] => {
+            state.rows = Vec::new(alloc);
+            Ok(String::new(alloc))
+        }
+        ["row", rest @ ..] => add_row(alloc, state, rest),
+        ["body", rest @ ..] => change_body(alloc, state, rest),
+        ["tables"] => stated(alloc, state.rows.as_slice()),
+        ["fronts"] => fronts(alloc, state.rows.as_slice()),
+        ["behind"] => behind(alloc, state.rows.as_slice()),
+        ["grain", num] => match num.parse::<u32>() {
+            Ok(num) => grain_row(alloc, num),
+            Err(_) => Ok(String::from_str(alloc, "no number")?),
+        },
+        ["after", word, num] => match num.parse::<u32>() {
+            Ok(num) => after(alloc, word, num),
+            Err(_) => Ok(String::from_str(alloc, "no number")?),
+        },
+        _ => Ok(String::from_str(alloc, "no such word")?),
+    }
+}
