@@ -15,7 +15,7 @@
 
 mod playing;
 
-use crate::playing::{Play, play};
+use crate::playing::{Play, answer};
 use std::io;
 
 fn main(rt: HostRuntime) -> io::Result<()> {
@@ -27,7 +27,7 @@ fn main(rt: HostRuntime) -> io::Result<()> {
             continue;
         }
         println!(rt; "{line}")?;
-        match play(alloc, &mut state, line.as_str()) {
+        match answer(alloc, &mut state, line.as_str()) {
             Ok(text) => {
                 for part in text.lines() {
                     println!(rt; "    {part}")?;

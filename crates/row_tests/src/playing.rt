@@ -234,7 +234,7 @@ fn words_of(alloc: Global, line: &str) -> Result<Vec<&str>, AllocError> {
 }
 
 /// What a line comes to.
-pub fn play(alloc: Global, state: &mut Play, line: &str) -> Result<String, Memory> {
+pub fn answer(alloc: Global, state: &mut Play, line: &str) -> Result<String, Memory> {
     let words = words_of(alloc, line)?;
     match words.as_slice() {
         ["book"] => book(alloc, state),
