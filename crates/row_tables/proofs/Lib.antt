@@ -4,3 +4,4 @@ pub mod Listing
 pub mod Refusing
 pub mod ListRows
 pub mod NextRows
+pub mod Places

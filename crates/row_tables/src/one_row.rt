@@ -1,9 +1,11 @@
 //! One row of the tables.
 
-ghost use Rattle.std.specs.Prelude.{◌≡◌, Some, IfOk, option_map};
+ghost use Rattle.std.specs.Prelude.{◌≡◌, ◌+◌, ◌-◌, Some, IfOk, option_map, slice_get};
 ghost use Rattle.std.specs.Option.{option_copied};
 ghost use Rattle.row_tables.specs.Sections.{stored};
+ghost use Rattle.row_tables.specs.Checks.{start_of};
 ghost use Rattle.row_tables.specs.RowOf.{row_of};
+ghost use Rattle.row_tables.specs.TablesRows.{rows_of};
 ghost use Rattle.row_tables.specs.declared.stored.Row.{Row};
 
 use crate::stored::Row;
@@ -43,9 +45,13 @@ fn row_of(alloc: Global, tables: &Tables, kind: Kind, num: u32) -> Result<Option
 }
 
 /// Writes the row of a kind and a number, which the tables have.
+#[tactic(auto, using(crate::proofs::Places::row_there))]
 pub fn row_bytes(alloc: Global, tables: &Tables, kind: Kind, num: u32) -> Result<Row, Memory>
     requires { (row : Row) × (row_of tables.now kind num ≡ Some row) }
-    ensures { IfOk result (λ row. row_of tables.now kind num ≡ Some row) }
+    ensures row { IfOk result (λ row. row_of tables.now kind num ≡ Some row) }
+
+    // Where it stands among the rows of all tables.
+    ensures place { IfOk result (λ row. slice_get (rows_of tables.now) (start_of tables.now kind + (num - 1)) ≡ Some row) }
 {
     match row_of(alloc, tables, kind, num)? {
         Some(row) => Ok(row),
