@@ -8,8 +8,6 @@
 //! tables                what the rows state: printed by its numbers of rows, and whether it has the same rows; or the first bad row
 //! fronts                whether each front of each body is short at its end
 //! behind                whether a byte behind each body is spare
-//! grain NUM             the row of that grain, by itself
-//! after EVENT NUM       the row that an event changes, as it is then: admin, disable, trash, revoke, close
 //! ```
 #![tactic(auto)]
 

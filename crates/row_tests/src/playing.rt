@@ -1,9 +1,9 @@
 //! What a line of the input comes to.
 
-use host_base::{AccountId, Bytes, GrainId, GrantId, Memory, SessionId};
+use host_base::{Bytes, Memory};
 use row_formats::RowFault;
-use row_tables::{BadRow, LoadFault, Row, row_after, row_bytes, rows_of, tables_of};
-use share_graph::{Event, Kind, Tables, grain};
+use row_tables::{BadRow, LoadFault, Row, rows_of, tables_of};
+use share_graph::Tables;
 use small_book::small_book;
 use std::alloc::{AllocError, Global};
 
@@ -147,40 +147,6 @@ fn behind(alloc: Global, rows: &[Row]) -> Result<String, Memory> {
     Ok(text)
 }
 
-// The row of a grain of the small book.
-fn grain_row(alloc: Global, num: u32) -> Result<String, Memory> {
-    let book = small_book(alloc)?;
-    if grain(&book.tables, GrainId(num)).is_none() {
-        return Ok(String::from_str(alloc, "no grain")?);
-    }
-    let row = row_bytes(alloc, &book.tables, Kind::Grain, num)?;
-    Ok(line_of(alloc, &row)?)
-}
-
-// The event that a word and a number state.
-fn event_from(word: &str, num: u32) -> Option<Event> {
-    match word {
-        "admin" => Some(Event::AdminSet(AccountId(num), true)),
-        "disable" => Some(Event::EnabledSet(AccountId(num), false)),
-        "trash" => Some(Event::TrashedSet(GrainId(num), true)),
-        "revoke" => Some(Event::GrantRevoked(GrantId(num))),
-        "close" => Some(Event::SessionClosed(SessionId(num))),
-        _ => None,
-    }
-}
-
-// The row of the small book that an event changes.
-fn after(alloc: Global, word: &str, num: u32) -> Result<String, Memory> {
-    let book = small_book(alloc)?;
-    let Some(event) = event_from(word, num) else {
-        return Ok(String::from_str(alloc, "no event")?);
-    };
-    match row_after(alloc, &book.tables, &event)? {
-        Some(row) => Ok(line_of(alloc, &row)?),
-        None => Ok(String::from_str(alloc, "no row")?),
-    }
-}
-
 // The row that three words state.
 fn row_from(alloc: Global, kind: &str, num: &str, body: &str) -> Result<Option<Row>, AllocError> {
     let (Ok(kind), Ok(num)) = (kind.parse::<u8>(), num.parse::<u32>()) else {
@@ -247,14 +213,6 @@ pub fn answer(alloc: Global, state: &mut Play, line: &str) -> Result<String, Mem
         ["tables"] => stated(alloc, state.rows.as_slice()),
         ["fronts"] => fronts(alloc, state.rows.as_slice()),
         ["behind"] => behind(alloc, state.rows.as_slice()),
-        ["grain", num] => match num.parse::<u32>() {
-            Ok(num) => grain_row(alloc, num),
-            Err(_) => Ok(String::from_str(alloc, "no number")?),
-        },
-        ["after", word, num] => match num.parse::<u32>() {
-            Ok(num) => after(alloc, word, num),
-            Err(_) => Ok(String::from_str(alloc, "no number")?),
-        },
         _ => Ok(String::from_str(alloc, "no such word")?),
     }
 }
