@@ -2,7 +2,7 @@
 use Rattle.std.proofs.Common.{◌≡◌, ℕ, suc, ◌+◌, ◌≤◌, ◌<◌, List, [], ◌∷◌, ◌++◌, length, get_or, take, sym, ap, ◌∙◌, append_assoc, arith}
 use Rattle.std.proofs.lemmas.List.{take_more, take_all, length-take}
 use Rattle.row_formats.specs.Format.{Format}
-use Rattle.row_tables.specs.declared.stored.Row.{Row}
+use Rattle.cloud_keeper.specs.declared.row.Row.{Row}
 use Rattle.row_tables.specs.Sections.{section_rows, stored}
 
 section_rows-push : {A : Type 0} (kind : ℕ) (format : ℕ → Format A) (n : ℕ) (xs : List A) (x : A) → section_rows kind format n (xs ++ x ∷ []) ≡ section_rows kind format n xs ++ stored kind format (n + length xs) x ∷ []

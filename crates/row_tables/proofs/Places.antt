@@ -9,7 +9,7 @@ use Rattle.row_formats.specs.Format.{Format}
 use Rattle.row_codec.specs.Rows.{account, grain, saved}
 use Rattle.row_codec.specs.AppRow.{app}
 use Rattle.row_codec.specs.GrantRow.{grant}
-use Rattle.row_tables.specs.declared.stored.Row.{Row}
+use Rattle.cloud_keeper.specs.declared.row.Row.{Row}
 use Rattle.row_tables.specs.Sections.{stored, section_rows}
 use Rattle.row_tables.specs.TablesRows.{rows_of}
 use Rattle.row_tables.specs.RowOf.{row_of}

@@ -11,7 +11,7 @@ use Rattle.row_codec.specs.Rows.{account, grain, saved}
 use Rattle.row_codec.specs.AppRow.{app}
 use Rattle.row_codec.specs.GrantRow.{grant}
 use Rattle.row_formats.proofs.Steps.{ok_is}
-use Rattle.row_tables.specs.declared.stored.Row.{Row}
+use Rattle.cloud_keeper.specs.declared.row.Row.{Row}
 use Rattle.row_tables.specs.declared.stored.BadRow.{BadRow}
 use Rattle.row_tables.specs.declared.stored.LoadFault.{LoadFault}
 use Rattle.row_tables.specs.declared.stored.LoadFault.TheVariants as load

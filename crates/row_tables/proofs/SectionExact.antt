@@ -5,7 +5,7 @@ use Rattle.std.proofs.lemmas.Bool.{eqb-true, eq-eqb, ne_eqb, leb-true, le-leb, a
 use Rattle.std.proofs.lemmas.List.{drop_more, drop_all}
 use Rattle.row_formats.specs.declared.fault.RowFault.{RowFault}
 use Rattle.row_formats.specs.declared.fault.RowFault.TheVariants.{BadField}
-use Rattle.row_tables.specs.declared.stored.Row.{Row}
+use Rattle.cloud_keeper.specs.declared.row.Row.{Row}
 use Rattle.row_tables.specs.declared.stored.LoadFault.{LoadFault}
 use Rattle.row_formats.specs.Place.{◌>>=◌, whole}
 use Rattle.row_formats.specs.Format.{Format, first_version}

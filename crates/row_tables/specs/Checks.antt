@@ -7,7 +7,7 @@ use Rattle.share_graph.specs.declared.fault.Kind.{Kind}
 use Rattle.share_graph.specs.declared.fault.Kind.TheVariants as kind
 use Rattle.share_graph.specs.declared.state.Tables.{Tables}
 use Rattle.row_formats.specs.declared.fault.RowFault.TheVariants.{BadRef}
-use Rattle.row_tables.specs.declared.stored.Row.{Row}
+use Rattle.cloud_keeper.specs.declared.row.Row.{Row}
 use Rattle.row_tables.specs.declared.stored.BadRow.{BadRow}
 use Rattle.row_tables.specs.declared.stored.LoadFault.{LoadFault}
 use Rattle.row_tables.specs.declared.stored.LoadFault.TheVariants as load

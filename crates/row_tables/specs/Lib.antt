@@ -3,3 +3,4 @@ pub mod TablesRows
 pub mod RowOf
 pub mod Checks
 pub mod RowAfter
+pub mod Kept

@@ -6,7 +6,7 @@ use Rattle.share_graph.specs.declared.event.Event.TheVariants as event
 use Rattle.share_graph.specs.declared.state.Tables.{Tables}
 use Rattle.share_graph.specs.History.{tables_after}
 use Rattle.state_step.specs.Changed.{changed_row}
-use Rattle.row_tables.specs.declared.stored.Row.{Row}
+use Rattle.cloud_keeper.specs.declared.row.Row.{Row}
 use Rattle.row_tables.specs.RowOf.{row_of}
 
 -- a row that the event adds has the next number of its kind

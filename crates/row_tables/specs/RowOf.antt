@@ -7,7 +7,7 @@ use Rattle.share_graph.specs.Rows.{row}
 use Rattle.row_codec.specs.Rows.{account, grain, saved}
 use Rattle.row_codec.specs.AppRow.{app}
 use Rattle.row_codec.specs.GrantRow.{grant}
-use Rattle.row_tables.specs.declared.stored.Row.{Row}
+use Rattle.cloud_keeper.specs.declared.row.Row.{Row}
 use Rattle.row_tables.specs.Sections.{stored}
 
 -- the row of that kind and number, if the tables have it

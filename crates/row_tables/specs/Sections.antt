@@ -5,7 +5,7 @@ use Rattle.row_formats.specs.declared.fault.RowFault.TheVariants.{BadField}
 use Rattle.row_formats.specs.Place.{◌>>=◌, whole}
 use Rattle.row_formats.specs.Format.{Format, first_version}
 use Rattle.row_formats.specs.Exact.{IsBytes}
-use Rattle.row_tables.specs.declared.stored.Row.{Row}
+use Rattle.cloud_keeper.specs.declared.row.Row.{Row}
 use Rattle.row_tables.specs.declared.stored.BadRow.{BadRow}
 use Rattle.row_tables.specs.declared.stored.LoadFault.{LoadFault}
 use Rattle.row_tables.specs.declared.stored.LoadFault.TheVariants as load

@@ -6,7 +6,7 @@ use Rattle.row_formats.specs.Place.{◌>>=◌}
 use Rattle.row_codec.specs.Rows.{account, grain, saved}
 use Rattle.row_codec.specs.AppRow.{app}
 use Rattle.row_codec.specs.GrantRow.{grant}
-use Rattle.row_tables.specs.declared.stored.Row.{Row}
+use Rattle.cloud_keeper.specs.declared.row.Row.{Row}
 use Rattle.row_tables.specs.declared.stored.BadRow.{BadRow}
 use Rattle.row_tables.specs.Sections.{body_of, section_at, section_rows, SectionFits}
 

@@ -8,8 +8,8 @@ ghost use Rattle.row_codec.specs.GrantRow.{grant as a_grant};
 ghost use Rattle.row_tables.specs.Sections.{stored};
 ghost use Rattle.row_tables.specs.RowAfter.{AddsNext, row_after};
 
-use crate::stored::Row;
 use crate::writing::stored;
+use cloud_keeper::Row;
 use host_base::Memory;
 use share_graph::{Account, Event, Grain, Grant, Saved, Tables, account, grain, grant, saved};
 use std::alloc::Global;

@@ -9,8 +9,9 @@ mod stored;
 mod tables;
 mod writing;
 
+pub use cloud_keeper::Row;
 pub use events::row_after;
 pub use one_row::row_bytes;
-pub use stored::{BadRow, LoadFault, Row};
+pub use stored::{BadRow, LoadFault};
 pub use tables::tables_of;
 pub use writing::rows_of;

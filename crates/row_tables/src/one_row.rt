@@ -6,10 +6,10 @@ ghost use Rattle.row_tables.specs.Sections.{stored};
 ghost use Rattle.row_tables.specs.Checks.{start_of};
 ghost use Rattle.row_tables.specs.RowOf.{row_of};
 ghost use Rattle.row_tables.specs.TablesRows.{rows_of};
-ghost use Rattle.row_tables.specs.declared.stored.Row.{Row};
+ghost use Rattle.cloud_keeper.specs.declared.row.Row.{Row};
 
-use crate::stored::Row;
 use crate::writing::stored;
+use cloud_keeper::Row;
 use host_base::{AccountId, AppId, GrainId, GrantId, Memory, SavedId};
 use row_codec::Stored;
 use share_graph::{Kind, Tables, account, app, grain, grant, saved};

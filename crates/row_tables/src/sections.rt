@@ -4,7 +4,8 @@ ghost use Rattle.std.specs.Prelude.{◌≡◌, ◌+◌, ◌<◌, ◌≤◌, ◌^
 ghost use Rattle.row_formats.specs.Exact.{IsBytes};
 ghost use Rattle.row_tables.specs.Sections.{GivesRow, AreBytes, body_of, row_at, section_at};
 
-use crate::stored::{BadRow, LoadFault, Row};
+use crate::stored::{BadRow, LoadFault};
+use cloud_keeper::Row;
 use row_codec::{Stored, read_body};
 use row_formats::{ReadError, RowFault};
 use share_graph::Rows;

@@ -1,18 +1,9 @@
 ghost use Rattle.std.specs.Prelude.{◌≡◌};
 ghost use Rattle.row_tables.specs.declared.stored.LoadFault.TheVariants as load;
 
-use host_base::Bytes;
 use row_formats::RowFault;
 use std::alloc::{AllocError, AllocFailed};
 use thiserror::Error;
-
-/// A stored row: the number of its kind, its own number among those of the kind, from 1, and its body.
-#[derive(Debug, Drop)]
-pub struct Row {
-    pub kind: u8,
-    pub num: u32,
-    pub body: Bytes,
-}
 
 /// The first bad row: its index, counted from 0, and its fault.
 #[derive(Clone, Copy, Debug, PartialEq, Eq, Error)]

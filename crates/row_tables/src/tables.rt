@@ -10,7 +10,8 @@ ghost use Rattle.row_tables.specs.TablesRows.{HaveRows, rows_of, tables_of, ende
 
 use crate::checking::bad_ref;
 use crate::sections::section_of;
-use crate::stored::{BadRow, LoadFault, Row};
+use crate::stored::{BadRow, LoadFault};
+use cloud_keeper::Row;
 use row_formats::RowFault;
 use share_graph::Tables;
 use std::alloc::Global;

@@ -5,7 +5,7 @@ ghost use Rattle.share_graph.specs.Rows.{row};
 ghost use Rattle.row_tables.specs.Sections.{section_rows, stored};
 ghost use Rattle.row_tables.specs.TablesRows.{rows_of};
 
-use crate::stored::Row;
+use cloud_keeper::Row;
 use host_base::Memory;
 use row_codec::{Stored, write_body};
 use share_graph::Tables;
