@@ -2,3 +2,4 @@ pub mod Joined
 pub mod Views
 pub mod ValuesRead
 pub mod Written
+pub mod Fitting

@@ -65,7 +65,7 @@ abbrev FieldsWithin : ℕ → List (List ℕ × TagData) → Type 0
 FieldsWithin depth fs = (fields_nesting (fields_of fs) ≤ depth) × (are_fields_tidy (fields_of fs) ≡ true) × (is_ascending (fields_of fs) ≡ true)
 
 -- the fields are above the one before them
-abbrev Follow : Option (List ℕ × TagData) → List (List ℕ × TagData) → Type 0
+abbrev pub Follow : Option (List ℕ × TagData) → List (List ℕ × TagData) → Type 0
 Follow None fs = Unit {0}
 Follow (Some f) fs = is_below f.0 (fields_of fs) ≡ true
 
@@ -73,11 +73,11 @@ Follow (Some f) fs = is_below f.0 (fields_of fs) ≡ true
 abbrev ItemsWithin : ℕ → List TagData → Type 0
 ItemsWithin depth vs = (items_nesting (items_of vs) ≤ depth) × (are_items_tidy (items_of vs) ≡ true)
 
-field_count_is : (fs : List (List ℕ × TagData)) → field_count (fields_of fs) ≡ length fs
+pub field_count_is : (fs : List (List ℕ × TagData)) → field_count (fields_of fs) ≡ length fs
 field_count_is [] = refl
 field_count_is (f ∷ fs) = ap suc (field_count_is fs)
 
-item_count_is : (vs : List TagData) → item_count (items_of vs) ≡ length vs
+pub item_count_is : (vs : List TagData) → item_count (items_of vs) ≡ length vs
 item_count_is [] = refl
 item_count_is (v ∷ vs) = ap suc (item_count_is vs)
 

@@ -1,5 +1,5 @@
 -- The fields of an application: what its manifest says.
-use Rattle.std.specs.Prelude.{ℕ, List, [], ◌∷◌}
+use Rattle.std.specs.Prelude.{ℕ, ◌≤◌, length, List, [], ◌∷◌}
 use Rattle.std.specs.Int.{w32, w64}
 use Rattle.app_manifest.specs.declared.manifest.PermissionDef.{PermissionDef}
 use Rattle.perm_roles.specs.declared.roles.Role.{Role}
@@ -50,6 +50,12 @@ descriptor = made
     (λ f. record { quality = f.0; tags = f.1 })
     (λ d. (d.quality, d.tags))
     (quality ⊗ list 32 tag)
+
+-- two bytes can count each list of an application
+pub record IsCountableApp (a : App) : Type 0 where
+  pub permissions : length a.manifest.permissions ≤ 65535
+  pub roles : length a.manifest.roles ≤ 65535
+  pub descriptors : length a.manifest.match_requests ≤ 65535
 
 -- an application: title, version, permissions, roles, descriptors
 abbrev pub app : ℕ → Format App

@@ -1,5 +1,5 @@
 -- The fields of a grant, each choice with the numbers of what can stand there.
-use Rattle.std.specs.Prelude.{ℕ, Bool, false, List, [], ◌∷◌, Option, Some, None}
+use Rattle.std.specs.Prelude.{ℕ, ◌≤◌, length, Bool, false, List, [], ◌∷◌, Option, Some, None}
 use Rattle.std.specs.Int.{w16, w32, w64}
 use Rattle.host_base.specs.declared.digest.Digest.{Digest}
 use Rattle.host_base.specs.declared.ids.AccountId.{AccountId}
@@ -206,6 +206,10 @@ tokens =
 -- a token: whether there is one, and its digest
 abbrev pub token : Format (Option Digest)
 token = choice 0 token_number tokens
+
+-- two bytes can count the needs of a grant
+abbrev pub IsCountableGrant : Grant → Type 0
+IsCountableGrant g = length g.needs ≤ 65535
 
 -- a grant: grain, giver, target, assignment, needs, token, revoked
 abbrev pub grant : ℕ → Format Grant

@@ -3,7 +3,7 @@
 ghost use Rattle.std.specs.Prelude.{◌≡◌, ℕ, ◌++◌, OnOk};
 ghost use Rattle.row_formats.specs.Gives.{Gives};
 ghost use Rattle.row_formats.specs.Format.{list};
-ghost use Rattle.row_codec.specs.AppRow.{permission, role, quality, tag, descriptor, app};
+ghost use Rattle.row_codec.specs.AppRow.{permission, role, quality, tag, descriptor, app, IsCountableApp};
 
 use crate::bodies::Stored;
 use crate::fields::{RowField, read_list, write_list, write_slice};
@@ -38,7 +38,8 @@ fn permission_of(alloc: Global, reader: &mut Reader) -> Result<PermissionDef, Re
 
 // Writes a permission.
 fn put_permission(writer: &mut Writer, p: &PermissionDef) -> Result<(), Memory>
-    ensures { OnOk result (writer.new ≡ writer.old ++ permission.write p.now) }
+    ensures written { OnOk result (writer.new ≡ writer.old ++ permission.write p.now) }
+    ensures fits { OnOk result (permission.fits p.now) }
 {
     writer.name(&p.name)?;
     writer.name(&p.title)?;
@@ -80,7 +81,8 @@ fn role_of(alloc: Global, reader: &mut Reader) -> Result<Role, ReadError>
 
 // Writes a role.
 fn put_role(writer: &mut Writer, r: &Role) -> Result<(), Memory>
-    ensures { OnOk result (writer.new ≡ writer.old ++ role.write r.now) }
+    ensures written { OnOk result (writer.new ≡ writer.old ++ role.write r.now) }
+    ensures fits { OnOk result (role.fits r.now) }
 {
     writer.name(&r.title)?;
     writer.name(&r.verb)?;
@@ -118,7 +120,8 @@ fn quality_of(reader: &mut Reader) -> Result<Quality, ReadError>
 
 // Writes a quality.
 fn put_quality(writer: &mut Writer, how: Quality) -> Result<(), Memory>
-    ensures { OnOk result (writer.new ≡ writer.old ++ quality.write how) }
+    ensures written { OnOk result (writer.new ≡ writer.old ++ quality.write how) }
+    ensures fits { OnOk result (quality.fits how) }
 {
     match how {
         Quality::Acceptable => writer.u8(0),
@@ -138,7 +141,8 @@ fn tag_of(alloc: Global, reader: &mut Reader) -> Result<Tag, ReadError>
 
 // Writes a tag.
 fn put_tag(writer: &mut Writer, t: &Tag) -> Result<(), Memory>
-    ensures { OnOk result (writer.new ≡ writer.old ++ tag.write t.now) }
+    ensures written { OnOk result (writer.new ≡ writer.old ++ tag.write t.now) }
+    ensures fits { OnOk result (tag.fits t.now) }
 {
     writer.u64(t.id())?;
     put_value(writer, t.value(), DEPTH)
@@ -169,7 +173,8 @@ fn descriptor_of(alloc: Global, reader: &mut Reader) -> Result<Descriptor, ReadE
 
 // Writes a descriptor.
 fn put_descriptor(writer: &mut Writer, d: &Descriptor) -> Result<(), Memory>
-    ensures { OnOk result (writer.new ≡ writer.old ++ descriptor.write d.now) }
+    ensures written { OnOk result (writer.new ≡ writer.old ++ descriptor.write d.now) }
+    ensures fits { OnOk result (descriptor.fits d.now) }
 {
     put_quality(writer, d.quality())?;
     write_slice(writer, d.tags())
@@ -212,7 +217,8 @@ fn app_from(alloc: Global, reader: &mut Reader, num: u32) -> Result<App, ReadErr
 
 // Writes the fields of an application.
 fn put_app(writer: &mut Writer, a: &App) -> Result<(), Memory>
-    ensures { OnOk result ((num : ℕ) → writer.new ≡ writer.old ++ (app num).write a.now) }
+    ensures written { OnOk result ((num : ℕ) → writer.new ≡ writer.old ++ (app num).write a.now) }
+    ensures fits { OnOk result (IsCountableApp a.now → (app a.now.num.0).fits a.now) }
 {
     let manifest = &a.manifest;
     writer.name(&manifest.title)?;
@@ -223,10 +229,14 @@ fn put_app(writer: &mut Writer, a: &App) -> Result<(), Memory>
 }
 
 impl Stored for App {
-    ghost use Rattle.row_codec.specs.AppRow.{app};
+    ghost use Rattle.row_codec.specs.AppRow.{app, IsCountableApp};
     ghost use Rattle.row_codec.specs.AppExact.{app_exact};
 
     ghost format = { app };
+
+    ghost carried = { λ a. a.num.0 };
+
+    ghost is_countable = { IsCountableApp };
 
     fn read_fields(alloc: Global, reader: &mut Reader, num: u32) -> Result<App, ReadError> {
         app_from(alloc, reader, num)

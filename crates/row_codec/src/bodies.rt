@@ -20,13 +20,20 @@ pub trait Stored: Sized {
     /// The format of the fields of the row of a number.
     ghost format: { ℕ → Format Self };
 
+    /// The number that a value carries.
+    ghost carried: { Self → ℕ };
+
+    /// Each list of a value has a length that two bytes can count.
+    ghost is_countable: { Self → Type 0 } = { λ _. Unit {0} };
+
     /// Reads the fields of the row of a number.
     fn read_fields(alloc: Global, reader: &mut Reader, num: u32) -> Result<Self, ReadError>
         ensures { Gives (λ x. x) result reader.new ((format num).read reader.old) };
 
-    /// Writes the fields of a row.
+    /// Writes the fields of a row. What has the type of a row, and no list that is too long, fits the row of its number.
     fn write_fields(&self, writer: &mut Writer) -> Result<(), Memory>
-        ensures { OnOk result ((num : ℕ) → writer.new ≡ writer.old ++ (format num).write self.now) };
+        ensures written { OnOk result ((num : ℕ) → writer.new ≡ writer.old ++ (format num).write self.now) }
+        ensures fits { OnOk result (is_countable self.now → (format (carried self.now)).fits self.now) };
 
     /// The format has one spelling for each value.
     ghost exact: { (num : ℕ) → IsExact (format num) };
@@ -77,9 +84,10 @@ pub fn read_body<T: Stored + Drop>(alloc: Global, num: u32, body: &[u8]) -> Resu
     read_whole(alloc, num, body)
 }
 
-/// Writes the body of a row.
+/// Writes the body of a row. It fits the row of its number, where no list of it is too long.
 pub fn write_body<T: Stored>(alloc: Global, row: &T) -> Result<Bytes, Memory>
-    ensures { IfOk result (λ body. (num : ℕ) → body ≡ (first_version (T.format num)).write row.now) }
+    ensures written { IfOk result (λ body. (num : ℕ) → body ≡ (first_version (T.format num)).write row.now) }
+    ensures fits { OnOk result (T.is_countable row.now → (T.format (T.carried row.now)).fits row.now) }
 {
     let mut writer = Writer::new(alloc);
     writer.u8(1)?;

@@ -1,6 +1,6 @@
 //! Fields and lists of rows: one loop that reads, and one that writes, for every type of item.
 
-ghost use Rattle.std.specs.Prelude.{◌≡◌, ◌++◌, ℕ, OnOk};
+ghost use Rattle.std.specs.Prelude.{◌≡◌, ◌++◌, ◌≤◌, ◌<◌, ℕ, length, OnOk};
 ghost use Rattle.row_formats.specs.Gives.{Gives};
 ghost use Rattle.row_formats.specs.Format.{list};
 
@@ -20,9 +20,10 @@ pub trait RowField: Sized {
     fn read_field(alloc: Global, reader: &mut Reader) -> Result<Self, ReadError>
         ensures { Gives (λ x. x) result reader.new (format.read reader.old) };
 
-    /// Writes a field.
+    /// Writes a field. What has a field's type fits its format.
     fn write_field(&self, writer: &mut Writer) -> Result<(), Memory>
-        ensures { OnOk result (writer.new ≡ writer.old ++ format.write self.now) };
+        ensures written { OnOk result (writer.new ≡ writer.old ++ format.write self.now) }
+        ensures fits { OnOk result (format.fits self.now) };
 }
 
 /// Reads a list: a count of at most a limit, and so many items. No memory is taken for an item before it was read.
@@ -48,14 +49,16 @@ pub fn read_list<T: RowField + Drop>(
 /// Writes a list: its count, and the items. Any limit on a list is written alike. Of a list above every limit the lowest sixteen
 /// bits of its length stand as the count.
 pub fn write_list<T: RowField>(writer: &mut Writer, whole: &List<T>) -> Result<(), Memory>
-    ensures { OnOk result ((limit : ℕ) → writer.new ≡ writer.old ++ (list limit T.format).write whole.now) }
+    ensures written { OnOk result ((limit : ℕ) → writer.new ≡ writer.old ++ (list limit T.format).write whole.now) }
+    ensures fits { OnOk result ((limit : ℕ) → length whole.now ≤ limit → limit < 65536 → (list limit T.format).fits whole.now) }
 {
     write_slice(writer, whole.as_slice())
 }
 
 /// Writes a slice as a list, in the same way.
 pub fn write_slice<T: RowField>(writer: &mut Writer, items: &[T]) -> Result<(), Memory>
-    ensures { OnOk result ((limit : ℕ) → writer.new ≡ writer.old ++ (list limit T.format).write items.now) }
+    ensures written { OnOk result ((limit : ℕ) → writer.new ≡ writer.old ++ (list limit T.format).write items.now) }
+    ensures fits { OnOk result ((limit : ℕ) → length items.now ≤ limit → limit < 65536 → (list limit T.format).fits items.now) }
 {
     writer.count(items.len())?;
     for item in items {

@@ -2,7 +2,7 @@
 
 ghost use Rattle.std.specs.Prelude.{◌≡◌, ℕ, ◌++◌, OnOk};
 ghost use Rattle.row_formats.specs.Gives.{Gives};
-ghost use Rattle.row_codec.specs.GrantRow.{giver_format, target_format, base_format, assignment, node_format, need_format, token, grant};
+ghost use Rattle.row_codec.specs.GrantRow.{giver_format, target_format, base_format, assignment, node_format, need_format, token, grant, IsCountableGrant};
 
 use crate::bodies::Stored;
 use crate::fields::{RowField, read_list, write_list};
@@ -32,7 +32,8 @@ fn giver_of(reader: &mut Reader) -> Result<Giver, ReadError>
 
 // Writes a giver.
 fn put_giver(writer: &mut Writer, giver: Giver) -> Result<(), Memory>
-    ensures { OnOk result (writer.new ≡ writer.old ++ giver_format.write giver) }
+    ensures written { OnOk result (writer.new ≡ writer.old ++ giver_format.write giver) }
+    ensures fits { OnOk result (giver_format.fits giver) }
 {
     match giver {
         Giver::Account(account) => {
@@ -71,7 +72,8 @@ fn target_of(reader: &mut Reader) -> Result<Target, ReadError>
 
 // Writes a target.
 fn put_target(writer: &mut Writer, target: Target) -> Result<(), Memory>
-    ensures { OnOk result (writer.new ≡ writer.old ++ target_format.write target) }
+    ensures written { OnOk result (writer.new ≡ writer.old ++ target_format.write target) }
+    ensures fits { OnOk result (target_format.fits target) }
 {
     match target {
         Target::Bearer { for_sharing } => {
@@ -108,7 +110,8 @@ fn base_of(reader: &mut Reader) -> Result<Base, ReadError>
 
 // Writes a base.
 fn put_base(writer: &mut Writer, base: Base) -> Result<(), Memory>
-    ensures { OnOk result (writer.new ≡ writer.old ++ base_format.write base) }
+    ensures written { OnOk result (writer.new ≡ writer.old ++ base_format.write base) }
+    ensures fits { OnOk result (base_format.fits base) }
 {
     match base {
         Base::NoRole => writer.u8(0),
@@ -132,7 +135,8 @@ fn assignment_of(reader: &mut Reader) -> Result<Assignment, ReadError>
 
 // Writes an assignment.
 fn put_assignment(writer: &mut Writer, a: &Assignment) -> Result<(), Memory>
-    ensures { OnOk result (writer.new ≡ writer.old ++ assignment.write a.now) }
+    ensures written { OnOk result (writer.new ≡ writer.old ++ assignment.write a.now) }
+    ensures fits { OnOk result (assignment.fits a.now) }
 {
     put_base(writer, a.base)?;
     writer.set(&a.add)?;
@@ -157,7 +161,8 @@ fn node_of(reader: &mut Reader) -> Result<Node, ReadError>
 
 // Writes who holds something.
 fn put_node(writer: &mut Writer, node: Node) -> Result<(), Memory>
-    ensures { OnOk result (writer.new ≡ writer.old ++ node_format.write node) }
+    ensures written { OnOk result (writer.new ≡ writer.old ++ node_format.write node) }
+    ensures fits { OnOk result (node_format.fits node) }
 {
     match node {
         Node::User(grain, account) => {
@@ -191,7 +196,8 @@ fn need_of(reader: &mut Reader) -> Result<Need, ReadError>
 
 // Writes a need.
 fn put_need(writer: &mut Writer, need: Need) -> Result<(), Memory>
-    ensures { OnOk result (writer.new ≡ writer.old ++ need_format.write need) }
+    ensures written { OnOk result (writer.new ≡ writer.old ++ need_format.write need) }
+    ensures fits { OnOk result (need_format.fits need) }
 {
     match need {
         Need::TokenValid(grant) => {
@@ -238,7 +244,8 @@ fn token_of(reader: &mut Reader) -> Result<Option<Digest>, ReadError>
 
 // Writes the digest of a token, or that there is none.
 fn put_token(writer: &mut Writer, digest: Option<Digest>) -> Result<(), Memory>
-    ensures { OnOk result (writer.new ≡ writer.old ++ token.write digest) }
+    ensures written { OnOk result (writer.new ≡ writer.old ++ token.write digest) }
+    ensures fits { OnOk result (token.fits digest) }
 {
     match digest {
         None => writer.u8(0),
@@ -274,7 +281,8 @@ fn grant_of(alloc: Global, reader: &mut Reader, num: u32) -> Result<Grant, ReadE
 
 // Writes the fields of a grant.
 fn put_grant(writer: &mut Writer, g: &Grant) -> Result<(), Memory>
-    ensures { OnOk result ((num : ℕ) → writer.new ≡ writer.old ++ (grant num).write g.now) }
+    ensures written { OnOk result ((num : ℕ) → writer.new ≡ writer.old ++ (grant num).write g.now) }
+    ensures fits { OnOk result (IsCountableGrant g.now → (grant g.now.num.0).fits g.now) }
 {
     writer.u32(g.grain.0)?;
     put_giver(writer, g.giver)?;
@@ -286,10 +294,14 @@ fn put_grant(writer: &mut Writer, g: &Grant) -> Result<(), Memory>
 }
 
 impl Stored for Grant {
-    ghost use Rattle.row_codec.specs.GrantRow.{grant};
+    ghost use Rattle.row_codec.specs.GrantRow.{grant, IsCountableGrant};
     ghost use Rattle.row_codec.specs.GrantExact.{grant_exact};
 
     ghost format = { grant };
+
+    ghost carried = { λ g. g.num.0 };
+
+    ghost is_countable = { IsCountableGrant };
 
     fn read_fields(alloc: Global, reader: &mut Reader, num: u32) -> Result<Grant, ReadError> {
         grant_of(alloc, reader, num)

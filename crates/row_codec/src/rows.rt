@@ -31,7 +31,8 @@ fn account_of(alloc: Global, reader: &mut Reader, num: u32) -> Result<Account, R
 
 // Writes the fields of an account.
 fn put_account(writer: &mut Writer, a: &Account) -> Result<(), Memory>
-    ensures { OnOk result ((num : ℕ) → writer.new ≡ writer.old ++ (account num).write a.now) }
+    ensures written { OnOk result ((num : ℕ) → writer.new ≡ writer.old ++ (account num).write a.now) }
+    ensures fits { OnOk result ((account a.now.num.0).fits a.now) }
 {
     writer.name(&a.handle)?;
     writer.name(&a.name)?;
@@ -45,6 +46,8 @@ impl Stored for Account {
     ghost use Rattle.row_codec.specs.RowsExact.{account_exact};
 
     ghost format = { account };
+
+    ghost carried = { λ a. a.num.0 };
 
     fn read_fields(alloc: Global, reader: &mut Reader, num: u32) -> Result<Account, ReadError> {
         account_of(alloc, reader, num)
@@ -76,7 +79,8 @@ fn grain_of(alloc: Global, reader: &mut Reader, num: u32) -> Result<Grain, ReadE
 
 // Writes the fields of a grain.
 fn put_grain(writer: &mut Writer, g: &Grain) -> Result<(), Memory>
-    ensures { OnOk result ((num : ℕ) → writer.new ≡ writer.old ++ (grain num).write g.now) }
+    ensures written { OnOk result ((num : ℕ) → writer.new ≡ writer.old ++ (grain num).write g.now) }
+    ensures fits { OnOk result ((grain g.now.num.0).fits g.now) }
 {
     writer.u32(g.app.0)?;
     writer.u32(g.owner.0)?;
@@ -89,6 +93,8 @@ impl Stored for Grain {
     ghost use Rattle.row_codec.specs.RowsExact.{grain_exact};
 
     ghost format = { grain };
+
+    ghost carried = { λ g. g.num.0 };
 
     fn read_fields(alloc: Global, reader: &mut Reader, num: u32) -> Result<Grain, ReadError> {
         grain_of(alloc, reader, num)
@@ -122,7 +128,8 @@ fn saved_of(alloc: Global, reader: &mut Reader, num: u32) -> Result<Saved, ReadE
 
 // Writes the fields of a saved reference.
 fn put_saved(writer: &mut Writer, s: &Saved) -> Result<(), Memory>
-    ensures { OnOk result ((num : ℕ) → writer.new ≡ writer.old ++ (saved num).write s.now) }
+    ensures written { OnOk result ((num : ℕ) → writer.new ≡ writer.old ++ (saved num).write s.now) }
+    ensures fits { OnOk result ((saved s.now.num.0).fits s.now) }
 {
     writer.u32(s.holder.0)?;
     writer.u32(s.grant.0)?;
@@ -136,6 +143,8 @@ impl Stored for Saved {
     ghost use Rattle.row_codec.specs.RowsExact.{saved_exact};
 
     ghost format = { saved };
+
+    ghost carried = { λ s. s.num.0 };
 
     fn read_fields(alloc: Global, reader: &mut Reader, num: u32) -> Result<Saved, ReadError> {
         saved_of(alloc, reader, num)

@@ -1,7 +1,7 @@
 //! The value of a tag in a row.
 
-ghost use Rattle.std.specs.Prelude.{◌≡◌, ◌++◌, ◌≤◌, None, map, option_map, OnOk};
-ghost use Rattle.powerbox_match.specs.Value.{tag_data, field_data, fields_data, items_data, nesting, fields_nesting, items_nesting};
+ghost use Rattle.std.specs.Prelude.{◌≡◌, ◌++◌, ◌≤◌, true, None, map, option_map, OnOk};
+ghost use Rattle.powerbox_match.specs.Value.{tag_data, field_data, fields_data, items_data, nesting, fields_nesting, items_nesting, is_tidy, fields as named, items as listed};
 ghost use Rattle.row_formats.specs.Gives.{Gives};
 ghost use Rattle.row_formats.specs.Format.{integer, chain, list, last_of, text_above};
 ghost use Rattle.row_codec.specs.ValueFormat.{value, entry};
@@ -98,7 +98,8 @@ fn items_of(alloc: Global, reader: &mut Reader, depth: u8) -> Result<Vec<TagValu
 
 // A number that a value holds.
 fn put_number(writer: &mut Writer, number: &i128) -> Result<(), Memory>
-    ensures { OnOk result (writer.new ≡ writer.old ++ integer.write number.now) }
+    ensures written { OnOk result (writer.new ≡ writer.old ++ integer.write number.now) }
+    ensures fits { integer.fits number.now }
 {
     writer.i128(*number)
 }
@@ -107,7 +108,8 @@ fn put_number(writer: &mut Writer, number: &i128) -> Result<(), Memory>
 #[cycle(put_value)]
 pub(crate) fn put_value(writer: &mut Writer, written: &TagValue, depth: u8) -> Result<(), Memory>
     requires { nesting (tag_data written.now) ≤ depth }
-    ensures { OnOk result (writer.new ≡ writer.old ++ (value depth).write (tag_data written.now)) }
+    ensures written { OnOk result (writer.new ≡ writer.old ++ (value depth).write (tag_data written.now)) }
+    ensures fits { OnOk result (is_tidy (tag_data written.now) ≡ true → (value depth).fits (tag_data written.now)) }
 {
     match written {
         TagValue::Any => writer.u8(0)?,
@@ -135,7 +137,8 @@ pub(crate) fn put_value(writer: &mut Writer, written: &TagValue, depth: u8) -> R
 #[cycle(put_value)]
 fn put_field(writer: &mut Writer, field: &(Name, TagValue), depth: u8) -> Result<(), Memory>
     requires { nesting (tag_data field.now.1) ≤ depth }
-    ensures { OnOk result (writer.new ≡ writer.old ++ (entry (value depth) None).write (field_data field.now)) }
+    ensures written { OnOk result (writer.new ≡ writer.old ++ (entry (value depth) None).write (field_data field.now)) }
+    ensures fits { OnOk result (is_tidy (tag_data field.now.1) ≡ true → (entry (value depth) None).fits (field_data field.now)) }
 {
     writer.name(&field.0)?;
     put_value(writer, &field.1, depth)?;
@@ -146,7 +149,8 @@ fn put_field(writer: &mut Writer, field: &(Name, TagValue), depth: u8) -> Result
 #[cycle(put_value)]
 fn put_fields(writer: &mut Writer, fields: &[(Name, TagValue)], depth: u8) -> Result<(), Memory>
     requires { fields_nesting (fields_data fields.now) ≤ depth }
-    ensures { OnOk result (writer.new ≡ writer.old ++ (chain 1000 (entry (value depth))).write (map field_data fields.now)) }
+    ensures written { OnOk result (writer.new ≡ writer.old ++ (chain 1000 (entry (value depth))).write (map field_data fields.now)) }
+    ensures fits { OnOk result (is_tidy (named (fields_data fields.now)) ≡ true → (chain 1000 (entry (value depth))).fits (map field_data fields.now)) }
 {
     writer.count(fields.len())?;
     for field in fields {
@@ -159,7 +163,8 @@ fn put_fields(writer: &mut Writer, fields: &[(Name, TagValue)], depth: u8) -> Re
 #[cycle(put_value)]
 fn put_items(writer: &mut Writer, items: &[TagValue], depth: u8) -> Result<(), Memory>
     requires { items_nesting (items_data items.now) ≤ depth }
-    ensures { OnOk result (writer.new ≡ writer.old ++ (list 1000 (value depth)).write (map tag_data items.now)) }
+    ensures written { OnOk result (writer.new ≡ writer.old ++ (list 1000 (value depth)).write (map tag_data items.now)) }
+    ensures fits { OnOk result (is_tidy (listed (items_data items.now)) ≡ true → (list 1000 (value depth)).fits (map tag_data items.now)) }
 {
     writer.count(items.len())?;
     for item in items {

@@ -11,3 +11,4 @@ pub mod Basics
 pub mod Whole
 pub mod Loop
 pub mod Puts
+pub mod Fits

@@ -5,8 +5,8 @@ use Rattle.row_codec.specs.GrantRow.{giver_format, target_format, assignment, ne
 use Rattle.row_codec.proofs.Joined.{on_ok, behind}
 use Rattle.row_codec.proofs.grants.put_grant.Goals as goal
 
-pub returns : goal.returns
-returns c =
+pub returns-clause-written : goal.returns-clause-written
+returns-clause-written c =
     let g = c.args.g.now in
     let end : List ℕ = c.flag.new.self in
     let revoked : List ℕ = flag.write g.revoked in
@@ -17,10 +17,10 @@ returns c =
     let by : List ℕ = giver_format.write g.giver in
     on_ok c.flag.result
     (λ last num.
-    behind c.args.writer.now (grain_id.write g.grain) (by ++ (to ++ (given ++ (needs ++ (tokens ++ revoked))))) c.u32.new.self end c.in_ok-u32.ensures
-    (behind c.u32.new.self by (to ++ (given ++ (needs ++ (tokens ++ revoked)))) c.put_giver.new.writer end c.in_ok-put_giver.ensures
-    (behind c.put_giver.new.writer to (given ++ (needs ++ (tokens ++ revoked))) c.put_target.new.writer end c.in_ok-put_target.ensures
-    (behind c.put_target.new.writer given (needs ++ (tokens ++ revoked)) c.put_assignment.new.writer end c.in_ok-put_assignment.ensures
-    (behind c.put_assignment.new.writer needs (tokens ++ revoked) c.write_list.new.writer end (c.in_ok-write_list.ensures 65535)
-    (behind c.write_list.new.writer tokens revoked c.put_token.new.writer end c.in_ok-put_token.ensures last))))))
-    c.flag.ensures
+    behind c.args.writer.now (grain_id.write g.grain) (by ++ (to ++ (given ++ (needs ++ (tokens ++ revoked))))) c.u32.new.self end c.in_ok-u32.ensures.written
+    (behind c.u32.new.self by (to ++ (given ++ (needs ++ (tokens ++ revoked)))) c.put_giver.new.writer end c.in_ok-put_giver.ensures.written
+    (behind c.put_giver.new.writer to (given ++ (needs ++ (tokens ++ revoked))) c.put_target.new.writer end c.in_ok-put_target.ensures.written
+    (behind c.put_target.new.writer given (needs ++ (tokens ++ revoked)) c.put_assignment.new.writer end c.in_ok-put_assignment.ensures.written
+    (behind c.put_assignment.new.writer needs (tokens ++ revoked) c.write_list.new.writer end (c.in_ok-write_list.ensures.written 65535)
+    (behind c.write_list.new.writer tokens revoked c.put_token.new.writer end c.in_ok-put_token.ensures.written last))))))
+    c.flag.ensures.written
