@@ -5,3 +5,7 @@ pub mod Refusing
 pub mod ListRows
 pub mod NextRows
 pub mod Places
+pub mod Fitted
+pub mod Putting
+pub mod AfterRows
+pub mod InOrder

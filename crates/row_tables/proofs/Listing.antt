@@ -5,7 +5,7 @@ use Rattle.row_formats.specs.Format.{Format}
 use Rattle.cloud_keeper.specs.declared.row.Row.{Row}
 use Rattle.row_tables.specs.Sections.{section_rows, stored}
 
-section_rows-push : {A : Type 0} (kind : ℕ) (format : ℕ → Format A) (n : ℕ) (xs : List A) (x : A) → section_rows kind format n (xs ++ x ∷ []) ≡ section_rows kind format n xs ++ stored kind format (n + length xs) x ∷ []
+pub section_rows-push : {A : Type 0} (kind : ℕ) (format : ℕ → Format A) (n : ℕ) (xs : List A) (x : A) → section_rows kind format n (xs ++ x ∷ []) ≡ section_rows kind format n xs ++ stored kind format (n + length xs) x ∷ []
 section_rows-push kind format n [] x = ap (λ (m : ℕ). stored kind format m x ∷ []) (omega arith)
 section_rows-push kind format n (y ∷ ys) x =
     let moved : suc n + length ys ≡ n + suc (length ys) = omega arith in

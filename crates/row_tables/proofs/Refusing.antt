@@ -16,8 +16,9 @@ use Rattle.row_tables.specs.declared.stored.BadRow.{BadRow}
 use Rattle.row_tables.specs.declared.stored.LoadFault.{LoadFault}
 use Rattle.row_tables.specs.declared.stored.LoadFault.TheVariants as load
 use Rattle.row_tables.specs.Sections.{SectionFits, FailsRows, GivesRow}
-use Rattle.row_tables.specs.TablesRows.{HaveRows, rows_of, tables_of}
+use Rattle.row_tables.specs.TablesRows.{HaveRows, tables_of}
 use Rattle.row_tables.specs.Checks.{bad_ref, GivesTables}
+use Rattle.row_tables.specs.Kept.{AreRowsOf}
 use Rattle.row_tables.proofs.SectionExact.{tables_again}
 
 few : {A : Type 0} (limit : ℕ) (format : ℕ → Format A) (n : ℕ) (xs : List A) → n ≤ limit + 1 → SectionFits limit format n xs → n + length xs ≤ limit + 1
@@ -33,9 +34,9 @@ within t h = record {
   saved = omega (arith, few 65536 saved 1 t.saved (omega arith) h.saved);
 }
 
-pub all_within : (r : Result Tables LoadFault) → IfOk r HaveRows → IfOk r IsWithinLimits
-all_within (Ok t) h = within t h
-all_within (Err e) h = tt
+pub all_within : (r : Result Tables LoadFault) (rows : List Row) → IfOk r (λ t. AreRowsOf t rows) → IfOk r IsWithinLimits
+all_within (Ok t) rows h = within t h.have
+all_within (Err e) rows h = tt
 
 pub fails_alike : (e : LoadFault) (rows : List Row) → FailsRows e (tables_of rows) → GivesTables (Err e) rows
 fails_alike load.Memory rows h = tt
@@ -48,11 +49,11 @@ pub are_checked : (r : Result Tables LoadFault) (rows : List Row) → GivesTable
 are_checked (Ok t) rows h = h.1
 are_checked (Err e) rows h = tt
 
-pub is_only : (r : Result Tables LoadFault) (rows : List Row) → GivesTables r rows → (t : Tables) → HaveRows t → IsChecked t → rows ≡ rows_of t → GivesRow (λ u. u) r (Ok t)
-is_only (Ok u) rows h t fits checked e = sym (ap tables_of e ∙ tables_again t fits) ∙ h.0
-is_only (Err load.Memory) rows h t fits checked e = tt
-is_only (Err (load.BadRow bad)) rows h t fits checked e =
-    let read : tables_of rows ≡ Ok t = ap tables_of e ∙ tables_again t fits in
+pub is_only : (r : Result Tables LoadFault) (rows : List Row) → GivesTables r rows → (t : Tables) → AreRowsOf t rows → IsChecked t → GivesRow (λ u. u) r (Ok t)
+is_only (Ok u) rows h t are checked = sym (ap tables_of are.rows_are ∙ tables_again t are.have) ∙ h.0
+is_only (Err load.Memory) rows h t are checked = tt
+is_only (Err (load.BadRow bad)) rows h t are checked =
+    let read : tables_of rows ≡ Ok t = ap tables_of are.rows_are ∙ tables_again t are.have in
     elim h [
       | inl early ↦ absurd (let both : Ok t ≡ Err bad = sym read ∙ early in cc)
       | inr w ↦ absurd (let same : w.0 ≡ t = ok_is w.0 t (sym w.1 ∙ read) in fault_refutes t w.2.0 (subst (λ (u : Tables). TablesFault u (Some w.2.0)) same w.2.1) checked)

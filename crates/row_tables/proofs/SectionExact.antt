@@ -17,6 +17,7 @@ use Rattle.row_codec.specs.AppRow.{app}
 use Rattle.row_codec.specs.GrantRow.{grant}
 use Rattle.row_tables.specs.Sections.{at_row, row_at, body_of, with_first, section_at, section_rows, SectionFits, IsPast, GivesRow, AreBytes, blank}
 use Rattle.row_tables.specs.TablesRows.{rows_of, HaveRows, ended_rows, tables_of}
+use Rattle.row_tables.specs.Kept.{AreRowsOf}
 use Rattle.row_formats.proofs.Steps.{bind_ok, bind_at, ok_is}
 use Rattle.row_formats.proofs.Basics.{first_version_exact}
 use Rattle.row_formats.proofs.Whole.{whole_found, whole_again}
@@ -171,11 +172,7 @@ tables_again t h =
     let es' = rw nil at es in
     rw (ea, ep, en, eg, es') refl
 
--- what was returned has these rows, and what has these rows was returned
-pub is_found : (rows : List Row) (r : Result Tables LoadFault) → IfOk r (λ t. AreBytes rows (length rows)) → GivesRow (λ t. t) r (tables_of rows) → IfOk r (λ t. rows ≡ rows_of t)
-is_found rows (Ok t) b h = (tables_found rows t (all_bytes rows b) h).0
+-- what was returned has these rows
+pub is_found : (rows : List Row) (r : Result Tables LoadFault) → IfOk r (λ t. AreBytes rows (length rows)) → GivesRow (λ t. t) r (tables_of rows) → IfOk r (λ t. AreRowsOf t rows)
+is_found rows (Ok t) b h = let both = tables_found rows t (all_bytes rows b) h in record { have = both.1; rows_are = both.0 }
 is_found rows (Err e) b h = tt
-
-pub have_rows : (rows : List Row) (r : Result Tables LoadFault) → IfOk r (λ t. AreBytes rows (length rows)) → GivesRow (λ t. t) r (tables_of rows) → IfOk r HaveRows
-have_rows rows (Ok t) b h = (tables_found rows t (all_bytes rows b) h).1
-have_rows rows (Err e) b h = tt

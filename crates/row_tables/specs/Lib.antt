@@ -4,3 +4,4 @@ pub mod RowOf
 pub mod Checks
 pub mod RowAfter
 pub mod Kept
+pub mod Numbered

@@ -7,6 +7,9 @@ use Rattle.share_graph.specs.declared.state.Tables.{Tables}
 use Rattle.share_graph.specs.History.{tables_after}
 use Rattle.state_step.specs.Changed.{changed_row}
 use Rattle.cloud_keeper.specs.declared.row.Row.{Row}
+use Rattle.row_codec.specs.Rows.{account, grain, saved}
+use Rattle.row_codec.specs.AppRow.{app, IsCountableApp}
+use Rattle.row_codec.specs.GrantRow.{grant, IsCountableGrant}
 use Rattle.row_tables.specs.RowOf.{row_of}
 
 -- a row that the event adds has the next number of its kind
@@ -27,6 +30,16 @@ AddsNext t (event.RunStopped r) = Unit {0}
 AddsNext t (event.SessionOpened session) = Unit {0}
 AddsNext t (event.SessionClosed n) = Unit {0}
 AddsNext t (event.HandleMade handle) = Unit {0}
+
+-- the row that the event adds fits the row of the number that it carries
+abbrev pub AddedFits : Event → Type 0
+AddedFits (event.AccountAdded row) = (account row.num.0).fits row
+AddedFits (event.AppAdded row) = IsCountableApp row → (app row.num.0).fits row
+AddedFits (event.GrainAdded row) = (grain row.num.0).fits row
+AddedFits (event.GrantAdded row) = IsCountableGrant row → (grant row.num.0).fits row
+AddedFits (event.Claimed row handle) = IsCountableGrant row → (grant row.num.0).fits row
+AddedFits (event.SavedAdded row) = (saved row.num.0).fits row
+AddedFits _ = Unit {0}
 
 -- the row that the event adds or changes, in the tables after it; none where it leaves the tables as they are
 abbrev pub row_after : Tables → Event → Option Row

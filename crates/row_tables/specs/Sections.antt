@@ -54,6 +54,10 @@ abbrev pub SectionFits : {A : Type 0} → ℕ → (ℕ → Format A) → ℕ →
 SectionFits limit format n [] = Unit {0}
 SectionFits limit format n (x ∷ xs) = (n ≤ limit) × (first_version (format n)).fits x × SectionFits limit format (suc n) xs
 
+-- a value fits the row of the number that it carries, where no list of it is too long to be counted
+abbrev pub FitsOwn : {A : Type 0} → (ℕ → Format A) → (A → ℕ) → (A → Type 0) → A → Type 0
+FitsOwn format carried is_countable x = is_countable x → (format (carried x)).fits x
+
 -- no row of the kind stands first
 abbrev pub IsPast : ℕ → List Row → Type 0
 IsPast kind [] = Unit {0}

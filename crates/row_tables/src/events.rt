@@ -1,12 +1,18 @@
 //! The row that an event adds or changes.
 
-ghost use Rattle.std.specs.Prelude.{◌≡◌, IfOk, option_map};
+ghost use Rattle.std.specs.Prelude.{◌≡◌, List, IfOk, OnOk, option_map};
 ghost use Rattle.std.specs.Option.{option_copied};
 ghost use Rattle.share_graph.specs.Setting.{with_admin, with_enabled, with_trashed, revoked, dropped};
+ghost use Rattle.share_graph.specs.EventFits.{EventFits};
+ghost use Rattle.share_graph.specs.History.{tables_after};
+ghost use Rattle.share_graph.specs.WellFormed.{IsWellFormed};
+ghost use Rattle.share_graph.specs.declared.state.State.{State};
+ghost use Rattle.cloud_keeper.specs.declared.row.Row.{Row};
 ghost use Rattle.row_codec.specs.Rows.{account as an_account, grain as a_grain, saved as a_saved};
 ghost use Rattle.row_codec.specs.GrantRow.{grant as a_grant};
 ghost use Rattle.row_tables.specs.Sections.{stored};
-ghost use Rattle.row_tables.specs.RowAfter.{AddsNext, row_after};
+ghost use Rattle.row_tables.specs.RowAfter.{AddsNext, AddedFits, row_after};
+ghost use Rattle.row_tables.specs.Kept.{AreRowsOf, with_row};
 
 use crate::writing::stored;
 use cloud_keeper::Row;
@@ -127,12 +133,12 @@ fn saved_dropped(alloc: Global, row: Option<&Saved>, num: u32) -> Result<Option<
     }
 }
 
-/// Writes the row that an event adds to the tables or changes in them, as it stands after the event. An event that changes sessions,
-/// runs or handles alone has none.
+// The row that an event adds or changes, as it stands after the event, if there is one.
 #[tactic(auto, using(crate::proofs::ListRows::row_added, crate::proofs::ListRows::row_changed))]
-pub fn row_after(alloc: Global, tables: &Tables, event: &Event) -> Result<Option<Row>, Memory>
+fn event_row(alloc: Global, tables: &Tables, event: &Event) -> Result<Option<Row>, Memory>
     requires { AddsNext tables.now event.now }
-    ensures { IfOk result (λ r. r ≡ row_after tables.now event.now) }
+    ensures row { IfOk result (λ r. r ≡ row_after tables.now event.now) }
+    ensures fits { OnOk result (AddedFits event.now) }
 {
     match event {
         Event::AccountAdded(row) => Ok(Some(stored(alloc, 1, row.num.0, row)?)),
@@ -152,4 +158,17 @@ pub fn row_after(alloc: Global, tables: &Tables, event: &Event) -> Result<Option
         | Event::SessionClosed(_)
         | Event::HandleMade(_) => Ok(None),
     }
+}
+
+/// Writes the row that an event adds to the tables or changes in them, as it stands after the event. An event that changes sessions,
+/// runs or handles alone has none.
+pub fn row_after(alloc: Global, tables: &Tables, event: &Event) -> Result<Option<Row>, Memory>
+    requires { AddsNext tables.now event.now }
+    ensures row { IfOk result (λ r. r ≡ row_after tables.now event.now) }
+
+    // Put among the rows of the tables, it makes them the rows of the tables after the event.
+    ensures kept { IfOk result (λ r. (s : State) (rows : List Row) → IsWellFormed s → s.tables ≡ tables.now → EventFits s event.now
+        → AreRowsOf tables.now rows → AreRowsOf (tables_after tables.now event.now) (with_row r rows)) }
+{
+    event_row(alloc, tables, event)
 }

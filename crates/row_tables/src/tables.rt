@@ -6,7 +6,9 @@ ghost use Rattle.share_graph.specs.WellFormed.{IsWithinLimits};
 ghost use Rattle.share_graph.specs.declared.state.Tables.{Tables};
 ghost use Rattle.row_tables.specs.Sections.{GivesRow, AreBytes};
 ghost use Rattle.row_tables.specs.Checks.{GivesTables};
-ghost use Rattle.row_tables.specs.TablesRows.{HaveRows, rows_of, tables_of, ended_rows};
+ghost use Rattle.row_tables.specs.TablesRows.{tables_of, ended_rows};
+ghost use Rattle.row_tables.specs.Kept.{AreRowsOf};
+ghost use Rattle.row_tables.specs.Numbered.{TablesAreNumbered};
 
 use crate::checking::bad_ref;
 use crate::sections::section_of;
@@ -52,8 +54,7 @@ fn read_all(alloc: Global, rows: &[Row]) -> Result<Tables, LoadFault>
 
 // The tables that rows state, before they are checked.
 fn read_unchecked(alloc: Global, rows: &[Row]) -> Result<Tables, LoadFault>
-    ensures found { IfOk result HaveRows }
-    ensures rows { IfOk result (λ t. rows.now ≡ rows_of t) }
+    ensures found { IfOk result (λ t. AreRowsOf t rows.now) }
     ensures limits { IfOk result IsWithinLimits }
     ensures exact { GivesRow (λ t. t) result (tables_of rows.now) }
 {
@@ -62,8 +63,7 @@ fn read_unchecked(alloc: Global, rows: &[Row]) -> Result<Tables, LoadFault>
 
 // The tables that rows state, where they have no fault.
 fn read_checked(alloc: Global, rows: &[Row]) -> Result<Tables, LoadFault>
-    ensures found { IfOk result HaveRows }
-    ensures rows { IfOk result (λ t. rows.now ≡ rows_of t) }
+    ensures found { IfOk result (λ t. AreRowsOf t rows.now) }
     ensures limits { IfOk result IsWithinLimits }
     ensures exact { GivesTables result rows.now }
 {
@@ -79,14 +79,14 @@ fn read_checked(alloc: Global, rows: &[Row]) -> Result<Tables, LoadFault>
 /// # Errors
 /// Want of memory, and the first bad row.
 pub fn tables_of(alloc: Global, rows: &[Row]) -> Result<Tables, LoadFault>
-    // What is read has these rows, is within the limits, and has no fault.
-    ensures found { IfOk result HaveRows }
-    ensures rows { IfOk result (λ t. rows.now ≡ rows_of t) }
+    // What is read has these rows, is within the limits, has no fault, and each row of it carries its number.
+    ensures found { IfOk result (λ t. AreRowsOf t rows.now) }
     ensures limits { IfOk result IsWithinLimits }
     ensures checked { IfOk result IsChecked }
+    ensures numbered { IfOk result TablesAreNumbered }
 
     // Tables without a fault are read of their rows, unless memory runs out.
-    ensures only { (t : Tables) → HaveRows t → IsChecked t → rows.now ≡ rows_of t → GivesRow (λ u. u) result (Ok t) }
+    ensures only { (t : Tables) → AreRowsOf t rows.now → IsChecked t → GivesRow (λ u. u) result (Ok t) }
 
     // Which row is bad first, and how.
     ensures exact { GivesTables result rows.now }

@@ -1,9 +1,11 @@
 //! Tables that are written as rows.
 
-ghost use Rattle.std.specs.Prelude.{◌≡◌, ◌+◌, ◌++◌, ◌∷◌, [], ◌<◌, Some, slice_get, IfOk, OnOk};
-ghost use Rattle.share_graph.specs.Rows.{row};
-ghost use Rattle.row_tables.specs.Sections.{section_rows, stored};
+ghost use Rattle.std.specs.Prelude.{◌≡◌, ◌+◌, ◌++◌, ◌∷◌, [], All, IfOk, OnOk};
+ghost use Rattle.share_graph.specs.WellFormed.{IsWellFormed};
+ghost use Rattle.share_graph.specs.declared.state.State.{State};
+ghost use Rattle.row_tables.specs.Sections.{section_rows, stored, FitsOwn};
 ghost use Rattle.row_tables.specs.TablesRows.{rows_of};
+ghost use Rattle.row_tables.specs.Kept.{AreRowsOf};
 
 use cloud_keeper::Row;
 use host_base::Memory;
@@ -13,7 +15,8 @@ use std::alloc::Global;
 
 // The row of a kind and a number that a value is written as.
 pub(crate) fn stored<T: Stored>(alloc: Global, kind: u8, num: u32, value: &T) -> Result<Row, Memory>
-    ensures { IfOk result (λ r. r ≡ stored kind T.format num value.now) }
+    ensures written { IfOk result (λ r. r ≡ stored kind T.format num value.now) }
+    ensures fits { OnOk result (FitsOwn T.format T.carried T.is_countable value.now) }
 {
     let body = write_body(alloc, value)?;
     Ok(Row { kind, num, body })
@@ -44,7 +47,8 @@ fn put_section<T: Stored>(
     kind: u8,
     values: &[T],
 ) -> Result<(), Memory>
-    ensures { OnOk result (rows.new.items ≡ rows.old.items ++ section_rows kind T.format 1 values.now) }
+    ensures written { OnOk result (rows.new.items ≡ rows.old.items ++ section_rows kind T.format 1 values.now) }
+    ensures fits { OnOk result (All (FitsOwn T.format T.carried T.is_countable) values.now) }
 {
     let mut num = 1;
     for value in values {
@@ -57,7 +61,10 @@ fn put_section<T: Stored>(
 
 /// Writes tables as rows: by kind, and then by number.
 pub fn rows_of(alloc: Global, tables: &Tables) -> Result<Vec<Row>, Memory>
-    ensures { IfOk result (λ rows. rows.items ≡ rows_of tables.now) }
+    ensures rows { IfOk result (λ rows. rows.items ≡ rows_of tables.now) }
+
+    // The tables of a well-formed state have rows, so these are read back.
+    ensures found { IfOk result (λ rows. (s : State) → IsWellFormed s → s.tables ≡ tables.now → AreRowsOf tables.now rows.items) }
 {
     let mut rows = Vec::new(alloc);
     put_section(alloc, &mut rows, 1, tables.accounts.as_slice())?;
