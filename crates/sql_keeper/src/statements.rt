@@ -1,0 +1,29 @@
+use cloud_keeper::Row;
+use sqlite::{Alter, Connection, Error, Row as StoredRow, params};
+
+// A row of the table is a row that is kept. Its key is its kind and its number.
+const CREATE: &str =
+    "CREATE TABLE IF NOT EXISTS rows(kind INTEGER NOT NULL, num INTEGER NOT NULL, body BLOB NOT NULL, PRIMARY KEY(kind, num)) STRICT";
+
+const UPSERT: &str =
+    "INSERT INTO rows(kind, num, body) VALUES (?1, ?2, ?3) ON CONFLICT(kind, num) DO UPDATE SET body = excluded.body";
+
+const SELECT: &str = "SELECT kind, num, body FROM rows ORDER BY kind, num";
+
+/// Makes the table where it is missing.
+pub fn create_table<S: Alter>(conn: &mut Connection<S>) -> Result<usize, Error> {
+    conn.execute(CREATE, &[])
+}
+
+/// Adds a row, or replaces the body of the one of its kind and number.
+pub fn upsert_row<S: Alter>(conn: &mut Connection<S>, row: &Row) -> Result<usize, Error> {
+    conn.execute(
+        UPSERT,
+        params![u32::from(row.kind), row.num, row.body.as_slice()],
+    )
+}
+
+/// All rows of the table, by kind and then by number.
+pub fn select_rows<S: Alter>(conn: &mut Connection<S>) -> Result<Vec<StoredRow>, Error> {
+    conn.query_all(SELECT, &[])
+}
