@@ -1,0 +1,4 @@
+pub mod Offering
+pub mod Sites
+pub mod Finding
+pub mod Registered
