@@ -1,0 +1,99 @@
+//! The keepers that are played with.
+
+use cloud_keeper::{KeepFault, Keeper, MemKeeper, Row};
+use host_base::{Fails, Memory};
+use plain_data::List;
+use sql_keeper::SqlKeeper;
+use sqlite::{Connection, Error, ErrorCode, MemStore};
+use std::alloc::Global;
+
+/// A keeper of one kind or the other.
+#[derive(Drop)]
+pub enum Kept {
+    Mem(MemKeeper),
+    Sql(SqlKeeper<MemStore>),
+}
+
+/// A keeper in memory without rows.
+pub fn mem_keeper(alloc: Global, fails: Fails) -> Kept {
+    Kept::Mem(MemKeeper::new(Vec::new(alloc), fails))
+}
+
+/// A keeper over a new database in memory.
+pub fn sql_keeper(alloc: Global) -> Kept {
+    match Connection::open_in_memory(alloc) {
+        Ok(conn) => Kept::Sql(SqlKeeper::of(Ok(conn))),
+        Err(_) => starved_keeper(),
+    }
+}
+
+/// A keeper over a database that couldn't be opened.
+pub fn refused_keeper() -> Kept {
+    Kept::Sql(SqlKeeper::of(Err(Error::SqliteFailure(ErrorCode::CannotOpen))))
+}
+
+/// A keeper over a database for which there was no memory.
+pub fn starved_keeper() -> Kept {
+    Kept::Sql(SqlKeeper::of(Err(Error::SqliteFailure(ErrorCode::OutOfMemory))))
+}
+
+impl Kept {
+    /// A keeper in memory without rows, which fails at no call.
+    pub fn in_memory(alloc: Global) -> Self {
+        mem_keeper(alloc, List::empty(alloc))
+    }
+
+    /// How many faults it has counted.
+    pub fn faults(&self) -> u64 {
+        match self {
+            Kept::Mem(keeper) => keeper.faults(),
+            Kept::Sql(keeper) => keeper.faults(),
+        }
+    }
+
+    /// Its rows.
+    pub fn load(&mut self, alloc: Global) -> Result<Vec<Row>, KeepFault> {
+        match self {
+            Kept::Mem(keeper) => load_any(alloc, keeper),
+            Kept::Sql(keeper) => load_any(alloc, keeper),
+        }
+    }
+
+    /// Keeps a row.
+    pub fn commit(&mut self, alloc: Global, row: &Row) -> Result<(), KeepFault> {
+        match self {
+            Kept::Mem(keeper) => commit_any(alloc, keeper, row),
+            Kept::Sql(keeper) => commit_any(alloc, keeper, row),
+        }
+    }
+
+    /// Another keeper of the same rows.
+    pub fn again(self, alloc: Global, fails: Fails) -> Result<Self, Memory> {
+        match self {
+            Kept::Mem(mut keeper) => match keeper.load(alloc) {
+                Ok(rows) => Ok(Kept::Mem(MemKeeper::new(rows, fails))),
+                Err(_) => Err(Memory),
+            },
+            Kept::Sql(keeper) => Ok(Kept::Sql(SqlKeeper::of(keeper.into_opened()))),
+        }
+    }
+}
+
+fn load_any<K: Keeper>(alloc: Global, keeper: &mut K) -> Result<Vec<Row>, KeepFault> {
+    keeper.load(alloc)
+}
+
+fn commit_any<K: Keeper>(alloc: Global, keeper: &mut K, row: &Row) -> Result<(), KeepFault> {
+    keeper.commit(alloc, row)
+}
+
+/// Runs statements on a database.
+pub fn run_batch(
+    opened: &mut Result<Connection<MemStore>, Error>,
+    text: &str,
+) -> Result<(), Error> {
+    match opened {
+        Ok(conn) => conn.execute_batch(text),
+        Err(error) => Err(*error),
+    }
+}
