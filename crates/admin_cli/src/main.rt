@@ -2,7 +2,7 @@
 // system's randomness.
 #![tactic(auto)]
 
-use admin_run::{Line, World, line_of, run};
+use admin_run::{Line, World, book_keeper, line_of, run};
 use conn_door::{Door, MemDoor};
 use grain_process::UnixDoor;
 use grain_supervise::{EchoLink, FakeSpawner};
@@ -32,8 +32,12 @@ fn run_with<E: Door + Drop>(rt: &HostRuntime, words: &[String], door: E) -> u8 {
     let alloc = rt.alloc();
     let mut input = StdSource::new(rt.reader());
     let mut out = StdSink::new(io::writer(rt));
+    let Ok(keeper) = book_keeper(alloc, Fails::empty(alloc)) else {
+        return 7;
+    };
     let world = World {
         link: EchoLink::new(alloc, Fails::empty(alloc)),
+        keeper,
         secrets: RngSecrets::new(SysRng::new(rt)),
         spawner: FakeSpawner::new(alloc, Fails::empty(alloc)),
         door,

@@ -5,6 +5,8 @@ use Rattle.host_base.specs.Drawing.{Drawer}
 use Rattle.host_base.specs.Outside.{Inlet, Outlet, Rose}
 use Rattle.share_graph.specs.declared.event.Event.{Event}
 use Rattle.front_http.specs.Stream.{Requests, Ending, Done, Last, Cut, Bad, IsStream}
+use Rattle.share_graph.specs.History.{replay}
+use Rattle.cloud_keeper.specs.Keeping.{Keeping}
 use Rattle.grain_supervise.specs.Line.{Line}
 use Rattle.grain_supervise.specs.Spawning.{Spawns}
 use Rattle.conn_door.specs.Doors.{Doorway}
@@ -16,15 +18,17 @@ use Rattle.cloud_serve.specs.declared.serve.End.TheVariants as end
 use Rattle.cloud_serve.specs.Acts.{added_by}
 use Rattle.cloud_serve.specs.Served.{Served, Stands, limit, acts_in}
 use Rattle.hub_core.specs.Sharing.{book_of}
+use Rattle.hub_core.specs.Storing.{IsStored}
 use Rattle.small_book.specs.SmallBook.{small_book}
 
--- What the program's objects tell: its input and output, the link to the grains, the secrets, the spawner and the door.
+-- What the program's objects tell: its input and output, the link to the grains, the secrets, the spawner, the keeper and the door.
 pub record Outside : Type 0 where
   pub inlet : Inlet
   pub outlet : Outlet
   pub line : Line
   pub drawer : Drawer
   pub spawns : Spawns
+  pub keeping : Keeping
   pub doorway : Doorway
 
 -- the status of each end of a connection
@@ -38,16 +42,18 @@ status_by end.Memory = 7
 status_by end.Spent = 8
 
 -- One connection was served from the small book, over the program's input, output, link, secrets and spawner: the headline. The history
--- that it ends with is what the orders of its turns added, and nothing else. The door isn't asked.
+-- that it ends with is what the orders of its turns added, and nothing else, and the keeper has the tables after it. The door isn't
+-- asked.
 pub record ServesPlay (old new : Outside) (status : ℕ) : Type 0 where
   pub end : End
   pub places : List ℕ
   pub served : ℕ
   pub forwarded : ℕ
   pub history : List Event
-  pub headline : Served (record { inlet = old.inlet; outlet = old.outlet; line = old.line; book = book_of small_book [] old.drawer old.spawns })
-      (record { inlet = new.inlet; outlet = new.outlet; line = new.line; book = book_of small_book history new.drawer new.spawns }) end 0 places served forwarded
+  pub headline : Served (record { inlet = old.inlet; outlet = old.outlet; line = old.line; book = book_of small_book [] old.drawer (record { spawns = old.spawns; keeping = old.keeping }) })
+      (record { inlet = new.inlet; outlet = new.outlet; line = new.line; book = book_of small_book history new.drawer (record { spawns = new.spawns; keeping = new.keeping }) }) end 0 places served forwarded
   pub written : history ≡ added_by (flat_map (λ turn. turn.acts) headline.turns ++ acts_in headline.hand)
+  pub stored : IsStored new.keeping (replay small_book history).tables
   pub status_is : status ≡ status_by end
   pub doorway_is : new.doorway ≡ old.doorway
 
@@ -74,8 +80,8 @@ status_of_grain grain_end.DoorFailed = 4
 status_of_grain grain_end.WriteFailed = 5
 status_of_grain grain_end.Memory = 7
 
--- The line `ready` was printed, and connections were taken at the door: at status 0 so many. The program's input, its link, its secrets
--- and its spawner aren't asked.
+-- The line `ready` was printed, and connections were taken at the door: at status 0 so many. The program's input, its link, its secrets,
+-- its spawner and its keeper aren't asked.
 pub record ServesGrain (old new : Outside) (count status : ℕ) : Type 0 where
   pub end : GrainEnd
   pub status_is : status ≡ status_of_grain end
@@ -85,12 +91,13 @@ pub record ServesGrain (old new : Outside) (count status : ℕ) : Type 0 where
   pub line_is : new.line ≡ old.line
   pub drawer_is : new.drawer ≡ old.drawer
   pub spawns_is : new.spawns ≡ old.spawns
+  pub keeping_is : new.keeping ≡ old.keeping
 
 -- the usage line
 abbrev pub usage_line : List ℕ
 usage_line = codes "usage: admin_cli play | serve FILE PORT COUNT | gen N SEED | check FILE | grain SOCKET COUNT\n"
 
--- Nothing is taken, asked, drawn, started or accepted, and the usage line is written: whole at status 2, and at 5 as far as the sink
+-- Nothing is taken, asked, drawn, started, kept or accepted, and the usage line is written: whole at status 2, and at 5 as far as the sink
 -- took it.
 pub record TellsUsage (old new : Outside) (status : ℕ) : Type 0 where
   pub others : new ≡ record old { outlet = new.outlet }

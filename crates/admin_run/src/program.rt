@@ -2,9 +2,11 @@
 ghost use Rattle.std.specs.Prelude.{◌≡◌, ℕ, [], IfOk, IfErr};
 ghost use Rattle.admin_run.specs.Words.{IsPlay, IsGrain, IsNoLine};
 ghost use Rattle.admin_run.specs.Run.{status_by, status_of_grain, Plays, ServesGrain, TellsUsage, Completes, HasCause};
+ghost use Rattle.hub_core.specs.Storing.{IsStored};
 ghost use Rattle.small_book.specs.SmallBook.{small_book};
 
 use crate::words::{Line, line_of};
+use cloud_keeper::Keeper;
 use cloud_serve::{End, serve_conn};
 use conn_door::Door;
 use grain_program::{GrainEnd, run_grain};
@@ -14,11 +16,12 @@ use hub_core::{Locked, SoloDesk};
 use small_book::small_book;
 use std::alloc::Global;
 
-/// What the program is run with beside its words, its input and its output: a link to grains, what secrets are drawn from, what
-/// starts and stops the runs of grains, and where connections come in.
+/// What the program is run with beside its words, its input and its output: a link to grains, what keeps the rows of
+/// the tables, what secrets are drawn from, what starts and stops the runs of grains, and where connections come in.
 #[derive(Debug, Drop)]
-pub struct World<L, S, P, E> {
+pub struct World<L, K, S, P, E> {
     pub link: L,
+    pub keeper: K,
     pub secrets: S,
     pub spawner: P,
     pub door: E,
@@ -26,9 +29,10 @@ pub struct World<L, S, P, E> {
 
 /// The status of a run, with the objects of its world handed back.
 #[derive(Debug, Drop)]
-pub struct Ran<L, S, P, E> {
+pub struct Ran<L, K, S, P, E> {
     pub status: u8,
     pub link: L,
+    pub keeper: K,
     pub secrets: S,
     pub spawner: P,
     pub door: E,
@@ -64,43 +68,47 @@ fn status_of_end(end: GrainEnd) -> u8
 }
 
 // The desk that `play` begins with: over the small book. Where memory runs out the objects are handed back.
-fn small_desk<S: Secrets, P: Spawner>(
+fn small_desk<K: Keeper, S: Secrets, P: Spawner>(
     alloc: Global,
+    keeper: K,
     secrets: S,
     spawner: P,
-) -> Result<SoloDesk<S, P>, (S, P)>
-    ensures ok { IfOk result (λ desk. desk ≡ record { start = small_book; history = []; secrets = secrets; spawner = spawner }) }
-    ensures err { IfErr result (λ back. (back.0 ≡ secrets) × (back.1 ≡ spawner)) }
+) -> Result<SoloDesk<K, S, P>, (K, S, P)>
+    requires { IsStored (K.keeping keeper) small_book.tables }
+    ensures ok { IfOk result (λ desk. desk ≡ record { start = small_book; history = []; keeper = keeper; secrets = secrets; spawner = spawner }) }
+    ensures err { IfErr result (λ back. (back.0 ≡ keeper) × (back.1 ≡ secrets) × (back.2 ≡ spawner)) }
 {
     match small_book(alloc) {
-        Ok(book) => match Locked::from_state(alloc, book, secrets, spawner) {
+        Ok(book) => match Locked::from_state(alloc, book, keeper, secrets, spawner) {
             Ok(locked) => Ok(SoloDesk::new(locked)),
-            Err(closed) => Err((closed.secrets, closed.spawner)),
+            Err(closed) => Err((closed.keeper, closed.secrets, closed.spawner)),
         },
-        Err(Memory) => Err((secrets, spawner)),
+        Err(Memory) => Err((keeper, secrets, spawner)),
     }
 }
 
 // Serves one connection from the small book.
-fn play<I: Source, O: Sink, L: Link, S: Secrets, P: Spawner, E: Door>(
+fn play<I: Source, O: Sink, L: Link, K: Keeper, S: Secrets, P: Spawner, E: Door>(
     alloc: Global,
     input: &mut I,
     out: &mut O,
-    world: World<L, S, P, E>,
-) -> Ran<L, S, P, E>
+    world: World<L, K, S, P, E>,
+) -> Ran<L, K, S, P, E>
+    requires { IsStored (K.keeping world.keeper) small_book.tables }
     ensures plays { Plays
-        (record { inlet = I.inlet input.old; outlet = O.outlet out.old; line = L.line world.link; drawer = S.drawer world.secrets; spawns = P.spawns world.spawner; doorway = E.doorway world.door })
-        (record { inlet = I.inlet input.new; outlet = O.outlet out.new; line = L.line result.link; drawer = S.drawer result.secrets; spawns = P.spawns result.spawner; doorway = E.doorway result.door }) result.status }
+        (record { inlet = I.inlet input.old; outlet = O.outlet out.old; line = L.line world.link; drawer = S.drawer world.secrets; spawns = P.spawns world.spawner; keeping = K.keeping world.keeper; doorway = E.doorway world.door })
+        (record { inlet = I.inlet input.new; outlet = O.outlet out.new; line = L.line result.link; drawer = S.drawer result.secrets; spawns = P.spawns result.spawner; keeping = K.keeping result.keeper; doorway = E.doorway result.door }) result.status }
     ensures completes { Completes (I.inlet input.old) (I.inlet input.new) (O.outlet out.old) (O.outlet out.new) result.status }
     ensures cause { HasCause
-        (record { inlet = I.inlet input.old; outlet = O.outlet out.old; line = L.line world.link; drawer = S.drawer world.secrets; spawns = P.spawns world.spawner; doorway = E.doorway world.door })
-        (record { inlet = I.inlet input.new; outlet = O.outlet out.new; line = L.line result.link; drawer = S.drawer result.secrets; spawns = P.spawns result.spawner; doorway = E.doorway result.door }) result.status }
+        (record { inlet = I.inlet input.old; outlet = O.outlet out.old; line = L.line world.link; drawer = S.drawer world.secrets; spawns = P.spawns world.spawner; keeping = K.keeping world.keeper; doorway = E.doorway world.door })
+        (record { inlet = I.inlet input.new; outlet = O.outlet out.new; line = L.line result.link; drawer = S.drawer result.secrets; spawns = P.spawns result.spawner; keeping = K.keeping result.keeper; doorway = E.doorway result.door }) result.status }
 {
     let mut link = world.link;
-    match small_desk(alloc, world.secrets, world.spawner) {
-        Err((secrets, spawner)) => Ran {
+    match small_desk(alloc, world.keeper, world.secrets, world.spawner) {
+        Err((keeper, secrets, spawner)) => Ran {
             status: 7,
             link,
+            keeper,
             secrets,
             spawner,
             door: world.door,
@@ -108,10 +116,11 @@ fn play<I: Source, O: Sink, L: Link, S: Secrets, P: Spawner, E: Door>(
         Ok(mut desk) => {
             let end = serve_conn(alloc, input, out, &mut desk, &mut link);
             let status = status_of(end.end);
-            let (secrets, spawner) = desk.into_locked().into_parts();
+            let (keeper, secrets, spawner) = desk.into_locked().into_parts();
             Ran {
                 status,
                 link,
+                keeper,
                 secrets,
                 spawner,
                 door: world.door,
@@ -121,19 +130,19 @@ fn play<I: Source, O: Sink, L: Link, S: Secrets, P: Spawner, E: Door>(
 }
 
 // Is a grain: answers connections at the door.
-fn grain<I: Source, O: Sink, L: Link, S: Secrets, P: Spawner, E: Door>(
+fn grain<I: Source, O: Sink, L: Link, K: Keeper, S: Secrets, P: Spawner, E: Door>(
     alloc: Global,
     input: &mut I,
     out: &mut O,
-    world: World<L, S, P, E>,
+    world: World<L, K, S, P, E>,
     count: u32,
-) -> Ran<L, S, P, E>
+) -> Ran<L, K, S, P, E>
     ensures serves { ServesGrain
-        (record { inlet = I.inlet input.old; outlet = O.outlet out.old; line = L.line world.link; drawer = S.drawer world.secrets; spawns = P.spawns world.spawner; doorway = E.doorway world.door })
-        (record { inlet = I.inlet input.new; outlet = O.outlet out.new; line = L.line result.link; drawer = S.drawer result.secrets; spawns = P.spawns result.spawner; doorway = E.doorway result.door }) count result.status }
+        (record { inlet = I.inlet input.old; outlet = O.outlet out.old; line = L.line world.link; drawer = S.drawer world.secrets; spawns = P.spawns world.spawner; keeping = K.keeping world.keeper; doorway = E.doorway world.door })
+        (record { inlet = I.inlet input.new; outlet = O.outlet out.new; line = L.line result.link; drawer = S.drawer result.secrets; spawns = P.spawns result.spawner; keeping = K.keeping result.keeper; doorway = E.doorway result.door }) count result.status }
     ensures cause { HasCause
-        (record { inlet = I.inlet input.old; outlet = O.outlet out.old; line = L.line world.link; drawer = S.drawer world.secrets; spawns = P.spawns world.spawner; doorway = E.doorway world.door })
-        (record { inlet = I.inlet input.new; outlet = O.outlet out.new; line = L.line result.link; drawer = S.drawer result.secrets; spawns = P.spawns result.spawner; doorway = E.doorway result.door }) result.status }
+        (record { inlet = I.inlet input.old; outlet = O.outlet out.old; line = L.line world.link; drawer = S.drawer world.secrets; spawns = P.spawns world.spawner; keeping = K.keeping world.keeper; doorway = E.doorway world.door })
+        (record { inlet = I.inlet input.new; outlet = O.outlet out.new; line = L.line result.link; drawer = S.drawer result.secrets; spawns = P.spawns result.spawner; keeping = K.keeping result.keeper; doorway = E.doorway result.door }) result.status }
 {
     let _ = input;
     let mut door = world.door;
@@ -141,6 +150,7 @@ fn grain<I: Source, O: Sink, L: Link, S: Secrets, P: Spawner, E: Door>(
     Ran {
         status: status_of_end(end),
         link: world.link,
+        keeper: world.keeper,
         secrets: world.secrets,
         spawner: world.spawner,
         door,
@@ -148,17 +158,17 @@ fn grain<I: Source, O: Sink, L: Link, S: Secrets, P: Spawner, E: Door>(
 }
 
 // Writes the usage line.
-fn usage<I: Source, O: Sink, L: Link, S: Secrets, P: Spawner, E: Door>(
+fn usage<I: Source, O: Sink, L: Link, K: Keeper, S: Secrets, P: Spawner, E: Door>(
     input: &mut I,
     out: &mut O,
-    world: World<L, S, P, E>,
-) -> Ran<L, S, P, E>
+    world: World<L, K, S, P, E>,
+) -> Ran<L, K, S, P, E>
     ensures tells { TellsUsage
-        (record { inlet = I.inlet input.old; outlet = O.outlet out.old; line = L.line world.link; drawer = S.drawer world.secrets; spawns = P.spawns world.spawner; doorway = E.doorway world.door })
-        (record { inlet = I.inlet input.new; outlet = O.outlet out.new; line = L.line result.link; drawer = S.drawer result.secrets; spawns = P.spawns result.spawner; doorway = E.doorway result.door }) result.status }
+        (record { inlet = I.inlet input.old; outlet = O.outlet out.old; line = L.line world.link; drawer = S.drawer world.secrets; spawns = P.spawns world.spawner; keeping = K.keeping world.keeper; doorway = E.doorway world.door })
+        (record { inlet = I.inlet input.new; outlet = O.outlet out.new; line = L.line result.link; drawer = S.drawer result.secrets; spawns = P.spawns result.spawner; keeping = K.keeping result.keeper; doorway = E.doorway result.door }) result.status }
     ensures cause { HasCause
-        (record { inlet = I.inlet input.old; outlet = O.outlet out.old; line = L.line world.link; drawer = S.drawer world.secrets; spawns = P.spawns world.spawner; doorway = E.doorway world.door })
-        (record { inlet = I.inlet input.new; outlet = O.outlet out.new; line = L.line result.link; drawer = S.drawer result.secrets; spawns = P.spawns result.spawner; doorway = E.doorway result.door }) result.status }
+        (record { inlet = I.inlet input.old; outlet = O.outlet out.old; line = L.line world.link; drawer = S.drawer world.secrets; spawns = P.spawns world.spawner; keeping = K.keeping world.keeper; doorway = E.doorway world.door })
+        (record { inlet = I.inlet input.new; outlet = O.outlet out.new; line = L.line result.link; drawer = S.drawer result.secrets; spawns = P.spawns result.spawner; keeping = K.keeping result.keeper; doorway = E.doorway result.door }) result.status }
 {
     let _ = input;
     let status = match out.put(USAGE) {
@@ -168,34 +178,36 @@ fn usage<I: Source, O: Sink, L: Link, S: Secrets, P: Spawner, E: Door>(
     Ran {
         status,
         link: world.link,
+        keeper: world.keeper,
         secrets: world.secrets,
         spawner: world.spawner,
         door: world.door,
     }
 }
 
-/// All that the program does. `play` serves one connection from the small book; `grain SOCKET COUNT` prints `ready` and answers so many
+/// All that the program does. `play` serves one connection from the small book, whose rows the keeper has to have; `grain SOCKET COUNT` prints `ready` and answers so many
 /// connections at its door with what they were asked; any other words get the usage line.
-pub fn run<I: Source, O: Sink, L: Link, S: Secrets, P: Spawner, E: Door>(
+pub fn run<I: Source, O: Sink, L: Link, K: Keeper, S: Secrets, P: Spawner, E: Door>(
     alloc: Global,
     words: &[String],
     input: &mut I,
     out: &mut O,
-    world: World<L, S, P, E>,
-) -> Ran<L, S, P, E>
+    world: World<L, K, S, P, E>,
+) -> Ran<L, K, S, P, E>
+    requires { IsPlay words.now → IsStored (K.keeping world.keeper) small_book.tables }
     ensures play { IsPlay words.now → Plays
-        (record { inlet = I.inlet input.old; outlet = O.outlet out.old; line = L.line world.link; drawer = S.drawer world.secrets; spawns = P.spawns world.spawner; doorway = E.doorway world.door })
-        (record { inlet = I.inlet input.new; outlet = O.outlet out.new; line = L.line result.link; drawer = S.drawer result.secrets; spawns = P.spawns result.spawner; doorway = E.doorway result.door }) result.status }
+        (record { inlet = I.inlet input.old; outlet = O.outlet out.old; line = L.line world.link; drawer = S.drawer world.secrets; spawns = P.spawns world.spawner; keeping = K.keeping world.keeper; doorway = E.doorway world.door })
+        (record { inlet = I.inlet input.new; outlet = O.outlet out.new; line = L.line result.link; drawer = S.drawer result.secrets; spawns = P.spawns result.spawner; keeping = K.keeping result.keeper; doorway = E.doorway result.door }) result.status }
     ensures complete { IsPlay words.now → Completes (I.inlet input.old) (I.inlet input.new) (O.outlet out.old) (O.outlet out.new) result.status }
     ensures grain { (count : ℕ) → IsGrain words.now count → ServesGrain
-        (record { inlet = I.inlet input.old; outlet = O.outlet out.old; line = L.line world.link; drawer = S.drawer world.secrets; spawns = P.spawns world.spawner; doorway = E.doorway world.door })
-        (record { inlet = I.inlet input.new; outlet = O.outlet out.new; line = L.line result.link; drawer = S.drawer result.secrets; spawns = P.spawns result.spawner; doorway = E.doorway result.door }) count result.status }
+        (record { inlet = I.inlet input.old; outlet = O.outlet out.old; line = L.line world.link; drawer = S.drawer world.secrets; spawns = P.spawns world.spawner; keeping = K.keeping world.keeper; doorway = E.doorway world.door })
+        (record { inlet = I.inlet input.new; outlet = O.outlet out.new; line = L.line result.link; drawer = S.drawer result.secrets; spawns = P.spawns result.spawner; keeping = K.keeping result.keeper; doorway = E.doorway result.door }) count result.status }
     ensures usage { IsNoLine words.now → TellsUsage
-        (record { inlet = I.inlet input.old; outlet = O.outlet out.old; line = L.line world.link; drawer = S.drawer world.secrets; spawns = P.spawns world.spawner; doorway = E.doorway world.door })
-        (record { inlet = I.inlet input.new; outlet = O.outlet out.new; line = L.line result.link; drawer = S.drawer result.secrets; spawns = P.spawns result.spawner; doorway = E.doorway result.door }) result.status }
+        (record { inlet = I.inlet input.old; outlet = O.outlet out.old; line = L.line world.link; drawer = S.drawer world.secrets; spawns = P.spawns world.spawner; keeping = K.keeping world.keeper; doorway = E.doorway world.door })
+        (record { inlet = I.inlet input.new; outlet = O.outlet out.new; line = L.line result.link; drawer = S.drawer result.secrets; spawns = P.spawns result.spawner; keeping = K.keeping result.keeper; doorway = E.doorway result.door }) result.status }
     ensures cause { HasCause
-        (record { inlet = I.inlet input.old; outlet = O.outlet out.old; line = L.line world.link; drawer = S.drawer world.secrets; spawns = P.spawns world.spawner; doorway = E.doorway world.door })
-        (record { inlet = I.inlet input.new; outlet = O.outlet out.new; line = L.line result.link; drawer = S.drawer result.secrets; spawns = P.spawns result.spawner; doorway = E.doorway result.door }) result.status }
+        (record { inlet = I.inlet input.old; outlet = O.outlet out.old; line = L.line world.link; drawer = S.drawer world.secrets; spawns = P.spawns world.spawner; keeping = K.keeping world.keeper; doorway = E.doorway world.door })
+        (record { inlet = I.inlet input.new; outlet = O.outlet out.new; line = L.line result.link; drawer = S.drawer result.secrets; spawns = P.spawns result.spawner; keeping = K.keeping result.keeper; doorway = E.doorway result.door }) result.status }
 {
     match line_of(words) {
         Line::Play => play(alloc, input, out, world),

@@ -23,6 +23,10 @@ pub struct Conversation {
     pub link_fails: Vec<u64>,
     pub draw_fails: Vec<u64>,
     pub spawner_fails: Vec<u64>,
+    /// The commits to the keeper that fail, from 1.
+    pub store_fails: Vec<u64>,
+    /// How many rows the keeper must have at the end, where that is told.
+    pub rows: Option<usize>,
     /// The secrets that are drawn, each 32 times this byte, where they aren't those in sequence.
     pub secrets: Option<Vec<u8>>,
     pub status: u8,
@@ -52,6 +56,8 @@ impl Conversation {
             link_fails: Vec::new(alloc),
             draw_fails: Vec::new(alloc),
             spawner_fails: Vec::new(alloc),
+            store_fails: Vec::new(alloc),
+            rows: None,
             secrets: None,
             status: 0,
             repeats: 1,

@@ -1,7 +1,7 @@
 //! Playing a conversation over memory, and what goes otherwise.
 
 use crate::conversation::Conversation;
-use admin_run::{World, run};
+use admin_run::{World, book_keeper, run};
 use conn_door::MemDoor;
 use grain_supervise::{Ask, CannedLink, EchoLink, FakeSpawner, Link};
 use host_base::{Answer, ListSecrets, MemSink, MemSource, Secrets, SeqSecrets};
@@ -30,6 +30,8 @@ pub enum Difference {
         wanted: usize,
         came: usize,
     },
+    #[error("the keeper has {came} rows, not {wanted}")]
+    Kept { wanted: usize, came: usize },
     #[error("the status is {came}, not {wanted}")]
     Status {
         wanted: u8,
@@ -89,11 +91,12 @@ struct Part {
     status: u8,
 }
 
-/// What came of a part: what was written, what the spawner was told, and the status.
+/// What came of a part: what was written, what the spawner was told, how many rows the keeper has, and the status.
 #[derive(Debug, Drop)]
 struct Came {
     out: MemSink,
     told: Vec<u8>,
+    rows: usize,
     status: u8,
 }
 
@@ -131,6 +134,14 @@ fn compared(
                 equal,
                 wanted: wanted.len(),
                 came: came.len(),
+            })?;
+        }
+    }
+    if let Some(wanted) = conversation.rows {
+        if came.rows != wanted {
+            found.push(Difference::Kept {
+                wanted,
+                came: came.rows,
             })?;
         }
     }
@@ -182,8 +193,13 @@ fn played_with<L: Link + Drop, S: Secrets + Drop>(
     let fails = List::new(conversation.spawner_fails.clone()?);
     let spawner = FakeSpawner::new(alloc, fails);
     let door = MemDoor::new(Vec::new(alloc));
+    let fails = List::new(conversation.store_fails.clone()?);
+    let Ok(keeper) = book_keeper(alloc, fails) else {
+        return Err(AllocError);
+    };
     let world = World {
         link,
+        keeper,
         secrets,
         spawner,
         door,
@@ -192,6 +208,7 @@ fn played_with<L: Link + Drop, S: Secrets + Drop>(
     let came = Came {
         out,
         told: told(alloc, &ran.spawner)?,
+        rows: ran.keeper.rows().len(),
         status: ran.status,
     };
     Ok((came, ran.link))

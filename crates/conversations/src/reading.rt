@@ -55,6 +55,10 @@ fn read_setting(
             Ok(status) => conversation.status = status,
             Err(_) => return Ok(false),
         },
+        "rows" => match value.parse::<usize>() {
+            Ok(count) => conversation.rows = Some(count),
+            Err(_) => return Ok(false),
+        },
         "repeat" => match value.parse::<usize>() {
             Ok(times) => conversation.repeats = times,
             Err(_) => return Ok(false),
@@ -73,6 +77,7 @@ fn read_setting(
                 "link" => conversation.link_fails = calls,
                 "draw" => conversation.draw_fails = calls,
                 "spawner" => conversation.spawner_fails = calls,
+                "store" => conversation.store_fails = calls,
                 "secrets" => conversation.secrets = Some(low_bytes(alloc, calls.as_slice())?),
                 _ => return Ok(false),
             }

@@ -9,19 +9,19 @@ use Rattle.share_graph.specs.WellFormed.{IsWellFormed}
 use Rattle.state_step.proofs.AfterAll.{replay_appended}
 use Rattle.live_access.specs.Kept.{Kept, IsSolvedFor}
 use Rattle.desk_orders.specs.declared.reply.OrderFault.{OrderFault}
-use Rattle.grain_supervise.specs.Spawning.{Spawns}
 use Rattle.hub_core.specs.Adding.{Adds}
 use Rattle.hub_core.specs.Sharing.{Holds}
+use Rattle.hub_core.specs.Storing.{Outer}
 use Rattle.hub_core.proofs.Sessions.{opens_one}
 
 -- what adding an entry says of the entries
-pub entry_of : (old new : List Event) (spawns spawns' : Spawns) (e : Event) (token : List ℕ) (result : Result ⊤ OrderFault) → Adds old new spawns spawns' e token result → OnOk result (new ≡ old ++ e ∷ [])
-entry_of old new spawns spawns' e token (Ok done) adds = adds.0
-entry_of old new spawns spawns' e token (Err why) adds = _
+pub entry_of : (old new : List Event) (outer outer' : Outer) (e : Event) (token : List ℕ) (result : Result ⊤ OrderFault) → Adds old new outer outer' e token result → OnOk result (new ≡ old ++ e ∷ [])
+entry_of old new outer outer' e token (Ok done) adds = adds.0
+entry_of old new outer outer' e token (Err why) adds = _
 
-pub same_of : (old new : List Event) (spawns spawns' : Spawns) (e : Event) (token : List ℕ) (result : Result ⊤ OrderFault) → Adds old new spawns spawns' e token result → OnErr result (new ≡ old)
-same_of old new spawns spawns' e token (Ok done) adds = _
-same_of old new spawns spawns' e token (Err why) adds = adds.0
+pub same_of : (old new : List Event) (outer outer' : Outer) (e : Event) (token : List ℕ) (result : Result ⊤ OrderFault) → Adds old new outer outer' e token result → OnErr result (new ≡ old)
+same_of old new outer outer' e token (Ok done) adds = _
+same_of old new outer outer' e token (Err why) adds = adds.0
 
 module _ (start s : State) (old : List Event) (is : s ≡ replay start old) (sessions : length s.sessions < 2147483648 + length old) where
   holds_added : (s' : State) (new : List Event) (kept : Kept) (e : Event) → IsWellFormed (after s e) → length old < 1000000 → s' ≡ after s e → new ≡ old ++ e ∷ [] → IsSolvedFor s'.tables kept → Holds start s' new kept

@@ -10,10 +10,10 @@ use Rattle.session_table.specs.Verdict.{IsVerdict}
 use Rattle.desk_orders.specs.declared.reply.OrderFault.{OrderFault}
 use Rattle.desk_orders.specs.declared.reply.OrderFault.TheVariants as fault
 use Rattle.desk_orders.specs.declared.reply.Reply.{Reply}
-use Rattle.grain_supervise.specs.Spawning.{Spawns}
 use Rattle.desk_orders.specs.Commands.{Asked}
 use Rattle.hub_core.specs.Book.{Book, Judged, IsCounted, TakesNone, Ordered}
 use Rattle.hub_core.specs.Sharing.{Answered, book_of}
+use Rattle.hub_core.specs.Storing.{Outer}
 
 pub none_taken : (book : Book) → TakesNone book book
 none_taken book = record {
@@ -23,25 +23,25 @@ none_taken book = record {
 }
 
 -- the verdict at the end of the history
-pub judged_here : (start : State) (history : List Event) (drawer : Drawer) (spawns : Spawns) (key : Key) (verdict : Verdict) → IsVerdict (replay start history) key verdict
-    → Judged (length history) (book_of start history drawer spawns) key (length history) verdict
-judged_here start history drawer spawns key verdict is = record { before = history; rest = []; seen = sym (append-nil history); place_is = refl; low_is = omega arith; verdict_is = is }
+pub judged_here : (start : State) (history : List Event) (drawer : Drawer) (outer : Outer) (key : Key) (verdict : Verdict) → IsVerdict (replay start history) key verdict
+    → Judged (length history) (book_of start history drawer outer) key (length history) verdict
+judged_here start history drawer outer key verdict is = record { before = history; rest = []; seen = sym (append-nil history); place_is = refl; low_is = omega arith; verdict_is = is }
 
-module _ (start : State) (old new : List Event) (drawer drawer' : Drawer) (spawns spawns' : Spawns) (order : Asked) where
-  counted_by : (s : State) (answer : Result Reply OrderFault) → Answered s old new drawer drawer' spawns spawns' order answer → IsCounted (book_of start old drawer spawns) (book_of start new drawer' spawns') answer
-  counted_by s (Err fault.Store) a = absurd (a.unstored refl)
+module _ (start : State) (old new : List Event) (drawer drawer' : Drawer) (outer outer' : Outer) (order : Asked) where
+  counted_by : (s : State) (answer : Result Reply OrderFault) → Answered s old new drawer drawer' outer outer' order answer → IsCounted (book_of start old drawer outer) (book_of start new drawer' outer') answer
+  counted_by s (Err fault.Store) a = a.counted_store refl
   counted_by s (Err fault.Secrets) a = a.counted refl
   counted_by s (Err fault.Start) a = a.counted_starts refl
   counted_by s (Err fault.Memory) a = tt
   counted_by s (Ok reply) a = tt
 
   -- the order's place is the end of the history
-  pub ordered_here : (answer : Result Reply OrderFault) → Answered (replay start old) old new drawer drawer' spawns spawns' order answer
-      → Ordered (book_of start old drawer spawns) (book_of start new drawer' spawns') order (length old) answer
+  pub ordered_here : (answer : Result Reply OrderFault) → Answered (replay start old) old new drawer drawer' outer outer' order answer
+      → Ordered (book_of start old drawer outer) (book_of start new drawer' outer') order (length old) answer
   ordered_here answer a = record {
     drawn = a.drawn;
     added = a.added;
-    later = record { start = refl; more = a.added; seen = a.entries; store = omega arith; secrets = a.counts; starts = a.counts_starts };
+    later = record { start = refl; more = a.added; seen = a.entries; store = a.counts_store; secrets = a.counts; starts = a.counts_starts };
     placed = record { before = old; rest = []; seen = a.entries ∙ sym (append-nil (old ++ a.added)); place_is = refl; low_is = omega arith; lawful = a.lawful };
     accepted = ap length a.entries ∙ length-append old a.added;
     draws = a.draws;

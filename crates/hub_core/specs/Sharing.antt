@@ -1,4 +1,5 @@
--- One value that holds a history: what it began with, its entries, the secrets that are drawn for it, and the spawner of its runs.
+-- One value that holds a history: what it began with, its entries, the keeper of its rows, the secrets that are drawn for it, and the
+-- spawner of its runs.
 use Rattle.std.specs.Prelude.{◌≡◌, ℕ, ◌+◌, ◌<◌, ◌≤◌, ◌++◌, List, Result, Err, length}
 use Rattle.host_base.specs.Drawing.{Drawer}
 use Rattle.host_base.specs.Outside.{Rose}
@@ -13,13 +14,14 @@ use Rattle.desk_orders.specs.declared.reply.OrderFault.TheVariants as fault
 use Rattle.desk_orders.specs.declared.reply.Reply.{Reply}
 use Rattle.desk_orders.specs.Answers.{IsAnswer}
 use Rattle.desk_orders.specs.Secrets.{DrawsAll}
-use Rattle.grain_supervise.specs.Spawning.{Spawns}
 use Rattle.hub_core.specs.Book.{Book}
 use Rattle.hub_core.specs.Spawning.{Spawned, token_of}
+use Rattle.hub_core.specs.Storing.{Outer}
 
-pub record Sharing (S P : Type 0) : Type 0 where
+pub record Sharing (K S P : Type 0) : Type 0 where
   pub start : State
   pub history : List Event
+  pub keeper : K
   pub secrets : S
   pub spawner : P
 
@@ -34,27 +36,28 @@ pub record Holds (start state : State) (history : List Event) (kept : Kept) : Ty
 
 -- An order was answered at a state, at the end of a history: lawfully, with the secrets that were drawn for it, with the entries that
 -- it added, and with what the spawner was told of them.
-pub record Answered (s : State) (old new : List Event) (drawer drawer' : Drawer) (spawns spawns' : Spawns) (order : Order) (answer : Result Reply OrderFault) : Type 0 where
+pub record Answered (s : State) (old new : List Event) (drawer drawer' : Drawer) (outer outer' : Outer) (order : Order) (answer : Result Reply OrderFault) : Type 0 where
   pub drawn : List (List ℕ)
   pub added : List Event
   pub lawful : IsAnswer s (length old) order answer drawn added
   pub entries : new ≡ old ++ added
   pub draws : DrawsAll drawer.coming drawer'.coming drawn
-  pub spawned : Spawned spawns spawns' (token_of order drawn) added
+  pub spawned : Spawned outer.spawns outer'.spawns (token_of order drawn) added
   pub counts : drawer.faults ≤ drawer'.faults
-  pub counts_starts : spawns.faults ≤ spawns'.faults
+  pub counts_starts : outer.spawns.faults ≤ outer'.spawns.faults
+  pub counts_store : outer.keeping.faults ≤ outer'.keeping.faults
   pub counted : answer ≡ Err fault.Secrets → Rose drawer.faults drawer'.faults
-  pub counted_starts : answer ≡ Err fault.Start → Rose spawns.faults spawns'.faults
-  pub unstored : answer ≡ Err fault.Store → ⊥
+  pub counted_starts : answer ≡ Err fault.Start → Rose outer.spawns.faults outer'.spawns.faults
+  pub counted_store : answer ≡ Err fault.Store → Rose outer.keeping.faults outer'.keeping.faults
 
 -- what a desk tells that has nothing but this
-abbrev pub book_of : State → List Event → Drawer → Spawns → Book
-book_of start history drawer spawns = record {
+abbrev pub book_of : State → List Event → Drawer → Outer → Book
+book_of start history drawer outer = record {
   start = start;
   seen = history;
   accepted = length history;
-  store_faults = 0;
+  store_faults = outer.keeping.faults;
   secret_faults = drawer.faults;
-  start_faults = spawns.faults;
+  start_faults = outer.spawns.faults;
   coming = drawer.coming;
 }

@@ -13,8 +13,10 @@ ghost use Rattle.desk_orders.specs.Secrets as texts;
 ghost use Rattle.desk_orders.specs.Secrets.{text_digest};
 ghost use Rattle.hub_core.specs.Adding.{Adds};
 ghost use Rattle.hub_core.specs.Sharing.{Holds, Answered};
+ghost use Rattle.hub_core.specs.Storing.{IsStored};
 
 use crate::adding::add_entry;
+use cloud_keeper::Keeper;
 use desk_orders::{Decision, Order, OrderFault, Reply, decide, decide_at, secret_text, shown_text};
 use grain_supervise::Spawner;
 use host_base::{Bytes, Digest, Memory, Secrets, digest_of};
@@ -24,11 +26,12 @@ use share_tokens::Secret;
 use std::alloc::Global;
 
 // Accepts a change: adds its event.
-fn accept<P: Spawner>(
+fn accept<K: Keeper, P: Spawner>(
     alloc: Global,
     state: &mut State,
     solution: &mut Solution,
     entries: &mut Vec<Event>,
+    keeper: &mut K,
     spawner: &mut P,
     event: Event,
     token: &[u8],
@@ -39,9 +42,14 @@ fn accept<P: Spawner>(
     requires room { length entries.old.items < 1000000 }
     requires sessions { length state.old.sessions < 2147483648 + length entries.old.items }
     ensures kept { (start : State) → state.old ≡ history.replay start entries.old.items → Holds start state.new entries.new.items solution.new }
-    ensures accepted { Adds entries.old.items entries.new.items (P.spawns spawner.old) (P.spawns spawner.new) event token.now result }
+    ensures stored { IsStored (K.keeping keeper.old) state.old.tables → IsStored (K.keeping keeper.new) state.new.tables }
+    ensures accepted { Adds entries.old.items entries.new.items
+        (record { spawns = P.spawns spawner.old; keeping = K.keeping keeper.old }) (record { spawns = P.spawns spawner.new; keeping = K.keeping keeper.new })
+        event token.now result }
 {
-    add_entry(alloc, state, solution, entries, spawner, event, token)
+    add_entry(
+        alloc, state, solution, entries, keeper, spawner, event, token,
+    )
 }
 
 // The text of the secret of an order, and the digest by which it is known.
@@ -61,11 +69,12 @@ fn count_of(entries: &Vec<Event>) -> u64
 }
 
 // Answers an order that gets as far as drawing a secret.
-fn answer_drawn<S: Secrets, P: Spawner>(
+fn answer_drawn<K: Keeper, S: Secrets, P: Spawner>(
     alloc: Global,
     state: &mut State,
     solution: &mut Solution,
     entries: &mut Vec<Event>,
+    keeper: &mut K,
     secrets: &mut S,
     spawner: &mut P,
     order: &Order,
@@ -77,8 +86,9 @@ fn answer_drawn<S: Secrets, P: Spawner>(
     requires draws { commands.draws order.now.command ≡ true }
     requires wants { WantsSecret (length entries.old.items) (RowOf state.old order.now) }
     ensures kept { (start : State) → state.old ≡ history.replay start entries.old.items → Holds start state.new entries.new.items solution.new }
+    ensures stored { IsStored (K.keeping keeper.old) state.old.tables → IsStored (K.keeping keeper.new) state.new.tables }
     ensures answered { Answered state.old entries.old.items entries.new.items (S.drawer secrets.old) (S.drawer secrets.new)
-        (P.spawns spawner.old) (P.spawns spawner.new) order.now result }
+        (record { spawns = P.spawns spawner.old; keeping = K.keeping keeper.old }) (record { spawns = P.spawns spawner.new; keeping = K.keeping keeper.new }) order.now result }
 {
     let Ok(secret) = secrets.draw() else {
         return Err(OrderFault::Secrets);
@@ -97,6 +107,7 @@ fn answer_drawn<S: Secrets, P: Spawner>(
                 state,
                 solution,
                 entries,
+                keeper,
                 spawner,
                 event,
                 text.as_slice(),
@@ -110,11 +121,12 @@ fn answer_drawn<S: Secrets, P: Spawner>(
 }
 
 /// Answers an order at the end of a history.
-pub fn answer<S: Secrets, P: Spawner>(
+pub fn answer<K: Keeper, S: Secrets, P: Spawner>(
     alloc: Global,
     state: &mut State,
     solution: &mut Solution,
     entries: &mut Vec<Event>,
+    keeper: &mut K,
     secrets: &mut S,
     spawner: &mut P,
     order: &Order,
@@ -124,16 +136,19 @@ pub fn answer<S: Secrets, P: Spawner>(
     requires few { length entries.old.items ≤ 1000000 }
     requires sessions { length state.old.sessions < 2147483648 + length entries.old.items }
     ensures kept { (start : State) → state.old ≡ history.replay start entries.old.items → Holds start state.new entries.new.items solution.new }
+    ensures stored { IsStored (K.keeping keeper.old) state.old.tables → IsStored (K.keeping keeper.new) state.new.tables }
     ensures answered { Answered state.old entries.old.items entries.new.items (S.drawer secrets.old) (S.drawer secrets.new)
-        (P.spawns spawner.old) (P.spawns spawner.new) order.now result }
+        (record { spawns = P.spawns spawner.old; keeping = K.keeping keeper.old }) (record { spawns = P.spawns spawner.new; keeping = K.keeping keeper.new }) order.now result }
 {
     let count = count_of(entries);
     match decide(alloc, state, solution.solved(), count, order) {
         Decision::Refused(refusal) => Ok(Reply::Refused(refusal)),
         Decision::Same(made) => Ok(Reply::Made(made, None)),
-        Decision::Draw => answer_drawn(alloc, state, solution, entries, secrets, spawner, order),
+        Decision::Draw => answer_drawn(
+            alloc, state, solution, entries, keeper, secrets, spawner, order,
+        ),
         Decision::Change(event, made) => {
-            match accept(alloc, state, solution, entries, spawner, event, &[]) {
+            match accept(alloc, state, solution, entries, keeper, spawner, event, &[]) {
                 Ok(()) => Ok(Reply::Made(made, None)),
                 Err(fault) => Err(fault),
             }

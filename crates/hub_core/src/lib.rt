@@ -5,10 +5,12 @@ mod adding;
 mod answering;
 mod desk;
 mod locked;
+mod opening;
 mod solo;
 mod telling;
 
 pub use desk::Desk;
 pub use desk_orders::{Command, Listed, Order, OrderFault, Reply};
-pub use locked::{Locked, NotOpened, OpenFault};
+pub use locked::Locked;
+pub use opening::{NotOpened, OpenFault};
 pub use solo::SoloDesk;

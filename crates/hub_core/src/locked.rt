@@ -1,63 +1,56 @@
 //! One value that holds the state, its history and what each node holds.
 
 ghost use Rattle.std.specs.Prelude.{◌≡◌, ◌<◌, [], length, IfOk, IfErr};
+ghost use Rattle.share_graph.specs.declared.state.Tables.{Tables};
 ghost use Rattle.share_graph.specs.History.{replay};
 ghost use Rattle.share_graph.specs.WellFormed.{IsWellFormed};
+ghost use Rattle.least_access.specs.Solved.{IsSolutionOf};
 ghost use Rattle.session_table.specs.Verdict.{IsVerdict};
 ghost use Rattle.live_access.specs.Kept.{IsSolvedFor};
+ghost use Rattle.hub_core.specs.Opening.{AreLoaded, HasCause, opened};
 ghost use Rattle.hub_core.specs.Sharing.{Answered};
+ghost use Rattle.hub_core.specs.Storing.{IsStored};
 
 use crate::answering::answer;
+use crate::opening::{NotOpened, OpenFault, load_tables};
+use cloud_keeper::Keeper;
 use desk_orders::{Order, OrderFault, Reply};
 use grain_supervise::Spawner;
 use host_base::{Key, Memory, Secrets, Verdict};
+use least_access::Solved;
 use live_access::{Solution, solve};
 use session_table::verdict;
-use share_graph::{Event, State, copy_of};
+use share_graph::{Event, Rows, State, Tables, copy_of};
 use std::alloc::Global;
 use std::marker::Model;
-use thiserror::Error;
 
-/// Why a history can't be opened.
-#[derive(Clone, Copy, Debug, PartialEq, Eq, Error)]
-pub enum OpenFault {
-    #[error("out of memory")]
-    Memory,
-}
-
-/// A history that couldn't be opened: why, and the objects that were handed in.
+/// The state, its history and what each node holds, with the keeper of its rows, the secrets that are drawn for it and the spawner of its
+/// runs. It is what one holds who has the lock.
 #[derive(Drop)]
-pub struct NotOpened<S, P> {
-    pub fault: OpenFault,
-    pub secrets: S,
-    pub spawner: P,
-}
-
-/// The state, its history and what each node holds, with the secrets that are drawn for it and the spawner of its runs. It is what one
-/// holds who has the lock.
-#[derive(Drop)]
-pub struct Locked<S, P> {
+pub struct Locked<K: Keeper, S, P> {
     start: State,
     state: State,
     solution: Solution,
     history: Vec<Event>,
+    keeper: K,
     secrets: S,
     spawner: P,
 }
 
-impl<S, P> Model for Locked<S, P> {
+impl<K: Keeper, S, P> Model for Locked<K, S, P> {
     ghost use Rattle.std.specs.Coded.{codes};
     ghost use Rattle.share_graph.specs.contracts.event.Event as event_type;
     ghost use Rattle.share_graph.specs.contracts.state.State as state_type;
     ghost use Rattle.hub_core.specs.Sharing.{Sharing, Holds};
+    ghost use Rattle.hub_core.specs.Storing.{IsStored};
 
-    ghost Value = { Sharing S P };
+    ghost Value = { Sharing K S P };
 
     ghost coded = { Prim.hlevel (codes, state_type.the_row.coded, event_type.the_row.coded) };
 
-    ghost view = { λ locked. record { start = locked.start; history = locked.history.items; secrets = locked.secrets; spawner = locked.spawner } };
+    ghost view = { λ locked. record { start = locked.start; history = locked.history.items; keeper = locked.keeper; secrets = locked.secrets; spawner = locked.spawner } };
 
-    ghost invariant = { λ locked. Holds locked.start locked.state locked.history.items locked.solution };
+    ghost invariant = { λ locked. Holds locked.start locked.state locked.history.items locked.solution × IsStored (K.keeping locked.keeper) locked.state.tables };
 }
 
 // A copy of a state to begin with, and what each node holds by it.
@@ -70,18 +63,21 @@ fn open(alloc: Global, state: &State) -> Result<(State, Solution), Memory>
     Ok((start, solution))
 }
 
-impl<S: Secrets, P: Spawner> Locked<S, P> {
-    /// Opens a history that begins with a well-formed state of fewer than 2^31 sessions. Its one fault is want of memory.
+impl<K: Keeper, S: Secrets, P: Spawner> Locked<K, S, P> {
+    /// Opens a history that begins with a well-formed state of fewer than 2^31 sessions, whose tables the keeper has. Its one fault is want
+    /// of memory.
     pub fn from_state(
         alloc: Global,
         state: State,
+        keeper: K,
         secrets: S,
         spawner: P,
-    ) -> Result<Self, NotOpened<S, P>>
+    ) -> Result<Self, NotOpened<K, S, P>>
         requires formed { IsWellFormed state }
         requires few { length state.sessions < 2147483648 }
-        ensures ok { IfOk result (λ locked. locked ≡ record { start = state; history = []; secrets = secrets; spawner = spawner }) }
-        ensures err { IfErr result (λ closed. (closed.secrets ≡ secrets) × (closed.spawner ≡ spawner)) }
+        requires stored { IsStored (K.keeping keeper) state.tables }
+        ensures ok { IfOk result (λ locked. locked ≡ record { start = state; history = []; keeper = keeper; secrets = secrets; spawner = spawner }) }
+        ensures err { IfErr result (λ closed. closed ≡ record { fault = OpenFault.Memory; keeper = keeper; secrets = secrets; spawner = spawner }) }
     {
         match open(alloc, &state) {
             Ok((start, solution)) => Ok(Locked {
@@ -89,23 +85,62 @@ impl<S: Secrets, P: Spawner> Locked<S, P> {
                 state,
                 solution,
                 history: Vec::new(alloc),
+                keeper,
                 secrets,
                 spawner,
             }),
             Err(Memory) => Err(NotOpened {
                 fault: OpenFault::Memory,
+                keeper,
                 secrets,
                 spawner,
             }),
         }
     }
 
-    /// The objects that were handed in, as they are. It takes no memory.
-    pub fn into_parts(self) -> (S, P)
-        ensures secrets { result.0 ≡ self.secrets }
-        ensures spawner { result.1 ≡ self.spawner }
+    /// Opens a history on the rows of a keeper: it begins with the tables that they state, without sessions, runs and handles.
+    ///
+    /// # Errors
+    /// The keeper's fault, the first bad row, and want of memory; the objects are handed back.
+    pub fn from_rows(
+        alloc: Global,
+        keeper: K,
+        secrets: S,
+        spawner: P,
+    ) -> Result<Self, NotOpened<K, S, P>>
+        ensures ok { IfOk result (λ locked. (t : Tables) × AreLoaded (K.keeping keeper) t
+            × (locked ≡ record { start = opened t; history = []; keeper = locked.keeper; secrets = secrets; spawner = spawner })) }
+        ensures err { IfErr result (λ closed. HasCause (K.keeping keeper) (K.keeping closed.keeper) closed.fault
+            × (closed.secrets ≡ secrets) × (closed.spawner ≡ spawner)) }
     {
-        (self.secrets, self.spawner)
+        let mut keeper = keeper;
+        match load_tables(alloc, &mut keeper) {
+            Ok(tables) => {
+                let state = State {
+                    tables,
+                    sessions: Rows::empty(alloc),
+                    runs: Rows::empty(alloc),
+                    handles: Rows::empty(alloc),
+                };
+                Locked::from_state(alloc, state, keeper, secrets, spawner)
+            }
+            Err(fault) => Err(NotOpened {
+                fault,
+                keeper,
+                secrets,
+                spawner,
+            }),
+        }
+    }
+
+    /// The objects that were handed in. The keeper has the tables. It takes no memory.
+    pub fn into_parts(self) -> (K, S, P)
+        ensures keeper { result.0 ≡ self.keeper }
+        ensures secrets { result.1 ≡ self.secrets }
+        ensures spawner { result.2 ≡ self.spawner }
+        ensures stored { IsStored (K.keeping result.0) (replay self.start self.history).tables }
+    {
+        (self.keeper, self.secrets, self.spawner)
     }
 
     /// How many entries the history has. It takes no memory.
@@ -115,6 +150,20 @@ impl<S: Secrets, P: Spawner> Locked<S, P> {
         self.history.len() as u64
     }
 
+    /// The tables at the end of the history. It takes no memory.
+    pub fn tables(&self) -> &Tables
+        ensures { result.now ≡ (replay self.now.start self.now.history).tables }
+    {
+        &self.state.tables
+    }
+
+    /// What each node holds at the end of the history. It takes no memory.
+    pub fn solved(&self) -> &Solved
+        ensures { IsSolutionOf (replay self.now.start self.now.history).tables result.now }
+    {
+        self.solution.solved()
+    }
+
     /// The verdict on a key at the end of the history.
     pub fn verdict(&self, alloc: Global, key: &Key) -> Result<Verdict, Memory>
         ensures { IfOk result (IsVerdict (replay self.now.start self.now.history) key.now) }
@@ -122,18 +171,22 @@ impl<S: Secrets, P: Spawner> Locked<S, P> {
         verdict(alloc, &self.state, self.solution.solved(), key)
     }
 
-    /// Answers an order at the end of the history. Where it changes something, its event is the next entry; a refusal, a fault and want
-    /// of memory leave the history as it was.
+    /// Answers an order at the end of the history. Where it changes something, its event is the next entry, and the keeper has the row that
+    /// it adds or changes; a refusal, a fault and want of memory leave the history and the rows as they were.
     pub fn order(&mut self, alloc: Global, order: Order) -> Result<Reply, OrderFault>
         ensures start { self.new.start ≡ self.old.start }
         ensures answered { Answered (replay self.old.start self.old.history) self.old.history self.new.history
-            (S.drawer self.old.secrets) (S.drawer self.new.secrets) (P.spawns self.old.spawner) (P.spawns self.new.spawner) order result }
+            (S.drawer self.old.secrets) (S.drawer self.new.secrets)
+            (record { spawns = P.spawns self.old.spawner; keeping = K.keeping self.old.keeper }) (record { spawns = P.spawns self.new.spawner; keeping = K.keeping self.new.keeper })
+            order result }
+        ensures stored { IsStored (K.keeping self.new.keeper) (replay self.new.start self.new.history).tables }
     {
         answer(
             alloc,
             &mut self.state,
             &mut self.solution,
             &mut self.history,
+            &mut self.keeper,
             &mut self.secrets,
             &mut self.spawner,
             &order,

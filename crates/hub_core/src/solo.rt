@@ -6,6 +6,7 @@ ghost use Rattle.hub_core.specs.Sharing.{book_of};
 
 use crate::desk::Desk;
 use crate::locked::Locked;
+use cloud_keeper::Keeper;
 use desk_orders::{Order, OrderFault, Reply};
 use grain_supervise::Spawner;
 use host_base::{Key, Memory, Secrets, Verdict};
@@ -14,41 +15,42 @@ use std::marker::Model;
 
 /// A desk that owns its history: nobody else adds to it, so its places are all of it.
 #[derive(Drop)]
-pub struct SoloDesk<S, P> {
-    locked: Locked<S, P>,
+pub struct SoloDesk<K: Keeper, S, P> {
+    locked: Locked<K, S, P>,
 }
 
-impl<S, P> Model for SoloDesk<S, P> {
+impl<K: Keeper, S, P> Model for SoloDesk<K, S, P> {
     ghost use Rattle.std.specs.Coded.{codes};
     ghost use Rattle.share_graph.specs.contracts.event.Event as event_type;
     ghost use Rattle.share_graph.specs.contracts.state.State as state_type;
     ghost use Rattle.hub_core.specs.Sharing.{Sharing};
 
-    ghost Value = { Sharing S P };
+    ghost Value = { Sharing K S P };
 
     ghost coded = { Prim.hlevel (codes, state_type.the_row.coded, event_type.the_row.coded) };
 
     ghost view = { λ desk. desk.locked };
 }
 
-impl<S: Secrets, P: Spawner> SoloDesk<S, P> {
+impl<K: Keeper, S: Secrets, P: Spawner> SoloDesk<K, S, P> {
     /// A desk that owns a history.
-    pub fn new(locked: Locked<S, P>) -> Self
+    pub fn new(locked: Locked<K, S, P>) -> Self
         ensures { result ≡ locked }
     {
         SoloDesk { locked }
     }
 
     /// The history, handed back.
-    pub fn into_locked(self) -> Locked<S, P>
+    pub fn into_locked(self) -> Locked<K, S, P>
         ensures { result ≡ self }
     {
         self.locked
     }
 }
 
-impl<S: Secrets, P: Spawner> Desk for SoloDesk<S, P> {
-    ghost book = { λ sharing. book_of sharing.start sharing.history (S.drawer sharing.secrets) (P.spawns sharing.spawner) };
+impl<K: Keeper, S: Secrets, P: Spawner> Desk for SoloDesk<K, S, P> {
+    ghost book = { λ sharing. book_of sharing.start sharing.history (S.drawer sharing.secrets)
+        (record { spawns = P.spawns sharing.spawner; keeping = K.keeping sharing.keeper }) };
 
     fn place(&self) -> u64 {
         self.locked.entries()

@@ -10,14 +10,14 @@ returns-in-Refused-clause-answered g c =
     let s = c.args.state.now in
     let drawer = g.S.Secrets.drawer c.args.secrets.now in
     let r = c.in-Refused.refusal in
-    answered_refused s c.args.entries.now.items drawer drawer c.args.order.now [] refl (omega arith) (g.P.Spawner.spawns c.args.spawner.now) r
+    answered_refused s c.args.entries.now.items drawer drawer c.args.order.now [] refl (omega arith) (record { spawns = g.P.Spawner.spawns c.args.spawner.now; keeping = g.K.Keeper.keeping c.args.keeper.now }) r
     (subst (λ (n : ℕ). Ready n (RowOf s c.args.order.now) (Refuses r)) c.count_of-count.ensures c.in-Refused.ensures.decided)
 
 pub returns-in-Same-clause-answered : goal.returns-in-Same-clause-answered
 returns-in-Same-clause-answered g c =
     let s = c.args.state.now in
     let made = c.in-Same.made in
-    answered_same s c.args.entries.now.items (g.S.Secrets.drawer c.args.secrets.now) (g.P.Spawner.spawns c.args.spawner.now) c.args.order.now made
+    answered_same s c.args.entries.now.items (g.S.Secrets.drawer c.args.secrets.now) (record { spawns = g.P.Spawner.spawns c.args.spawner.now; keeping = g.K.Keeper.keeping c.args.keeper.now }) c.args.order.now made
     (subst (λ (n : ℕ). Ready n (RowOf s c.args.order.now) (Keeps made)) c.count_of-count.ensures c.in-Same.ensures.decided)
 
 pub returns-in-Ok-clause-answered : goal.returns-in-Ok-clause-answered
@@ -26,7 +26,7 @@ returns-in-Ok-clause-answered g c =
     let drawer = g.S.Secrets.drawer c.args.secrets.now in
     let e = c.in-Change.event in
     let made = c.in-Change.made in
-    answered_made s c.args.entries.now.items drawer drawer c.args.order.now [] refl (omega arith) c.accept.new.entries.items (g.P.Spawner.spawns c.args.spawner.now) (g.P.Spawner.spawns c.accept.new.spawner) e made None refl
+    answered_made s c.args.entries.now.items drawer drawer c.args.order.now [] refl (omega arith) c.accept.new.entries.items (record { spawns = g.P.Spawner.spawns c.args.spawner.now; keeping = g.K.Keeper.keeping c.args.keeper.now }) (record { spawns = g.P.Spawner.spawns c.accept.new.spawner; keeping = g.K.Keeper.keeping c.accept.new.keeper }) e made None refl
     (subst (λ (n : ℕ). Accepts s n None (RowOf s c.args.order.now) e made) c.count_of-count.ensures c.in-Change.ensures.decided) c.in-Ok.ensures.accepted.0 c.in-Ok.ensures.accepted.1
 
 pub returns-in-Err-clause-answered : goal.returns-in-Err-clause-answered
@@ -35,5 +35,5 @@ returns-in-Err-clause-answered g c =
     let drawer = g.S.Secrets.drawer c.args.secrets.now in
     let e = c.in-Change.event in
     let made = c.in-Change.made in
-    answered_fault s c.args.entries.now.items drawer drawer c.args.order.now [] refl (omega arith) c.accept.new.entries.items (g.P.Spawner.spawns c.args.spawner.now) (g.P.Spawner.spawns c.accept.new.spawner) e made
+    answered_fault s c.args.entries.now.items drawer drawer c.args.order.now [] refl (omega arith) c.accept.new.entries.items (record { spawns = g.P.Spawner.spawns c.args.spawner.now; keeping = g.K.Keeper.keeping c.args.keeper.now }) (record { spawns = g.P.Spawner.spawns c.accept.new.spawner; keeping = g.K.Keeper.keeping c.accept.new.keeper }) e made
     (subst (λ (n : ℕ). Accepts s n None (RowOf s c.args.order.now) e made) c.count_of-count.ensures c.in-Change.ensures.decided) c.in-Err.fault c.in-Err.ensures.accepted.0 c.in-Err.ensures.accepted.1

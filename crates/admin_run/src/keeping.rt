@@ -1,0 +1,21 @@
+//! The keeper that the program begins with where nothing outlives it.
+
+ghost use Rattle.std.specs.Prelude.{IfOk};
+ghost use Rattle.hub_core.specs.Storing.{IsStored};
+ghost use Rattle.small_book.specs.SmallBook.{small_book};
+
+use cloud_keeper::{Keeper, MemKeeper};
+use host_base::{Fails, Memory};
+use row_tables::rows_of;
+use small_book::small_book;
+use std::alloc::Global;
+
+/// A keeper in memory that has the rows of the small book, with the calls that are to fail.
+#[tactic(auto, using(row_tables::proofs::InOrder::rows_in_order))]
+pub fn book_keeper(alloc: Global, fails: Fails) -> Result<MemKeeper, Memory>
+    ensures { IfOk result (λ keeper. IsStored (⟦<MemKeeper as Keeper>⟧.keeping keeper) small_book.tables) }
+{
+    let book = small_book(alloc)?;
+    let rows = rows_of(alloc, &book.tables)?;
+    Ok(MemKeeper::new(rows, fails))
+}

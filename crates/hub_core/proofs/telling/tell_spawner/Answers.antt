@@ -1,0 +1,4 @@
+use Rattle.hub_core.proofs.telling.tell_spawner.Goals as goal
+
+pub returns-in-RunStopped : goal.returns-in-RunStopped
+returns-in-RunStopped g c = rw c.in-RunStopped.is (c.stop.ensures c.args.token.now)
