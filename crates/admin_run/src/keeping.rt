@@ -1,8 +1,7 @@
 //! The keeper that the program begins with where nothing outlives it.
 
 ghost use Rattle.std.specs.Prelude.{IfOk};
-ghost use Rattle.hub_core.specs.Storing.{IsStored};
-ghost use Rattle.small_book.specs.SmallBook.{small_book};
+ghost use Rattle.admin_run.specs.Book.{HasBook};
 
 use cloud_keeper::{Keeper, MemKeeper};
 use host_base::{Fails, Memory};
@@ -13,7 +12,7 @@ use std::alloc::Global;
 /// A keeper in memory that has the rows of the small book, with the calls that are to fail.
 #[tactic(auto, using(row_tables::proofs::InOrder::rows_in_order))]
 pub fn book_keeper(alloc: Global, fails: Fails) -> Result<MemKeeper, Memory>
-    ensures { IfOk result (λ keeper. IsStored (⟦<MemKeeper as Keeper>⟧.keeping keeper) small_book.tables) }
+    ensures { IfOk result (λ keeper. HasBook (⟦<MemKeeper as Keeper>⟧.keeping keeper)) }
 {
     let book = small_book(alloc)?;
     let rows = rows_of(alloc, &book.tables)?;

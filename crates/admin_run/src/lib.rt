@@ -6,5 +6,5 @@ mod program;
 mod words;
 
 pub use keeping::book_keeper;
-pub use program::{Ran, USAGE, World, run};
+pub use program::{Ran, USAGE, World, run, small_desk};
 pub use words::{Line, line_of};

@@ -2,7 +2,7 @@
 ghost use Rattle.std.specs.Prelude.{◌≡◌, ℕ, [], IfOk, IfErr};
 ghost use Rattle.admin_run.specs.Words.{IsPlay, IsGrain, IsNoLine};
 ghost use Rattle.admin_run.specs.Run.{status_by, status_of_grain, Plays, ServesGrain, TellsUsage, Completes, HasCause};
-ghost use Rattle.hub_core.specs.Storing.{IsStored};
+ghost use Rattle.admin_run.specs.Book.{HasBook};
 ghost use Rattle.small_book.specs.SmallBook.{small_book};
 
 use crate::words::{Line, line_of};
@@ -67,14 +67,15 @@ fn status_of_end(end: GrainEnd) -> u8
     }
 }
 
-// The desk that `play` begins with: over the small book. Where memory runs out the objects are handed back.
-fn small_desk<K: Keeper, S: Secrets, P: Spawner>(
+/// The desk that `play` begins with: over the small book, which the keeper has to have. Where memory runs out the objects are handed back.
+#[tactic(auto, unfolding(crate::specs::Book::HasBook))]
+pub fn small_desk<K: Keeper, S: Secrets, P: Spawner>(
     alloc: Global,
     keeper: K,
     secrets: S,
     spawner: P,
 ) -> Result<SoloDesk<K, S, P>, (K, S, P)>
-    requires { IsStored (K.keeping keeper) small_book.tables }
+    requires { HasBook (K.keeping keeper) }
     ensures ok { IfOk result (λ desk. desk ≡ record { start = small_book; history = []; keeper = keeper; secrets = secrets; spawner = spawner }) }
     ensures err { IfErr result (λ back. (back.0 ≡ keeper) × (back.1 ≡ secrets) × (back.2 ≡ spawner)) }
 {
@@ -94,7 +95,7 @@ fn play<I: Source, O: Sink, L: Link, K: Keeper, S: Secrets, P: Spawner, E: Door>
     out: &mut O,
     world: World<L, K, S, P, E>,
 ) -> Ran<L, K, S, P, E>
-    requires { IsStored (K.keeping world.keeper) small_book.tables }
+    requires { HasBook (K.keeping world.keeper) }
     ensures plays { Plays
         (record { inlet = I.inlet input.old; outlet = O.outlet out.old; line = L.line world.link; drawer = S.drawer world.secrets; spawns = P.spawns world.spawner; keeping = K.keeping world.keeper; doorway = E.doorway world.door })
         (record { inlet = I.inlet input.new; outlet = O.outlet out.new; line = L.line result.link; drawer = S.drawer result.secrets; spawns = P.spawns result.spawner; keeping = K.keeping result.keeper; doorway = E.doorway result.door }) result.status }
@@ -194,7 +195,7 @@ pub fn run<I: Source, O: Sink, L: Link, K: Keeper, S: Secrets, P: Spawner, E: Do
     out: &mut O,
     world: World<L, K, S, P, E>,
 ) -> Ran<L, K, S, P, E>
-    requires { IsPlay words.now → IsStored (K.keeping world.keeper) small_book.tables }
+    requires { IsPlay words.now → HasBook (K.keeping world.keeper) }
     ensures play { IsPlay words.now → Plays
         (record { inlet = I.inlet input.old; outlet = O.outlet out.old; line = L.line world.link; drawer = S.drawer world.secrets; spawns = P.spawns world.spawner; keeping = K.keeping world.keeper; doorway = E.doorway world.door })
         (record { inlet = I.inlet input.new; outlet = O.outlet out.new; line = L.line result.link; drawer = S.drawer result.secrets; spawns = P.spawns result.spawner; keeping = K.keeping result.keeper; doorway = E.doorway result.door }) result.status }

@@ -31,7 +31,10 @@ pub enum Difference {
         came: usize,
     },
     #[error("the keeper has {came} rows, not {wanted}")]
-    Kept { wanted: usize, came: usize },
+    Kept {
+        wanted: usize,
+        came: usize,
+    },
     #[error("the status is {came}, not {wanted}")]
     Status {
         wanted: u8,
