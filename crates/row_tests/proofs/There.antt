@@ -1,5 +1,5 @@
 -- A row that a finder found is there.
-use Rattle.std.proofs.Common.{◌≡◌, Bool, Option, Some, None, Bor, ap, sym, subst, ◌∙◌}
+use Rattle.std.proofs.Common.{◌≡◌, Bool, Option, Some, None, Bor, ap, sym, subst}
 use Rattle.std.specs.Prelude.{IsTrue, is_some, option_map}
 use Rattle.std.specs.Option.{option_copied}
 use Rattle.cloud_keeper.specs.declared.row.Row.{Row}
