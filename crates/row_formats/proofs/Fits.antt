@@ -6,7 +6,7 @@ use Rattle.perm_roles.specs.PermSet.{bits_of}
 use Rattle.perm_roles.specs.declared.perm_set.PermSet.{PermSet}
 use Rattle.perm_roles.proofs.Sets.{same_word}
 use Rattle.row_formats.specs.Format.{AllFit, flag, count}
-use Rattle.row_formats.specs.Sets.{set, set_of_word}
+use Rattle.row_formats.specs.Sets.{set}
 use Rattle.row_formats.proofs.Words.{word_back}
 
 pub flag_fits : (b : Bool) → flag.fits b

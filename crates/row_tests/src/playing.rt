@@ -1,9 +1,12 @@
 //! What a line of the input comes to.
 
+use crate::notation::{bytes_of, line_of, row_of_words};
+use crate::single::{added, change_of, claimed, kind_of, row_there, written};
+use cloud_keeper::Row;
 use host_base::{Bytes, Memory};
-use row_formats::RowFault;
-use row_tables::{BadRow, LoadFault, Row, rows_of, tables_of};
-use share_graph::Tables;
+use row_formats::{ReadError, RowFault};
+use row_tables::{BadRow, LoadFault, rows_of, tables_of};
+use share_graph::{Event, Tables};
 use small_book::small_book;
 use std::alloc::{AllocError, Global};
 
@@ -38,13 +41,6 @@ fn with_body(alloc: Global, rows: &[Row], at: usize, body: &[u8]) -> Result<Vec<
         })?;
     }
     Ok(all)
-}
-
-// A row as a line.
-fn line_of(alloc: Global, row: &Row) -> Result<String, AllocError> {
-    let (kind, num) = (row.kind, row.num);
-    let body = hex::encode(alloc, row.body.as_slice())?;
-    format!(in alloc; "{kind} {num} {body}\n")
 }
 
 // The rows of the small book, and a text of them.
@@ -147,29 +143,9 @@ fn behind(alloc: Global, rows: &[Row]) -> Result<String, Memory> {
     Ok(text)
 }
 
-// The row that three words state.
-fn row_from(alloc: Global, kind: &str, num: &str, body: &str) -> Result<Option<Row>, AllocError> {
-    let (Ok(kind), Ok(num)) = (kind.parse::<u8>(), num.parse::<u32>()) else {
-        return Ok(None);
-    };
-    match hex::decode(alloc, body) {
-        Ok(body) => Ok(Some(Row {
-            kind,
-            num,
-            body: Bytes::new(body),
-        })),
-        Err(_) => Ok(None),
-    }
-}
-
 // Adds the row that words state.
 fn add_row(alloc: Global, state: &mut Play, words: &[&str]) -> Result<String, Memory> {
-    let row = match words {
-        [kind, num, body] => row_from(alloc, kind, num, body)?,
-        [kind, num] => row_from(alloc, kind, num, "")?,
-        _ => None,
-    };
-    match row {
+    match row_of_words(alloc, words)? {
         Some(row) => {
             state.rows.push(row)?;
             Ok(String::new(alloc))
@@ -178,16 +154,98 @@ fn add_row(alloc: Global, state: &mut Play, words: &[&str]) -> Result<String, Me
     }
 }
 
+// Adds rows of one kind, from number 1 on, with one body.
+fn add_many(alloc: Global, state: &mut Play, words: &[&str]) -> Result<String, Memory> {
+    if let [kind, many, rest @ ..] = words
+        && let (Ok(kind), Ok(many)) = (kind.parse::<u8>(), many.parse::<u16>())
+        && let Some(body) = bytes_of(alloc, rest)?
+    {
+        for place in 0..many {
+            let num = u32::from(place) + 1;
+            let body = Bytes::copy_of(alloc, body.as_slice())?;
+            state.rows.push(Row { kind, num, body })?;
+        }
+        return Ok(String::new(alloc));
+    }
+    Ok(String::from_str(alloc, "no rows")?)
+}
+
 // Gives a row another body.
 fn change_body(alloc: Global, state: &mut Play, words: &[&str]) -> Result<String, Memory> {
-    if let [at, body] = words
+    if let [at, rest @ ..] = words
         && let Ok(at) = at.parse::<usize>()
-        && let Ok(body) = hex::decode(alloc, body)
+        && let Some(body) = bytes_of(alloc, rest)?
     {
         state.rows = with_body(alloc, state.rows.as_slice(), at, body.as_slice())?;
         return Ok(String::new(alloc));
     }
     Ok(String::from_str(alloc, "no body")?)
+}
+
+// A row that there may be, as a line.
+fn line_if(alloc: Global, row: Option<Row>) -> Result<String, Memory> {
+    match row {
+        Some(row) => Ok(line_of(alloc, &row)?),
+        None => Ok(String::from_str(alloc, "no row")?),
+    }
+}
+
+// The row of a kind and a number, written by itself.
+fn one(alloc: Global, tables: &Tables, words: &[&str]) -> Result<String, Memory> {
+    let row = if let [kind, num] = words
+        && let (Ok(kind), Ok(num)) = (kind.parse::<u8>(), num.parse::<u32>())
+    {
+        row_there(alloc, tables, kind_of(kind), num)?
+    } else {
+        None
+    };
+    line_if(alloc, row)
+}
+
+// The event that words state.
+fn event_of(alloc: Global, words: &[&str]) -> Result<Option<Event>, Memory> {
+    let read = match words {
+        ["add", rest @ ..] => match row_of_words(alloc, rest)? {
+            Some(row) => added(alloc, &row),
+            None => Ok(None),
+        },
+        ["claim", rest @ ..] => match row_of_words(alloc, rest)? {
+            Some(row) => claimed(alloc, &row).map(Some),
+            None => Ok(None),
+        },
+        [word, num] => match num.parse::<u32>() {
+            Ok(num) => Ok(change_of(*word, num)),
+            Err(_) => Ok(None),
+        },
+        _ => Ok(None),
+    };
+    match read {
+        Ok(event) => Ok(event),
+        Err(ReadError::Fault(_)) => Ok(None),
+        Err(ReadError::Memory) => Err(Memory),
+    }
+}
+
+// The row that the event which words state writes.
+fn after(alloc: Global, tables: &Tables, words: &[&str]) -> Result<String, Memory> {
+    let row = match event_of(alloc, words)? {
+        Some(event) => written(alloc, tables, &event)?,
+        None => None,
+    };
+    line_if(alloc, row)
+}
+
+// What is asked of the tables that the rows state.
+fn asked(alloc: Global, rows: &[Row], words: &[&str]) -> Result<String, Memory> {
+    match tables_of(alloc, rows) {
+        Ok(tables) => match words {
+            ["one", rest @ ..] => one(alloc, &tables, rest),
+            ["after", rest @ ..] => after(alloc, &tables, rest),
+            _ => Ok(String::from_str(alloc, "no such question")?),
+        },
+        Err(LoadFault::BadRow(bad)) => Ok(format!(in alloc; "{bad}")?),
+        Err(LoadFault::Memory) => Err(Memory),
+    }
 }
 
 // The words of a line.
@@ -209,7 +267,9 @@ pub fn answer(alloc: Global, state: &mut Play, line: &str) -> Result<String, Mem
             Ok(String::new(alloc))
         }
         ["row", rest @ ..] => add_row(alloc, state, rest),
+        ["many", rest @ ..] => add_many(alloc, state, rest),
         ["body", rest @ ..] => change_body(alloc, state, rest),
+        ["one", ..] | ["after", ..] => asked(alloc, state.rows.as_slice(), words.as_slice()),
         ["tables"] => stated(alloc, state.rows.as_slice()),
         ["fronts"] => fronts(alloc, state.rows.as_slice()),
         ["behind"] => behind(alloc, state.rows.as_slice()),

@@ -1,4 +1,4 @@
-use Rattle.std.proofs.Common.{ℕ, ◌++◌, ◌≤◌, ◌<◌, length, ap, sym, subst, ◌∙◌}
+use Rattle.std.proofs.Common.{ℕ, ◌++◌, ◌≤◌, ◌<◌, length, ap, subst, ◌∙◌}
 use Rattle.row_formats.specs.Format.{list}
 use Rattle.row_codec.proofs.Joined.{on_ok}
 use Rattle.row_codec.proofs.fields.write_list.Goals as goal

@@ -1,4 +1,4 @@
-use Rattle.std.proofs.Common.{◌≡◌, ◌++◌, ◌∷◌, [], ℕ, ◌-◌, ◌≤◌, true, List, None, map, ap, sym, subst, ◌∙◌, arith}
+use Rattle.std.proofs.Common.{◌≡◌, ◌++◌, ◌∷◌, [], ℕ, ◌≤◌, true, List, None, map, ap, sym, subst, ◌∙◌, arith}
 use Rattle.powerbox_match.specs.declared.value.TagValue.{TagValue}
 use Rattle.powerbox_match.specs.Value.{TagData, tag_data, field_data, fields_data, items_data, nesting, fields_nesting, items_nesting, is_tidy}
 use Rattle.powerbox_match.proofs.Tidy.{fields_nesting_at, items_nesting_at, fields_tidy_at, items_tidy_at}
