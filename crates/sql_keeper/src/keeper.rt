@@ -2,6 +2,7 @@ ghost use Rattle.std.specs.Prelude.{◌≡◌, ◌≤◌, None, Err, OnOk, IfErr
 ghost use Rattle.host_base.specs.Outside.{Rose};
 ghost use Rattle.cloud_keeper.specs.Keeping.{Keeping};
 ghost use Rattle.sql_keeper.specs.Fault.{fault_of, count_after};
+ghost use Rattle.sql_keeper.specs.Statements.{UpsertsIfOpen};
 ghost use Rattle.sql_keeper.specs.Kept.{opened_of, faults_of};
 
 use crate::fault::keep_fault;
@@ -77,14 +78,15 @@ fn commit_to<S: Alter>(
     opened: &mut Result<Connection<S>, Error>,
     row: &Row,
 ) -> Result<(), KeepFault>
+    ensures upserts { UpsertsIfOpen S.Store row.now opened.old opened.new result }
     ensures unopened { IfErr opened.old (λ error. (result ≡ Err (fault_of error)) × (opened.new ≡ Err error)) }
 {
     match opened {
         Err(error) => Err(keep_fault(*error)),
-        Ok(conn) => {
-            upsert_row(conn, row).map_err(keep_fault)?;
-            Ok(())
-        }
+        Ok(conn) => match upsert_row(conn, row) {
+            Ok(_) => Ok(()),
+            Err(error) => Err(keep_fault(error)),
+        },
     }
 }
 
@@ -113,6 +115,7 @@ impl<S: Alter> Keeper for SqlKeeper<S> {
         // A fault of the store is counted once, and nothing else is. Where no connection was opened, it answers why.
         ensures counted { OnOk result (faults_of self.new ≡ faults_of self.old) }
         ensures counted_fault { IfErr result (λ fault. faults_of self.new ≡ count_after fault (faults_of self.old)) }
+        ensures upserts { UpsertsIfOpen S.Store row.now (opened_of self.old) (opened_of self.new) result }
         ensures unopened { IfErr (opened_of self.old) (λ error. (result ≡ Err (fault_of error)) × (opened_of self.new ≡ Err error)) }
     {
         match commit_to(&mut self.opened, row) {

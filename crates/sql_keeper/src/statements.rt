@@ -1,3 +1,8 @@
+ghost use Rattle.std.specs.Prelude.{◌≡◌};
+ghost use Rattle.sqlite.specs.Held.{state};
+ghost use Rattle.sqlite.specs.State.{HasCleanDisk, Executes, Survives, CommitsBy};
+ghost use Rattle.sql_keeper.specs.Statements.{upsert_text, values_of};
+
 use cloud_keeper::Row;
 use sqlite::{Alter, Connection, Error, Row as StoredRow, params};
 
@@ -16,7 +21,10 @@ pub fn create_table<S: Alter>(conn: &mut Connection<S>) -> Result<usize, Error> 
 }
 
 /// Adds a row, or replaces the body of the one of its kind and number.
-pub fn upsert_row<S: Alter>(conn: &mut Connection<S>, row: &Row) -> Result<usize, Error> {
+pub fn upsert_row<S: Alter>(conn: &mut Connection<S>, row: &Row) -> Result<usize, Error>
+    ensures runs { HasCleanDisk (state S.Store conn.new) → Executes upsert_text (values_of row.now) (state S.Store conn.old) (state S.Store conn.new) result }
+    ensures survives { Survives (state S.Store conn.old) (state S.Store conn.new) (CommitsBy upsert_text (values_of row.now) (state S.Store conn.old)) }
+{
     conn.execute(
         UPSERT,
         params![u32::from(row.kind), row.num, row.body.as_slice()],
