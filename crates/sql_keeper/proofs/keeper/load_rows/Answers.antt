@@ -1,7 +1,7 @@
-use Rattle.std.proofs.Common.{ℕ, List, [], Ok}
+use Rattle.std.proofs.Common.{ℕ, [], Ok}
 use Rattle.std.specs.List.{AllZip}
 use Rattle.sqlite.specs.Held.{state}
-use Rattle.sqlite.specs.State.{Executes, Shown, CommitsShowing}
+use Rattle.sqlite.specs.State.{Executes, CommitsShowing}
 use Rattle.sql_keeper.specs.Statements.{create_text, select_text, Stores}
 use Rattle.sql_keeper.proofs.Surviving.{survives_itself, on_ok, if_ok}
 use Rattle.sql_keeper.proofs.keeper.load_rows.Goals as goal
