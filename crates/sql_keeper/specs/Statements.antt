@@ -32,8 +32,8 @@ pub record Stores (values : Values) (row : Row) : Type 0 where
   pub num : column values 1 ≡ Int (pos row.num)
   pub body : column values 2 ≡ Blob row.body
 
--- One row is kept: nothing but that one statement ran, and a stop at any time leaves what it could leave before, or what the statement
--- commits.
+-- One row is kept. At Ok, where the disk is clean, that one statement ran and nothing else. A stop at any time leaves what it could leave
+-- before, or what the statement commits.
 pub record Upserts {S : Type 0} (store : Ghosts S) (row : Row) (old new : Held S) (result : Result (Unit {0}) KeepFault) : Type 0 where
   pub runs : HasCleanDisk (state store new) → OnOk result ((count : ℕ) × Executes upsert_text (values_of row) (state store old) (state store new) (Ok count))
   pub survives : Survives (state store old) (state store new) (CommitsBy upsert_text (values_of row) (state store old))
@@ -44,8 +44,8 @@ UpsertsIfOpen store row (Ok old) (Ok new) result = Upserts store row old new res
 UpsertsIfOpen store row (Ok old) (Err error) result = ⊥
 UpsertsIfOpen store row (Err error) new result = Unit {0}
 
--- All rows are loaded: the table is made where it is missing, and the rows are those that the second statement shows, in its order. A stop
--- at any time leaves what it could leave before, or what the two statements commit.
+-- All rows are loaded. At Ok, where the disk is clean, the table was made if it was missing, and the rows are those that the second
+-- statement showed, in its order. A stop at any time leaves what it could leave before, or what the two statements commit.
 pub record Loads {S V : Type 0} (store : Ghosts S) (items : V → List Row) (old new : Held S) (result : Result V KeepFault) : Type 0 where
   pub mid : Held S
   pub made : HasCleanDisk (state store mid) → OnOk result ((count : ℕ) × Executes create_text [] (state store old) (state store mid) (Ok count))

@@ -20,8 +20,8 @@ pub struct SqlKeeper<S: Alter> {
 }
 
 impl<S: Alter> SqlKeeper<S> {
-    /// A keeper over what an opening gave. Where the opening failed for want of memory, each call answers so; where it failed
-    /// otherwise, each call is a fault.
+    /// A keeper over what an opening gave, a connection outside a transaction. Where the opening failed for want of memory, each
+    /// call answers so; where it failed otherwise, each call is a fault.
     pub fn of(opened: Result<Connection<S>, Error>) -> Self
         ensures opened { opened_of result ≡ opened }
         ensures faults { faults_of result ≡ 0 }
@@ -70,6 +70,7 @@ fn load_rows<S: Alter>(alloc: Global, conn: &mut Connection<S>) -> Result<Vec<Ro
     }
 }
 
+// The same, where a connection was opened.
 fn load_from<S: Alter>(
     alloc: Global,
     opened: &mut Result<Connection<S>, Error>,
@@ -83,6 +84,7 @@ fn load_from<S: Alter>(
     }
 }
 
+// Keeps a row, where a connection was opened.
 fn commit_to<S: Alter>(
     opened: &mut Result<Connection<S>, Error>,
     row: &Row,
