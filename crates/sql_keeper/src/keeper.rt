@@ -2,6 +2,7 @@ ghost use Rattle.std.specs.Prelude.{◌≡◌, ◌≤◌, None, Err, OnOk, IfErr
 ghost use Rattle.host_base.specs.Outside.{Rose};
 ghost use Rattle.cloud_keeper.specs.Keeping.{Keeping};
 ghost use Rattle.sql_keeper.specs.Fault.{fault_of, count_after};
+ghost use Rattle.sql_keeper.specs.Statements.{Loads, LoadsIfOpen, UpsertsIfOpen};
 ghost use Rattle.sql_keeper.specs.Kept.{opened_of, faults_of};
 
 use crate::fault::keep_fault;
@@ -19,8 +20,8 @@ pub struct SqlKeeper<S: Alter> {
 }
 
 impl<S: Alter> SqlKeeper<S> {
-    /// A keeper over what an opening gave. Where the opening failed for want of memory, each call answers so; where it failed
-    /// otherwise, each call is a fault.
+    /// A keeper over what an opening gave, a connection outside a transaction. Where the opening failed for want of memory, each
+    /// call answers so; where it failed otherwise, each call is a fault.
     pub fn of(opened: Result<Connection<S>, Error>) -> Self
         ensures opened { opened_of result ≡ opened }
         ensures faults { faults_of result ≡ 0 }
@@ -57,34 +58,46 @@ impl<S: Alter> SqlKeeper<S> {
 }
 
 // All rows of the table, which is made where it is missing.
+fn load_rows<S: Alter>(alloc: Global, conn: &mut Connection<S>) -> Result<Vec<Row>, KeepFault>
+    ensures { Loads S.Store (λ rows. rows.items) conn.old conn.new result }
+{
+    if let Err(error) = create_table(conn) {
+        return Err(keep_fault(error));
+    }
+    match select_rows(conn) {
+        Ok(stored) => rows_of(alloc, &stored),
+        Err(error) => Err(keep_fault(error)),
+    }
+}
+
+// The same, where a connection was opened.
 fn load_from<S: Alter>(
     alloc: Global,
     opened: &mut Result<Connection<S>, Error>,
 ) -> Result<Vec<Row>, KeepFault>
+    ensures loads { LoadsIfOpen S.Store (λ rows. rows.items) opened.old opened.new result }
     ensures unopened { IfErr opened.old (λ error. (result ≡ Err (fault_of error)) × (opened.new ≡ Err error)) }
 {
     match opened {
         Err(error) => Err(keep_fault(*error)),
-        Ok(conn) => {
-            create_table(conn).map_err(keep_fault)?;
-            let stored = select_rows(conn).map_err(keep_fault)?;
-            rows_of(alloc, &stored)
-        }
+        Ok(conn) => load_rows(alloc, conn),
     }
 }
 
+// Keeps a row, where a connection was opened.
 fn commit_to<S: Alter>(
     opened: &mut Result<Connection<S>, Error>,
     row: &Row,
 ) -> Result<(), KeepFault>
+    ensures upserts { UpsertsIfOpen S.Store row.now opened.old opened.new result }
     ensures unopened { IfErr opened.old (λ error. (result ≡ Err (fault_of error)) × (opened.new ≡ Err error)) }
 {
     match opened {
         Err(error) => Err(keep_fault(*error)),
-        Ok(conn) => {
-            upsert_row(conn, row).map_err(keep_fault)?;
-            Ok(())
-        }
+        Ok(conn) => match upsert_row(conn, row) {
+            Ok(_) => Ok(()),
+            Err(error) => Err(keep_fault(error)),
+        },
     }
 }
 
@@ -98,6 +111,7 @@ impl<S: Alter> Keeper for SqlKeeper<S> {
         // A fault of the store is counted once, and nothing else is. Where no connection was opened, it answers why.
         ensures counted { OnOk result (faults_of self.new ≡ faults_of self.old) }
         ensures counted_fault { IfErr result (λ fault. faults_of self.new ≡ count_after fault (faults_of self.old)) }
+        ensures loads { LoadsIfOpen S.Store (λ rows. rows.items) (opened_of self.old) (opened_of self.new) result }
         ensures unopened { IfErr (opened_of self.old) (λ error. (result ≡ Err (fault_of error)) × (opened_of self.new ≡ Err error)) }
     {
         match load_from(alloc, &mut self.opened) {
@@ -113,6 +127,7 @@ impl<S: Alter> Keeper for SqlKeeper<S> {
         // A fault of the store is counted once, and nothing else is. Where no connection was opened, it answers why.
         ensures counted { OnOk result (faults_of self.new ≡ faults_of self.old) }
         ensures counted_fault { IfErr result (λ fault. faults_of self.new ≡ count_after fault (faults_of self.old)) }
+        ensures upserts { UpsertsIfOpen S.Store row.now (opened_of self.old) (opened_of self.new) result }
         ensures unopened { IfErr (opened_of self.old) (λ error. (result ≡ Err (fault_of error)) × (opened_of self.new ≡ Err error)) }
     {
         match commit_to(&mut self.opened, row) {
