@@ -1,0 +1,4 @@
+pub mod Scanned
+pub mod Ordered
+pub mod Chosen
+pub mod OneRow
