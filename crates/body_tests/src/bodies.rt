@@ -1,5 +1,6 @@
 //! What bodies state.
 
+use crate::powerbox::{told_choose, told_claim, told_query, told_save};
 use crate::shares::{told_child, told_redeem, told_share, told_tab, told_token};
 use desk_bodies::{account_fields, grain_fields, manifest_field, mark_field, no_fields};
 use std::alloc::{AllocError, Global};
@@ -67,6 +68,10 @@ pub fn told(alloc: Global, route: &str, body: &[u8]) -> Result<String, AllocErro
         "token" => told_token(alloc, body),
         "child" => told_child(alloc, body),
         "redeem" => told_redeem(alloc, body),
+        "query" => told_query(alloc, body),
+        "choose" => told_choose(alloc, body),
+        "claim" => told_claim(alloc, body),
+        "save" => told_save(alloc, body),
         _ => String::from_str(alloc, "no such route"),
     }
 }

@@ -2,15 +2,18 @@
 //! own, to the byte.
 //!
 //! ```text
-//! ROUTE BODY            what a body of a route states; ROUTE is account, mark, app, grain, none, tab, share, token, child or
-//!                       redeem
+//! ROUTE BODY            what a body of a route states; ROUTE is account, mark, app, grain, none, tab, share, token, child,
+//!                       redeem, query, choose, claim or save
 //! hex ROUTE BYTES       the same of a body that is written in hexadecimal digits
 //! denied NAME N N       the answer to a denial of that name with these numbers; the same as a refusal has to be equal
 //! refused NAME N N      the answer to a command that is refused
-//! failed NAME N         the answer to a fault
+//! failed NAME N N       the answer to a fault
 //! framed NAME N         the answer to what is refused at a place of a stream
 //! done KEY=VALUE ..     the answer to a command that made these
-//! head WORD ..          the head alone of an answer of the last four words but `framed`
+//! options ITEM,ITEM ..  the answer to the question what may be chosen, where these are listed; ITEM is `grain N QUALITY` or
+//!                       `site TAG ITEM QUALITY`
+//! site TEXT             the answer of one of the site's own capabilities
+//! head WORD ..          the head alone of an answer of the last words from `denied` on but `framed`
 //! ```
 //!
 //! What is given and its needs are written in the words of `state_text`, and nothing is left out. A kind of row is written by its
@@ -18,8 +21,10 @@
 #![tactic(auto)]
 
 mod bodies;
+mod listing;
 mod making;
 mod naming;
+mod powerbox;
 mod replies;
 mod shares;
 
@@ -40,7 +45,11 @@ fn played(alloc: Global, word: &str, rest: &str) -> Result<String, AllocError> {
         | "share"
         | "token"
         | "child"
-        | "redeem" => told(alloc, word, rest.as_bytes()),
+        | "redeem"
+        | "query"
+        | "choose"
+        | "claim"
+        | "save" => told(alloc, word, rest.as_bytes()),
         "hex" => {
             let (route, digits) = rest.split_once(' ').unwrap_or((rest, ""));
             told_of_hex(alloc, route, digits)

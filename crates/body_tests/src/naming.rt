@@ -94,12 +94,14 @@ pub fn refusal_of(name: &str, first: u32, second: u64) -> Option<Refusal> {
 }
 
 /// The fault of a name.
-pub fn fault_of(name: &str, number: u32) -> Option<OwnFault> {
+pub fn fault_of(name: &str, first: u64, second: u64) -> Option<OwnFault> {
     Some(match name {
         "StoreFailed" => OwnFault::StoreFailed,
         "SecretsFailed" => OwnFault::SecretsFailed,
         "StartFailed" => OwnFault::StartFailed,
-        "BadBody" => OwnFault::BadBody(u8::try_from(number).ok()?),
+        "BadBody" => OwnFault::BadBody(u8::try_from(first).ok()?),
+        "NoDriver" => OwnFault::NoDriver(first),
+        "NotOffered" => OwnFault::NotOffered(first, u32::try_from(second).ok()?),
         _ => return None,
     })
 }

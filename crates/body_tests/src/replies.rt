@@ -1,9 +1,12 @@
 //! The answers of the server's own.
 
+use crate::listing::listed_of;
 use crate::making::{handed_of, made_of};
 use crate::naming::{denial_of, fault_of, framing_of, refusal_of};
 use host_base::{Bytes, Denial, Memory};
-use reply_texts::{command_reply, denial_reply, done_reply, fault_reply, refused_reply};
+use reply_texts::{
+    command_reply, denial_reply, done_reply, fault_reply, options_reply, refused_reply, site_reply,
+};
 use share_graph::Refusal;
 use std::alloc::{AllocError, Global};
 
@@ -40,25 +43,26 @@ fn of_name(
     alloc: Global,
     word: &str,
     name: &str,
-    first: u32,
+    first: u64,
     second: u64,
     head_only: bool,
 ) -> Result<String, AllocError> {
+    let row = u32::try_from(first).unwrap_or(0);
     match word {
-        "denied" => match denial_of(name, first, second) {
+        "denied" => match denial_of(name, row, second) {
             Some(denial) => denied(alloc, denial, head_only),
             None => no_such(alloc),
         },
-        "refused" => match refusal_of(name, first, second) {
+        "refused" => match refusal_of(name, row, second) {
             Some(refusal) => shown(alloc, command_reply(alloc, &refusal, head_only)),
             None => no_such(alloc),
         },
-        "failed" => match fault_of(name, first) {
+        "failed" => match fault_of(name, first, second) {
             Some(fault) => shown(alloc, fault_reply(alloc, fault, head_only)),
             None => no_such(alloc),
         },
         "framed" => match framing_of(name) {
-            Some(refusal) => shown(alloc, refused_reply(alloc, refusal, u64::from(first))),
+            Some(refusal) => shown(alloc, refused_reply(alloc, refusal, first)),
             None => no_such(alloc),
         },
         _ => no_such(alloc),
@@ -75,6 +79,20 @@ fn done(alloc: Global, words: &str, head_only: bool) -> Result<String, AllocErro
     )
 }
 
+fn listed(alloc: Global, words: &str, head_only: bool) -> Result<String, AllocError> {
+    let list = listed_of(alloc, words)?;
+    shown(alloc, options_reply(alloc, &list, head_only))
+}
+
+// The answer to what has a name and numbers.
+fn named(alloc: Global, word: &str, rest: &str, head_only: bool) -> Result<String, AllocError> {
+    let (name, numbers) = rest.split_once(' ').unwrap_or((rest, ""));
+    let (first, second) = numbers.split_once(' ').unwrap_or((numbers, ""));
+    let first = first.parse::<u64>().unwrap_or(0);
+    let second = second.parse::<u64>().unwrap_or(0);
+    of_name(alloc, word, name, first, second, head_only)
+}
+
 /// The answer that a line tells.
 pub fn replied(
     alloc: Global,
@@ -82,12 +100,10 @@ pub fn replied(
     rest: &str,
     head_only: bool,
 ) -> Result<String, AllocError> {
-    if word == "done" {
-        return done(alloc, rest, head_only);
+    match word {
+        "done" => done(alloc, rest, head_only),
+        "options" => listed(alloc, rest, head_only),
+        "site" => shown(alloc, site_reply(alloc, rest.as_bytes(), head_only)),
+        _ => named(alloc, word, rest, head_only),
     }
-    let (name, numbers) = rest.split_once(' ').unwrap_or((rest, ""));
-    let (first, second) = numbers.split_once(' ').unwrap_or((numbers, ""));
-    let first = first.parse::<u32>().unwrap_or(0);
-    let second = second.parse::<u64>().unwrap_or(0);
-    of_name(alloc, word, name, first, second, head_only)
 }

@@ -35,11 +35,11 @@ impl Display for AsNeed {
     }
 }
 
-// What a grant gives, and under which needs.
+/// What a grant gives.
 #[derive(Clone, Copy)]
-struct AsGiven<'a>(&'a Assignment, &'a Needs);
+pub struct AsAssignment<'a>(pub &'a Assignment);
 
-impl Display for AsGiven<'_> {
+impl Display for AsAssignment<'_> {
     fn fmt<W: Write>(&self, f: &mut Formatter<W>) -> fmt::Result {
         let Assignment { base, add, remove } = *self.0;
         write!(
@@ -48,7 +48,17 @@ impl Display for AsGiven<'_> {
             AsBase(base),
             AsSet(&add),
             AsSet(&remove)
-        )?;
+        )
+    }
+}
+
+// What a grant gives, and under which needs.
+#[derive(Clone, Copy)]
+struct AsGiven<'a>(&'a Assignment, &'a Needs);
+
+impl Display for AsGiven<'_> {
+    fn fmt<W: Write>(&self, f: &mut Formatter<W>) -> fmt::Result {
+        write!(f, "{}", AsAssignment(self.0))?;
         for need in self.1.as_slice() {
             write!(f, " needs {}", AsNeed(*need))?;
         }

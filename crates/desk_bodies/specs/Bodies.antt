@@ -1,24 +1,30 @@
--- THE BODIES of the desk's routes. Each definition reads like its row of the table of routes: the object, and its fields in their
--- order, where one with `?` may be missing. Further keys are ignored, and of a key that stands twice the last value counts, as
--- `serde_json` reads objects.
+-- THE BODIES of the desk's routes, and of those of a running grain. Each definition reads like its row of the table of routes: the
+-- object, and its fields in their order, where one with `?` may be missing. Further keys are ignored, and of a key that stands twice the
+-- last value counts, as `serde_json` reads objects.
 use Rattle.std.specs.Prelude.{ℕ, ⊤, Bool, List, [], ◌∷◌, codes, Option, Result, Ok, Err}
 use Rattle.serde_json.specs.Data.{Data}
 use Rattle.serde_json.specs.Find.{get}
 use Rattle.host_base.specs.declared.digest.Digest.{Digest}
+use Rattle.powerbox_match.specs.Descriptor.{DescriptorData}
 use Rattle.app_manifest.specs.declared.manifest.Manifest.{Manifest as AppManifest}
 use Rattle.app_manifest.specs.declared.fault.ManifestFault.{ManifestFault}
+use Rattle.app_manifest.specs.Fields.{◌>>=◌}
 use Rattle.app_manifest.specs.Stated.{object_of, stated_manifest}
 use Rattle.desk_bodies.specs.declared.bodies.AccountFields.{AccountFields}
 use Rattle.desk_bodies.specs.declared.bodies.GrainFields.{GrainFields}
 use Rattle.desk_bodies.specs.declared.fault.BodyFault.{BodyFault}
 use Rattle.desk_bodies.specs.declared.fault.BodyFault.TheVariants.{Manifest}
+use Rattle.desk_bodies.specs.declared.powerbox.ChooseFields.{ChooseFields}
+use Rattle.desk_bodies.specs.declared.powerbox.ClaimFields.{ClaimFields}
+use Rattle.desk_bodies.specs.declared.powerbox.SaveFields.{SaveFields}
 use Rattle.desk_bodies.specs.declared.sharing.ChildFields.{ChildFields}
 use Rattle.desk_bodies.specs.declared.sharing.ShareFields.{ShareFields}
 use Rattle.desk_bodies.specs.declared.sharing.TokenFields.{TokenFields}
 use Rattle.desk_bodies.specs.Answers.{field}
-use Rattle.desk_bodies.specs.Fields.{stated_or, name_of, handle_of, mark_of, token_of, tab_of, account_of, app_of}
-use Rattle.desk_bodies.specs.Assignments.{assignment_of, no_assignment}
+use Rattle.desk_bodies.specs.Fields.{stated_or, name_of, handle_of, mark_of, token_of, tab_of, number_of, account_of, app_of}
+use Rattle.desk_bodies.specs.Assignments.{permissions_of, assignment_of, no_assignment}
 use Rattle.desk_bodies.specs.Needs.{needs_of}
+use Rattle.desk_bodies.specs.Offers.{query_of, offer_of}
 
 -- the text that a body is read as: an empty body counts as `{}`
 abbrev pub text_of : List ℕ → List ℕ
@@ -82,7 +88,7 @@ child_body body =
     field 3 (stated_or [] needs_of (get (codes "needs") object)) λ needs.
     Ok (record { for_sharing = for_sharing; assignment = assignment; needs = needs })
 
--- /redeem: 1 token
+-- /redeem, /restore and /drop: 1 token
 abbrev pub redeem_body : List ℕ → Result Digest BodyFault
 redeem_body body =
     in_object body λ object.
@@ -95,6 +101,38 @@ tab_body body =
     in_object body λ object.
     field 1 (tab_of (get (codes "tab") object)) λ tab.
     Ok tab
+
+-- /grains/{n}/query: 1 query
+abbrev pub query_body : List ℕ → Result (List DescriptorData) BodyFault
+query_body body =
+    in_object body λ object.
+    field 1 (query_of (get (codes "query") object)) λ query.
+    Ok query
+
+-- /grains/{n}/choose: 1 offer, 2 query, 3 assignment?
+abbrev pub choose_body : List ℕ → Result ChooseFields BodyFault
+choose_body body =
+    in_object body λ object.
+    field 1 (offer_of (get (codes "offer") object)) λ offer.
+    field 2 (query_of (get (codes "query") object)) λ query.
+    field 3 (stated_or no_assignment assignment_of (get (codes "assignment") object)) λ assignment.
+    Ok (record { offer = offer; query = query; assignment = assignment })
+
+-- /claim: 1 token, 2 permissions
+abbrev pub claim_body : List ℕ → Result ClaimFields BodyFault
+claim_body body =
+    in_object body λ object.
+    field 1 (token_of (get (codes "token") object)) λ token.
+    field 2 (get (codes "permissions") object >>= permissions_of) λ permissions.
+    Ok (record { token = token; permissions = permissions })
+
+-- /save: 1 handle, 2 label
+abbrev pub save_body : List ℕ → Result SaveFields BodyFault
+save_body body =
+    in_object body λ object.
+    field 1 (number_of (get (codes "handle") object)) λ handle.
+    field 2 (name_of (get (codes "label") object)) λ label.
+    Ok (record { handle = handle; label = label })
 
 -- a manifest, or its fault as the fault of a body
 abbrev pub or_fault : Result AppManifest ManifestFault → Result AppManifest BodyFault

@@ -18,7 +18,7 @@ abbrev pub stated_or : {A : Type 0} → A → (Data → Option A) → Option Dat
 stated_or missing shape None = Some missing
 stated_or missing shape (Some d) = shape d
 
--- a name or a title: a text of 1 to 200 bytes, none of which is a control character
+-- a name, a title or a label: a text of 1 to 200 bytes, none of which is a control character
 abbrev pub name_of : Option Data → Option (List ℕ)
 name_of found = text_with is_title (found >>= as_str)
 

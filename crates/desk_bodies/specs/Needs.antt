@@ -33,8 +33,7 @@ holder_of d =
 abbrev pub held_of : Data → Option Need
 held_of d = do
   holder ← holder_of d
-  permissions ← get (codes "permissions") d
-  set ← permissions_of permissions
+  set ← get (codes "permissions") d >>= permissions_of
   Some (PermissionsHeld holder set)
 
 -- a need: `token`, `held` or `admin`

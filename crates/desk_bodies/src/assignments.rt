@@ -1,6 +1,6 @@
 //! The shapes of assignments.
 
-ghost use Rattle.std.specs.Prelude.{◌≡◌, IfOk, option_map};
+ghost use Rattle.std.specs.Prelude.{◌≡◌, IfOk, option_map, option_and_then};
 ghost use Rattle.serde_json.specs.View.{view};
 ghost use Rattle.perm_roles.specs.PermSet.{no_permissions};
 ghost use Rattle.perm_roles.specs.declared.roles.Base.TheVariants as base;
@@ -15,14 +15,28 @@ use std::alloc::{AllocError, Global};
 // The most booleans of a list that is taken as a set.
 const SET_LIMIT: u8 = 64;
 
-/// The set of permissions that a value states, or none where it is not of the shape.
-pub(crate) fn permissions_from(alloc: Global, value: &Value) -> Result<Option<PermSet>, AllocError>
+// The set of permissions that a value states, or none where it is not of the shape.
+fn permissions_from(alloc: Global, value: &Value) -> Result<Option<PermSet>, AllocError>
     ensures { IfOk result (λ found. found ≡ assignments.permissions_of (view value.now)) }
 {
     let Some(list) = flags_from(alloc, Some(value))? else {
         return Ok(None);
     };
     Ok(PermSet::from_list(&list, SET_LIMIT).ok())
+}
+
+/// The set of permissions that a field states, or none where it is missing or not of the shape.
+pub(crate) fn stated_permissions(
+    alloc: Global,
+    value: Option<&Value>,
+) -> Result<Option<PermSet>, AllocError>
+    ensures { IfOk result (λ found. found
+        ≡ option_and_then assignments.permissions_of (option_map (λ v. view v.now) value.entry)) }
+{
+    match value {
+        Some(value) => permissions_from(alloc, value),
+        None => Ok(None),
+    }
 }
 
 // The same of a field, where a missing one is the empty set.

@@ -1,4 +1,4 @@
-//! The bodies of the desk's routes: what each states, or its first fault.
+//! The bodies of the desk's routes, and of those of a running grain: what each states, or its first fault.
 #![tactic(auto)]
 
 mod assignments;
@@ -7,6 +7,8 @@ mod fault;
 mod fields;
 mod needs;
 mod object;
+mod offers;
+mod powerbox;
 mod sharing;
 
 pub use bodies::{
@@ -14,6 +16,9 @@ pub use bodies::{
     no_fields, tab_field,
 };
 pub use fault::BodyFault;
+pub use powerbox::{
+    ChooseFields, ClaimFields, SaveFields, choose_fields, claim_fields, query_field, save_fields,
+};
 pub use sharing::{
     ChildFields, ShareFields, TokenFields, child_fields, share_fields, token_field, token_fields,
 };

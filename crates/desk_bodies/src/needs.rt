@@ -5,7 +5,7 @@ ghost use Rattle.serde_json.specs.View.{view};
 ghost use Rattle.desk_bodies.specs.Fields.{stated_or};
 ghost use Rattle.desk_bodies.specs.Needs as needs;
 
-use crate::assignments::permissions_from;
+use crate::assignments::stated_permissions;
 use crate::fields::{account_from, grain_from, grant_from};
 use plain_data::List;
 use serde_json::Value;
@@ -38,10 +38,7 @@ fn held_from(alloc: Global, value: &Value) -> Result<Option<Need>, AllocError>
     let Some(holder) = holder_from(value) else {
         return Ok(None);
     };
-    let Some(permissions) = value.get("permissions") else {
-        return Ok(None);
-    };
-    let Some(set) = permissions_from(alloc, permissions)? else {
+    let Some(set) = stated_permissions(alloc, value.get("permissions"))? else {
         return Ok(None);
     };
     Ok(Some(Need::PermissionsHeld { holder, set }))

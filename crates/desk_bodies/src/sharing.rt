@@ -99,7 +99,7 @@ pub fn child_fields(alloc: Global, body: &[u8]) -> Result<ChildFields, BodyFault
     })
 }
 
-/// The SHA-256 digest of the token to redeem, which is any text, over the bytes of its UTF-8 form.
+/// The SHA-256 digest of the token to redeem, to restore or to drop, which is any text, over the bytes of its UTF-8 form.
 pub fn token_field(alloc: Global, body: &[u8]) -> Result<Digest, BodyFault>
     ensures stated { Answers (redeem_body body.now) result }
 {

@@ -4,3 +4,4 @@ pub mod Refusals
 pub mod Faults
 pub mod Done
 pub mod DoneParts
+pub mod Options

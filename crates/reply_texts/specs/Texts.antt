@@ -1,5 +1,5 @@
 -- The answers of the server's own.
-use Rattle.std.specs.Prelude.{ℕ, Bool, false, List, [], ◌∷◌, codes, bytes_eq}
+use Rattle.std.specs.Prelude.{ℕ, Bool, true, false, List, [], ◌∷◌, codes, bytes_eq}
 use Rattle.host_base.specs.declared.request.Request.{Request}
 use Rattle.host_base.specs.declared.verdict.Denial.{Denial}
 use Rattle.host_base.specs.declared.verdict.Denial.TheVariants as denial
@@ -73,3 +73,7 @@ refused_text why at = own_text (refusal_status why) (refusal_name why) (at ∷ [
 -- the answer where memory ran out
 abbrev pub memory_text : Bool → List ℕ
 memory_text head_only = own_text 500 (codes "Memory") [] head_only
+
+-- the answer of one of the site's own capabilities: a plain text
+abbrev pub site_text : List ℕ → Bool → List ℕ
+site_text text head_only = reply_text 200 true text head_only

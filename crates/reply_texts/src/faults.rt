@@ -1,4 +1,4 @@
-//! The answers to faults that keep a command from being carried out.
+//! The answers to faults, which aren't refusals.
 
 ghost use Rattle.std.specs.Prelude.{◌≡◌, IfOk};
 ghost use Rattle.http.specs.StatusCode.{IsStatusCode};
@@ -10,8 +10,8 @@ use host_base::{Bytes, Memory};
 use std::alloc::Global;
 use thiserror::Error;
 
-/// What keeps a command from being carried out, though it isn't refused. Want of memory has an answer of its own, which takes none
-/// (`front_http::memory_reply`).
+/// What keeps a command from being carried out, or an item of the site's own from being given, though nothing is refused. Want of memory
+/// has an answer of its own, which takes none (`front_http::memory_reply`).
 #[derive(Clone, Copy, Debug, PartialEq, Eq, Error)]
 pub enum OwnFault {
     /// The rows could not be kept.
@@ -26,6 +26,12 @@ pub enum OwnFault {
     /// 0: the body is no JSON object. Else the field of that number isn't as it should be.
     #[error("field {0} of the body isn't as it should be")]
     BadBody(u8),
+    /// No driver of the site's own has this tag.
+    #[error("no driver has the tag {0}")]
+    NoDriver(u64),
+    /// The driver of this tag doesn't offer this item.
+    #[error("the driver of the tag {0} doesn't offer the item {1}")]
+    NotOffered(u64, u32),
 }
 
 fn name_of(fault: OwnFault) -> &'static str
@@ -36,6 +42,8 @@ fn name_of(fault: OwnFault) -> &'static str
         OwnFault::SecretsFailed => "SecretsFailed",
         OwnFault::StartFailed => "StartFailed",
         OwnFault::BadBody(_) => "BadBody",
+        OwnFault::NoDriver(_) => "NoDriver",
+        OwnFault::NotOffered(_, _) => "NotOffered",
     }
 }
 
@@ -45,6 +53,8 @@ fn numbers_of(fault: OwnFault) -> Numbers
     match fault {
         OwnFault::StoreFailed | OwnFault::SecretsFailed | OwnFault::StartFailed => Numbers::Zero,
         OwnFault::BadBody(field) => Numbers::One(u64::from(field)),
+        OwnFault::NoDriver(tag) => Numbers::One(tag),
+        OwnFault::NotOffered(tag, item) => Numbers::Two(tag, u64::from(item)),
     }
 }
 
@@ -56,6 +66,7 @@ fn status_of(fault: OwnFault) -> u16
         OwnFault::StoreFailed | OwnFault::SecretsFailed => 503,
         OwnFault::StartFailed => 502,
         OwnFault::BadBody(_) => 422,
+        OwnFault::NoDriver(_) | OwnFault::NotOffered(_, _) => 404,
     }
 }
 

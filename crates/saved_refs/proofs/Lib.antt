@@ -2,3 +2,9 @@ pub mod Scanned
 pub mod Ordered
 pub mod Chosen
 pub mod OneRow
+pub mod OneHandle
+pub mod Claims
+pub mod Named
+pub mod Words
+pub mod OneRows
+pub mod FitRows

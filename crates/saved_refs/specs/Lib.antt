@@ -1,3 +1,7 @@
 pub mod Choosing
 pub mod Options
 pub mod Scan
+pub mod Rows
+pub mod Commands
+pub mod Calling
+pub mod Offers

@@ -1,12 +1,13 @@
 //! How well what applications offer matches a query.
 
-ghost use Rattle.std.specs.Prelude.{◌≡◌, IfOk, map};
+ghost use Rattle.std.specs.Prelude.{◌≡◌, ◌↔◌, IfOk, IsTrue, map};
 ghost use Rattle.powerbox_match.specs.Matching.{match_of};
+ghost use Rattle.saved_refs.specs.Rows.{IsMatching};
 ghost use Rattle.saved_refs.specs.Scan.{match_at};
 
-use host_base::{AppId, Memory};
+use host_base::{AppId, GrainId, Memory};
 use powerbox_match::{Quality, Query, matches};
-use share_graph::App;
+use share_graph::{App, Tables, app_of};
 use std::alloc::Global;
 
 // How well each application's offers match a query, by the places of the applications.
@@ -32,5 +33,15 @@ pub(crate) fn match_at(found: &[Option<Quality>], num: AppId) -> Option<Quality>
     match num.0 {
         0 => None,
         num => found.get(num as usize - 1).copied().flatten(),
+    }
+}
+
+// Whether what a grain's application offers matches.
+pub(crate) fn has_match(tables: &Tables, num: GrainId, query: &Query) -> bool
+    ensures { IsTrue result ↔ IsMatching tables.now num query.now }
+{
+    match app_of(tables, num) {
+        None => false,
+        Some(app) => matches(query, app.manifest.match_requests.as_slice()).is_some(),
     }
 }

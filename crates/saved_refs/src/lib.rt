@@ -1,8 +1,22 @@
-//! The desk of the powerbox: what a user's grain may be given.
+//! The desk of the powerbox: what a user's grain may be given, and what a grain claims, saves and restores of that.
 #![tactic(auto)]
 
 mod applications;
 mod choosing;
+mod claiming;
+mod handles;
+mod listed;
+mod needs;
+mod offers;
 mod options;
+mod restoring;
+mod room;
+mod runs;
+mod saving;
 
+pub use claiming::claim;
+pub use listed::Listed;
+pub use offers::{choose, choose_ready};
 pub use options::{GrainChoices, grain_options};
+pub use restoring::{drop_saved, restore};
+pub use saving::{save, save_ready};

@@ -1,0 +1,133 @@
+-- THE COMMANDS of the powerbox and of saved references. Each definition reads like its row of the table of commands.
+use Rattle.std.specs.Prelude.{◌≡◌, ℕ, Bool, true, List, [], Option, Some, None}
+use Rattle.host_base.specs.declared.digest.Digest.{Digest}
+use Rattle.host_base.specs.declared.ids.AccountId.{AccountId}
+use Rattle.host_base.specs.declared.ids.GrainId.{GrainId}
+use Rattle.host_base.specs.declared.ids.SavedId.{SavedId}
+use Rattle.host_base.specs.declared.verdict.Denial.TheVariants.{UnknownKey, NotHolder, Dropped}
+use Rattle.perm_roles.specs.declared.perm_set.PermSet.{PermSet}
+use Rattle.perm_roles.specs.declared.roles.Assignment.{Assignment}
+use Rattle.powerbox_match.specs.Descriptor.{DescriptorData}
+use Rattle.share_graph.specs.declared.desk.Caller.{Caller}
+use Rattle.share_graph.specs.declared.desk.Offer.{Offer}
+use Rattle.share_graph.specs.declared.desk.Offer.TheVariants as offer
+use Rattle.share_graph.specs.declared.event.Event.TheVariants.{GrantAdded, SavedAdded, SavedDropped, Claimed, HandleMade}
+use Rattle.share_graph.specs.declared.facts.Node.TheVariants as node
+use Rattle.share_graph.specs.declared.grants.Giver.TheVariants as giver
+use Rattle.share_graph.specs.declared.grants.Grant.{Grant}
+use Rattle.share_graph.specs.declared.grants.Target.TheVariants as target
+use Rattle.share_graph.specs.declared.refusal.Refusal.TheVariants.{AlreadyClaimed, LongSet, NoMatch, NoSuchOffer, UnknownHandle}
+use Rattle.share_graph.specs.declared.rows.Saved.{Saved}
+use Rattle.share_graph.specs.declared.sessions.Handle.{Handle}
+use Rattle.share_graph.specs.declared.sessions.Run.{Run}
+use Rattle.share_graph.specs.declared.state.State.{State}
+use Rattle.share_graph.specs.declared.state.Tables.{Tables}
+use Rattle.share_graph.specs.Callers as callers
+use Rattle.share_graph.specs.Fitting.{SetFits}
+use Rattle.share_graph.specs.Forms.{when◌then◌else◌, unless◌then◌else◌, must◌or◌then◌, found◌or◌then◌, none, some◌of◌or◌then◌}
+use Rattle.share_graph.specs.Keys.{HasReference, IsHandleOf}
+use Rattle.share_graph.specs.Rows.{IsGrain}
+use Rattle.desk_base.specs.Limits.{adds}
+use Rattle.desk_base.specs.Made.{nothing_made}
+use Rattle.desk_base.specs.Steps.{Step, Refuses, Keeps, Makes, Plain, Drawn, denies, refusing}
+use Rattle.desk_base.specs.Wording.{secret_of, by_account, known_grain}
+use Rattle.share_desk.specs.Rows.{new_grant, made_grant}
+use Rattle.share_desk.specs.Wording.{access◌of◌then◌, role◌on◌of◌then◌, keeps◌of◌showing◌else◌}
+use Rattle.saved_refs.specs.Rows.{no_role, admin_needs, claimed_grant, claimed_handle, made_claim, new_saved, made_saved, new_handle, shown_handle, IsClaimOf, IsOfAnother, IsClaimed, IsMatching, IsHandleTo, with_maker}
+
+-- the run that calls: Denied(UnknownKey), Denied(GrainTrashed) of its grain, Denied(GrainStopped) where it is stopped
+abbrev pub by_run : State → Caller → (Run → Step → Type 0) → Step → Type 0
+by_run s who Rest = callers.by_run denies s (secret_of who) Rest
+
+-- what is added, and what the reply shows
+abbrev pub choose_grain_step : Tables → GrainId → GrainId → Assignment → AccountId → Step
+choose_grain_step t n m assignment from = Makes (Drawn λ d. GrantAdded (new_grant t m (giver.Account from) (target.Claim n) assignment [] (Some d))) (made_grant t)
+
+abbrev pub choose_site_step : Tables → GrainId → ℕ → ℕ → Bool → AccountId → Step
+choose_site_step t n tag item admin_only from =
+    Makes (Drawn λ d. GrantAdded (new_grant t n (giver.Site from tag item) (target.Claim n) no_role (admin_needs admin_only from) (Some d))) (made_grant t)
+
+abbrev pub claim_with : Tables → GrainId → Grant → PermSet → AccountId → Handle → Step
+claim_with t holder chosen set maker handle = Makes (Plain (Claimed (claimed_grant t holder chosen set maker) handle)) (made_claim t handle)
+
+abbrev pub claim_step : State → Run → Grant → PermSet → AccountId → Step
+claim_step s run chosen set maker = claim_with s.tables run.grain chosen set maker (claimed_handle s run.num)
+
+abbrev pub save_step : Tables → Run → Handle → List ℕ → Step
+save_step t run handle label = Makes (Drawn λ d. SavedAdded (new_saved t run.grain handle.grant label d)) (made_saved t)
+
+abbrev pub restore_step : State → Run → Saved → Step
+restore_step s run saved = Makes (Plain (HandleMade (new_handle s run.num saved.grant))) (shown_handle (new_handle s run.num saved.grant).num)
+
+abbrev pub drop_step : SavedId → Step
+drop_step v = Makes (Plain (SavedDropped v)) nothing_made
+
+-- choose, of a grain m: NoSuchOffer where m is n or isn't there; access(m); NoMatch; role
+abbrev pub ChooseGrain : State → GrainId → GrainId → List DescriptorData → Assignment → AccountId → Step → Type 0
+ChooseGrain s n m query assignment from =
+    when m ≡ n then (Refuses NoSuchOffer) else
+    found (IsGrain s.tables m) or (none (IsGrain s.tables m) (Refuses NoSuchOffer)) then λ grain.
+    access (node.User m from) of s then
+    unless IsMatching s.tables m query then (Refuses NoMatch) else
+    role assignment on m of s then
+    adds s (choose_grain_step s.tables n m assignment from)
+
+-- choose, of an item of a site: NoSuchOffer where the sites have none; else it is told whether the offer is for admins alone
+abbrev pub ChooseSite : State → GrainId → ℕ → ℕ → Option Bool → AccountId → Step → Type 0
+ChooseSite s n tag item None from step = step ≡ Refuses NoSuchOffer
+ChooseSite s n tag item (Some admin_only) from step = adds s (choose_site_step s.tables n tag item admin_only from) step
+
+abbrev pub ChooseOffer : State → GrainId → Offer → List DescriptorData → Assignment → Option Bool → AccountId → Step → Type 0
+ChooseOffer s n (offer.Grain m) query assignment offered from step = ChooseGrain s n m query assignment from step
+ChooseOffer s n (offer.Site tag item) query assignment offered from step = ChooseSite s n tag item offered from step
+
+-- choose: Unknown(3, n); access(n); then by the offer. What the sites have of it is told for an item of a site.
+abbrev pub Choose : State → Caller → GrainId → Offer → List DescriptorData → Assignment → Option Bool → Step → Type 0
+Choose s who n chosen query assignment offered =
+    by_account s who λ account.
+    known_grain s n λ grain.
+    access (node.User n account.num) of s then
+    ChooseOffer s n chosen query assignment offered account.num
+
+-- claim: Denied(UnknownKey) where no grant that may be claimed has the digest; Denied(NotHolder(h)) where its grain h is another;
+-- AlreadyClaimed(c) where a grant from c exists; Denied of the first step that is missing for c's entry; LongSet against the holder's
+-- application. The claimed grant needs that the root maker of c holds the set on the holder.
+abbrev pub Claim : State → Caller → Digest → PermSet → Step → Type 0
+Claim s who token set =
+    by_run s who λ run.
+    some IsClaimOf token of s.tables.grants or denies UnknownKey then λ chosen.
+    must (chosen.target ≡ target.Claim run.grain) or refusing (IsOfAnother chosen.target run.grain) then
+    when IsClaimed s.tables chosen.num then (Refuses (AlreadyClaimed chosen.num)) else
+    access (node.Grant chosen.num) of s then
+    unless SetFits s.tables run.grain set then (Refuses LongSet) else
+    with_maker s.tables chosen.num λ maker.
+    adds s (claim_step s run chosen set maker)
+
+-- save: UnknownHandle; Denied of the first step that is missing for the entry of the handle's grant
+abbrev pub Save : State → Caller → ℕ → List ℕ → Step → Type 0
+Save s who num label =
+    by_run s who λ run.
+    some IsHandleOf run.num num of s.handles or (Refuses (UnknownHandle num)) then λ handle.
+    access (node.Grant handle.grant) of s then
+    adds s (save_step s.tables run handle label)
+
+-- restore: Denied(UnknownKey), Denied(NotHolder), Denied(Dropped), Denied of the first step that is missing for the entry of its grant;
+-- same where the run has a handle to the grant, the first such
+abbrev pub Restore : State → Caller → Digest → Step → Type 0
+Restore s who token =
+    by_run s who λ run.
+    some HasReference token of s.tables.saved or denies UnknownKey then λ saved.
+    unless saved.holder ≡ run.grain then denies (NotHolder saved.holder) else
+    when saved.dropped ≡ true then denies (Dropped saved.num) else
+    access (node.Grant saved.grant) of s then
+    keeps IsHandleTo run.num saved.grant of s.handles showing (λ (handle : Handle). shown_handle handle.num) else
+    adds s (restore_step s run saved)
+
+-- drop_saved: Denied(UnknownKey), Denied(NotHolder); same where it is dropped. Live handles stay.
+abbrev pub DropSaved : State → Caller → Digest → Step → Type 0
+DropSaved s who token =
+    by_run s who λ run.
+    some HasReference token of s.tables.saved or denies UnknownKey then λ saved.
+    unless saved.holder ≡ run.grain then denies (NotHolder saved.holder) else
+    when saved.dropped ≡ true then (Keeps nothing_made) else
+    adds s (drop_step saved.num)

@@ -1,0 +1,157 @@
+//! Claiming of what was chosen.
+
+ghost use Rattle.std.specs.Prelude.{◌≡◌, ◌↔◌, IsTrue, MatchResult};
+ghost use Rattle.share_graph.specs.Fitting.{SetFits};
+ghost use Rattle.share_graph.specs.Forms.{IsOne};
+ghost use Rattle.share_graph.specs.WellFormed.{IsWellFormed};
+ghost use Rattle.least_access.specs.Solved.{IsSolutionOf};
+ghost use Rattle.desk_base.specs.Fitting.{RowFits};
+ghost use Rattle.desk_base.specs.Outcomes.{Checks, IsCarried};
+ghost use Rattle.saved_refs.specs.Calling.{IsClaimBy, IsNoClaimBy};
+ghost use Rattle.saved_refs.specs.Commands.{Claim, claim_with};
+ghost use Rattle.saved_refs.specs.Rows.{IsClaimed};
+
+use crate::handles::next_handle;
+use crate::needs::{all_access, one_need};
+use crate::runs::caller_run;
+use desk_base::{NOTHING, Stop};
+use host_base::{AccountId, Denial, Digest, GrainId, GrantId};
+use least_access::Solved;
+use perm_roles::PermSet;
+use session_desk::has_entry;
+use share_desk::has_grant_room;
+use share_graph::{
+    Caller, DeskFault, Event, Giver, Grant, Handle, Made, Need, Node, Outcome, Refusal, State,
+    Tables, Target, app_of, by_grant_token, root_maker,
+};
+use std::alloc::Global;
+
+// The grant of a token, which is for the grain to claim.
+fn own_claim<'a>(state: &'a State, token: &Digest, holder: GrainId) -> Result<&'a Grant, Refusal>
+    requires { IsWellFormed state.now }
+    ensures { MatchResult result (λ grant. IsClaimBy state.now.tables token.now holder grant.now) (IsNoClaimBy state.now.tables token.now holder) }
+{
+    let Some(grant) = by_grant_token(&state.tables, token) else {
+        return Err(Refusal::Denied(Denial::UnknownKey));
+    };
+    let Target::Claim(named) = grant.target else {
+        return Err(Refusal::Denied(Denial::UnknownKey));
+    };
+    if named != holder {
+        return Err(Refusal::Denied(Denial::NotHolder(named)));
+    }
+    Ok(grant)
+}
+
+fn is_from(grant: &Grant, num: GrantId) -> bool
+    ensures { IsTrue result ↔ (grant.now.giver ≡ Giver.Grant num) }
+{
+    grant.giver == Giver::Grant(num)
+}
+
+// Whether some grant was given from a grant.
+fn is_claimed(tables: &Tables, num: GrantId) -> bool
+    ensures { IsTrue result ↔ IsClaimed tables.now num }
+{
+    tables
+        .grants
+        .as_slice()
+        .iter()
+        .any(|grant| is_from(grant, num))
+}
+
+// Whether a set fits the application of a grain.
+fn set_fits(tables: &Tables, num: GrainId, set: &PermSet) -> bool
+    ensures { IsTrue result ↔ SetFits tables.now num set.now }
+{
+    match app_of(tables, num) {
+        None => false,
+        Some(app) => set.fits(app.manifest.permissions.as_slice().len()),
+    }
+}
+
+// Which grain claims what, who gave that first, and the handle to what it has then.
+#[derive(Clone, Copy)]
+struct Claiming<'a> {
+    holder: GrainId,
+    chosen: &'a Grant,
+    maker: AccountId,
+    handle: Handle,
+}
+
+// The checks of `claim`.
+fn check_claim<'a>(
+    state: &'a State,
+    solved: &Solved,
+    caller: &Caller,
+    token: &Digest,
+    set: &PermSet,
+) -> Result<Claiming<'a>, Stop>
+    requires formed { IsWellFormed state.now }
+    requires solution { IsSolutionOf state.now.tables solved.now }
+    ensures { Checks (Claim state.now caller.now token.now set.now)
+        (λ found. claim_with state.now.tables found.holder found.chosen.now set.now found.maker found.handle) result }
+{
+    let run = caller_run(state, caller)?;
+    let chosen = own_claim(state, token, run.grain)?;
+    if is_claimed(&state.tables, chosen.num) {
+        return Err(Stop::Refused(Refusal::AlreadyClaimed(chosen.num)));
+    }
+    has_entry(&state.tables, solved, Node::Grant(chosen.num))?;
+    if !set_fits(&state.tables, run.grain, set) {
+        return Err(Stop::Refused(Refusal::LongSet));
+    }
+    let maker = root_maker(&state.tables, chosen.num);
+    has_grant_room(&state.tables)?;
+    let place = state.tables.grants.as_slice().len() as u32 + 1;
+    let handle = next_handle(state, run.num, GrantId(place))?;
+    Ok(Claiming {
+        holder: run.grain,
+        chosen,
+        maker,
+        handle,
+    })
+}
+
+/// Claims, by its token, what was chosen for the grain of the run that calls: the grain has it from then on, and the run a handle
+/// to it, as long as whoever gave it first holds the set on the grain. The reply shows the numbers of the grant and of the handle.
+pub fn claim(
+    alloc: Global,
+    state: &State,
+    solved: &Solved,
+    caller: &Caller,
+    token: &Digest,
+    set: &PermSet,
+) -> Result<Outcome, DeskFault>
+    requires formed { IsWellFormed state.now }
+    requires solution { IsSolutionOf state.now.tables solved.now }
+    ensures row { IsCarried (Claim state.now caller.now token.now set.now) result }
+    ensures one { IsOne (Claim state.now caller.now token.now set.now) }
+    ensures fits { RowFits state.now (Claim state.now caller.now token.now set.now) }
+{
+    let found = match check_claim(state, solved, caller, token, set) {
+        Ok(found) => found,
+        Err(stop) => return stop.outcome(),
+    };
+    let need = Need::PermissionsHeld {
+        holder: Node::User(found.holder, found.maker),
+        set: *set,
+    };
+    let place = state.tables.grants.as_slice().len() as u32 + 1;
+    let grant = Grant {
+        num: GrantId(place),
+        grain: found.chosen.grain,
+        giver: Giver::Grant(found.chosen.num),
+        target: Target::Grain(found.holder),
+        assignment: all_access(),
+        needs: one_need(alloc, need)?,
+        digest: None,
+        revoked: false,
+    };
+    let made = Made {
+        grant: Some(place),
+        handle: Some(found.handle.num),
+        ..NOTHING
+    };
+    Ok(Outcome::Change(Event::Claimed(grant, found.handle), made))
+}
