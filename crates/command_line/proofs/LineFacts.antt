@@ -1,0 +1,124 @@
+-- What the lines' words are like.
+use Rattle.std.proofs.Common.{◌≡◌, ◌≢◌, ◌<◌, ℕ, List, length, [], ◌∷◌, map, codes, String, string_bytes, sym, subst, refl, arith}
+use Rattle.std.proofs.Math.ListN.{get_or-map, length-map}
+use Rattle.std.specs.List.{All}
+use Rattle.std.specs.Str.Parse.{IsNumeral}
+use Rattle.std.specs.declared.alloc.Global.{Global}
+use Rattle.std.proofs.lemmas.List.Elements.{All-cons, All-nil}
+use Rattle.std.proofs.lemmas.Str.Parse.{digit_from_value}
+use Rattle.command_line.specs.declared.line.Line.TheVariants as line
+use Rattle.command_line.specs.Words.{IsCheck, IsGen, IsGrain, IsNoLine, IsOne, IsPath, IsPlay, IsServe}
+
+begins : (x : ℕ) (xs : List ℕ) → x ≢ 45 → IsPath (x ∷ xs)
+begins x xs other e = other cc
+
+play_path : IsPath (codes "play")
+play_path = begins 112 (codes "lay") (λ e. omega arith)
+
+serve_path : IsPath (codes "serve")
+serve_path = begins 115 (codes "erve") (λ e. omega arith)
+
+gen_path : IsPath (codes "gen")
+gen_path = begins 103 (codes "en") (λ e. omega arith)
+
+check_path : IsPath (codes "check")
+check_path = begins 99 (codes "heck") (λ e. omega arith)
+
+grain_path : IsPath (codes "grain")
+grain_path = begins 103 (codes "rain") (λ e. omega arith)
+
+-- digits begin with no `-`
+digits_path : (digits : List ℕ) → IsNumeral 10 digits → IsPath digits
+digits_path [] is e = cc
+digits_path (x ∷ xs) is e =
+    let minus : x ≡ 45 = cc in
+    let range = digit_from_value x is.1.0 in
+    omega (arith, range.0, range.1)
+
+-- what holds of the texts of words holds of the words
+pub each_path : (words : List (String Global)) → All IsPath (map string_bytes words) → All (λ word. IsPath (string_bytes word)) words
+each_path words paths k d within =
+    let inside : k < length (map string_bytes words) = rw length-map within in
+    subst IsPath (get_or-map string_bytes words k d) (paths k (string_bytes d) inside)
+
+two_paths : (a b : List ℕ) → IsPath a → IsPath b → All IsPath (a ∷ b ∷ [])
+two_paths a b p q = All-cons IsPath a (b ∷ []) p (All-cons IsPath b [] q (All-nil IsPath))
+
+three_paths : (a b c : List ℕ) → IsPath a → IsPath b → IsPath c → All IsPath (a ∷ b ∷ c ∷ [])
+three_paths a b c p q r = All-cons IsPath a (b ∷ c ∷ []) p (two_paths b c q r)
+
+module _ (words : List (String Global)) where
+  abbrev AllPaths : List (List ℕ) → Type 0
+  AllPaths = All IsPath
+
+  play_plain : IsPlay words → AllPaths (map string_bytes words)
+  play_plain is = subst AllPaths (sym is) (All-cons IsPath (codes "play") [] play_path (All-nil IsPath))
+
+  serve_plain : (port count : ℕ) → IsServe words port count → AllPaths (map string_bytes words)
+  serve_plain port count is = subst AllPaths (sym is.words_are)
+      (All-cons IsPath (codes "serve") (is.file ∷ is.port_digits ∷ is.count_digits ∷ []) serve_path
+      (three_paths is.file is.port_digits is.count_digits is.path (digits_path is.port_digits is.port_is.number.numeral)
+      (digits_path is.count_digits is.count_is.number.numeral)))
+
+  gen_plain : (count seed : ℕ) → IsGen words count seed → AllPaths (map string_bytes words)
+  gen_plain count seed is = subst AllPaths (sym is.words_are)
+      (three_paths (codes "gen") is.count_digits is.seed_digits gen_path (digits_path is.count_digits is.count_is.number.numeral)
+      (digits_path is.seed_digits is.seed_is.numeral))
+
+  check_plain : IsCheck words → AllPaths (map string_bytes words)
+  check_plain is = subst AllPaths (sym is.words_are) (two_paths (codes "check") is.file check_path is.path)
+
+  grain_plain : (count : ℕ) → IsGrain words count → AllPaths (map string_bytes words)
+  grain_plain count is = subst AllPaths (sym is.words_are)
+      (three_paths (codes "grain") is.socket is.count_digits grain_path is.path (digits_path is.count_digits is.count_is.number.numeral))
+
+  -- words of which one begins with `-` are no line
+  pub no_line_with_option : (All IsPath (map string_bytes words) → ⊥) → IsNoLine words
+  no_line_with_option bad = record {
+    play = λ is. bad (play_plain is);
+    serve = λ port count is. bad (serve_plain port count is);
+    gen = λ count seed is. bad (gen_plain count seed is);
+    check = λ is. bad (check_plain is);
+    grain = λ count is. bad (grain_plain count is);
+  }
+
+-- words are one line at most
+pub one_line : (words : List (String Global)) → IsOne words
+one_line words line.Play line.Play a b = refl
+one_line words line.Play (line.Serve p n) a b = cc (a, b.words_are)
+one_line words line.Play (line.Gen n s) a b = cc (a, b.words_are)
+one_line words line.Play line.Check a b = cc (a, b.words_are)
+one_line words line.Play (line.Grain n) a b = cc (a, b.words_are)
+one_line words line.Play line.Unknown a b = absurd (b.play a)
+one_line words (line.Serve p n) line.Play a b = cc (a.words_are, b)
+one_line words (line.Serve p n) (line.Serve q m) a b =
+    cc (a.words_are, b.words_are, a.port_is.number.value, b.port_is.number.value, a.count_is.number.value, b.count_is.number.value)
+one_line words (line.Serve p n) (line.Gen m s) a b = cc (a.words_are, b.words_are)
+one_line words (line.Serve p n) line.Check a b = cc (a.words_are, b.words_are)
+one_line words (line.Serve p n) (line.Grain m) a b = cc (a.words_are, b.words_are)
+one_line words (line.Serve p n) line.Unknown a b = absurd (b.serve p n a)
+one_line words (line.Gen n s) line.Play a b = cc (a.words_are, b)
+one_line words (line.Gen n s) (line.Serve p m) a b = cc (a.words_are, b.words_are)
+one_line words (line.Gen n s) (line.Gen m t) a b =
+    cc (a.words_are, b.words_are, a.count_is.number.value, b.count_is.number.value, a.seed_is.value, b.seed_is.value)
+one_line words (line.Gen n s) line.Check a b = cc (a.words_are, b.words_are)
+one_line words (line.Gen n s) (line.Grain m) a b = let other : ◌≡◌ {A = ℕ} 101 114 = cc (a.words_are, b.words_are) in absurd (omega arith)
+one_line words (line.Gen n s) line.Unknown a b = absurd (b.gen n s a)
+one_line words line.Check line.Play a b = cc (a.words_are, b)
+one_line words line.Check (line.Serve p n) a b = cc (a.words_are, b.words_are)
+one_line words line.Check (line.Gen n s) a b = cc (a.words_are, b.words_are)
+one_line words line.Check line.Check a b = refl
+one_line words line.Check (line.Grain n) a b = cc (a.words_are, b.words_are)
+one_line words line.Check line.Unknown a b = absurd (b.check a)
+one_line words (line.Grain n) line.Play a b = cc (a.words_are, b)
+one_line words (line.Grain n) (line.Serve p m) a b = cc (a.words_are, b.words_are)
+one_line words (line.Grain n) (line.Gen m s) a b = let other : ◌≡◌ {A = ℕ} 114 101 = cc (a.words_are, b.words_are) in absurd (omega arith)
+one_line words (line.Grain n) line.Check a b = cc (a.words_are, b.words_are)
+one_line words (line.Grain n) (line.Grain m) a b = cc (a.words_are, b.words_are, a.count_is.number.value, b.count_is.number.value)
+one_line words (line.Grain n) line.Unknown a b = absurd (b.grain n a)
+one_line words line.Unknown line.Play a b = absurd (a.play b)
+one_line words line.Unknown (line.Serve p n) a b = absurd (a.serve p n b)
+one_line words line.Unknown (line.Gen n s) a b = absurd (a.gen n s b)
+one_line words line.Unknown line.Check a b = absurd (a.check b)
+one_line words line.Unknown (line.Grain n) a b = absurd (a.grain n b)
+one_line words line.Unknown line.Unknown a b = refl

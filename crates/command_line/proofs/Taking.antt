@@ -1,0 +1,177 @@
+-- The command takes the words of each line.
+use Rattle.std.proofs.Common.{◌≡◌, ◌≢◌, ◌∙◌, ℕ, Bool, true, false, List, [], ◌∷◌, None, map, codes, String, string_bytes, sym, subst, refl, eqb, length, lit<, ◌<◌}
+use Rattle.std.specs.List.{All, slice_index_or}
+use Rattle.std.specs.Str.{bytes_eq}
+use Rattle.std.specs.declared.alloc.Global.{Global}
+use Rattle.std.proofs.lemmas.Bool.{eqb-true}
+use Rattle.clap.specs.Faults.{defaults_fault, check_fault, fault_of, level_fault, settle_fault, step_fault, turn_fault, walk_fault, word_fault}
+use Rattle.clap.specs.Kinds.{Kinds, or_else}
+use Rattle.clap.specs.Lexer.{strip_byte}
+use Rattle.clap.specs.Simple.{App, Shape, built_leaf, inherited, marked_built, with_leaf_noted}
+use Rattle.clap.specs.Walk.{Held, Rule, Text, Walk, arg_by_index, finished, idle, nothing_held, settled, to_positional, value, walk, walk_from, walked, word_met}
+use Rattle.clap.proofs.OnLiterals.{clap_on_literals}
+use Rattle.command_line.specs.Program.{check, gen, grain, program, serve}
+use Rattle.command_line.specs.Words.{IsNoLine, IsPath}
+
+-- the word is no option
+pub record IsPlain (word : Text) : Type 0 where
+  pub first : strip_byte 45 word ≡ None
+  pub whole : bytes_eq word (45 ∷ 45 ∷ []) ≡ false
+
+no_test : (b : Bool) → (b ≡ true → ⊥) → b ≡ false
+no_test true h = absurd (h refl)
+no_test false h = refl
+
+pub plain : (word : Text) → IsPath word → IsPlain word
+plain [] path = record { first = refl; whole = refl }
+plain (x ∷ xs) path =
+    let other : eqb x 45 ≡ false = no_test (eqb x 45) (λ e. let same : x ≡ 45 = eqb-true x 45 e in path cc) in
+    record { first = rw other refl; whole = rw other refl }
+
+-- the walk between two words
+abbrev at_place : Held → ℕ → Walk
+at_place held place = record { held = held; waiting = idle; position = place; is_trailing = false; stopped = None }
+
+word_plain : (rules : List Rule) (place : ℕ) (word : Text) (held : Held) → IsPlain word → word_met rules [] false idle place word held ≡ (held, value)
+word_plain rules place word held is = rw (is.whole, is.first, is.first) refl
+
+word_walked : (rules : List Rule) (place : ℕ) (word : Text) (held : Held) → IsPlain word
+    → walked rules [] (at_place held place) word ≡ to_positional rules (arg_by_index rules place) word (at_place held place) held
+unfolding walked
+word_walked rules place word held is = rw (word_plain rules place word held is) refl
+
+word_turn : (shape : Shape) (place : ℕ) (word : Text) (held : Held) → IsPlain word → turn_fault shape [] (at_place held place) word ≡ step_fault shape place held value
+word_turn shape place word held is =
+    let none : word_fault shape [] false idle word held ≡ [] = rw (is.whole, is.first, is.first) refl in
+    (λ i. or_else (none i) (step_fault shape place (word_plain shape.rules place word held is i).0 (word_plain shape.rules place word held is i).1))
+
+-- a word on the way: its own fault, and then those of the words behind it
+walk_on : (shape : Shape) (place : ℕ) (word : Text) (held : Held) (words : List Text) → IsPlain word
+    → walk_fault shape [] (at_place held place) (word ∷ words)
+    ≡ or_else (step_fault shape place held value) (walk_fault shape [] (to_positional shape.rules (arg_by_index shape.rules place) word (at_place held place) held) words)
+unfolding walk_fault
+walk_on shape place word held words is =
+    (λ i. or_else (word_turn shape place word held is i) (walk_fault shape [] (word_walked shape.rules place word held is i) words))
+
+-- what is left to fail behind a walk
+abbrev rest_fault : Shape → Walk → Kinds
+rest_fault shape end = or_else (settle_fault shape.rules shape.args_override_self end.held)
+    (or_else (defaults_fault (settled shape.rules end.held).rows shape.rules) (check_fault shape (finished shape.rules end.held) false))
+
+-- a subcommand as the command builds it
+abbrev leaf : App → Shape
+leaf line = built_leaf (inherited (with_leaf_noted (marked_built program.top)) line.top)
+
+-- what is held behind the first words of a line
+abbrev behind : Shape → ℕ → Text → Held → Held
+behind shape place word held = (to_positional shape.rules (arg_by_index shape.rules place) word (at_place held place) held).held
+
+module _ (u : Text) (first : IsPlain u) where
+  check_walk : walk (leaf check).rules [] nothing_held (u ∷ []) ≡ at_place (behind (leaf check) 1 u nothing_held) 2
+  unfolding clap_on_literals
+  check_walk = word_walked (leaf check).rules 1 u nothing_held first
+
+  check_faults : walk_fault (leaf check) [] (walk_from nothing_held) (u ∷ []) ≡ []
+  unfolding clap_on_literals
+  check_faults = walk_on (leaf check) 1 u nothing_held [] first
+
+  check_leaf : level_fault (leaf check) [] nothing_held (u ∷ []) false [] ≡ []
+  unfolding clap_on_literals
+  check_leaf = (λ i. or_else (check_faults i) (rest_fault (leaf check) (check_walk i)))
+
+  pub takes_check : fault_of program (codes "check" ∷ u ∷ []) ≡ []
+  unfolding clap_on_literals
+  takes_check = (λ i. or_else (check_leaf i) [])
+
+module _ (u v : Text) (first : IsPlain u) (second : IsPlain v) where
+  abbrev gen_one : Held
+  gen_one = behind (leaf gen) 1 u nothing_held
+
+  gen_walk : walk (leaf gen).rules [] nothing_held (u ∷ v ∷ []) ≡ at_place (behind (leaf gen) 2 v gen_one) 3
+  unfolding clap_on_literals
+  gen_walk = (λ i. walked (leaf gen).rules [] (word_walked (leaf gen).rules 1 u nothing_held first i) v) ∙ word_walked (leaf gen).rules 2 v gen_one second
+
+  gen_faults : walk_fault (leaf gen) [] (walk_from nothing_held) (u ∷ v ∷ []) ≡ []
+  unfolding clap_on_literals
+  gen_faults = walk_on (leaf gen) 1 u nothing_held (v ∷ []) first ∙ walk_on (leaf gen) 2 v gen_one [] second
+
+  gen_leaf : level_fault (leaf gen) [] nothing_held (u ∷ v ∷ []) false [] ≡ []
+  unfolding clap_on_literals
+  gen_leaf = (λ i. or_else (gen_faults i) (rest_fault (leaf gen) (gen_walk i)))
+
+  pub takes_gen : fault_of program (codes "gen" ∷ u ∷ v ∷ []) ≡ []
+  unfolding clap_on_literals
+  takes_gen = (λ i. or_else (gen_leaf i) [])
+
+module _ (u v : Text) (first : IsPlain u) (second : IsPlain v) where
+  abbrev grain_one : Held
+  grain_one = behind (leaf grain) 1 u nothing_held
+
+  grain_walk : walk (leaf grain).rules [] nothing_held (u ∷ v ∷ []) ≡ at_place (behind (leaf grain) 2 v grain_one) 3
+  unfolding clap_on_literals
+  grain_walk = (λ i. walked (leaf grain).rules [] (word_walked (leaf grain).rules 1 u nothing_held first i) v) ∙ word_walked (leaf grain).rules 2 v grain_one second
+
+  grain_faults : walk_fault (leaf grain) [] (walk_from nothing_held) (u ∷ v ∷ []) ≡ []
+  unfolding clap_on_literals
+  grain_faults = walk_on (leaf grain) 1 u nothing_held (v ∷ []) first ∙ walk_on (leaf grain) 2 v grain_one [] second
+
+  grain_leaf : level_fault (leaf grain) [] nothing_held (u ∷ v ∷ []) false [] ≡ []
+  unfolding clap_on_literals
+  grain_leaf = (λ i. or_else (grain_faults i) (rest_fault (leaf grain) (grain_walk i)))
+
+  pub takes_grain : fault_of program (codes "grain" ∷ u ∷ v ∷ []) ≡ []
+  unfolding clap_on_literals
+  takes_grain = (λ i. or_else (grain_leaf i) [])
+
+module _ (u v w : Text) (first : IsPlain u) (second : IsPlain v) (third : IsPlain w) where
+  abbrev serve_one : Held
+  serve_one = behind (leaf serve) 1 u nothing_held
+
+  abbrev serve_two : Held
+  serve_two = behind (leaf serve) 2 v serve_one
+
+  serve_walk : walk (leaf serve).rules [] nothing_held (u ∷ v ∷ w ∷ []) ≡ at_place (behind (leaf serve) 3 w serve_two) 4
+  unfolding clap_on_literals
+  serve_walk = (λ i. walked (leaf serve).rules [] (walked (leaf serve).rules [] (word_walked (leaf serve).rules 1 u nothing_held first i) v) w)
+      ∙ (λ i. walked (leaf serve).rules [] (word_walked (leaf serve).rules 2 v serve_one second i) w) ∙ word_walked (leaf serve).rules 3 w serve_two third
+
+  serve_faults : walk_fault (leaf serve) [] (walk_from nothing_held) (u ∷ v ∷ w ∷ []) ≡ []
+  unfolding clap_on_literals
+  serve_faults = walk_on (leaf serve) 1 u nothing_held (v ∷ w ∷ []) first ∙ walk_on (leaf serve) 2 v serve_one (w ∷ []) second ∙ walk_on (leaf serve) 3 w serve_two [] third
+
+  serve_leaf : level_fault (leaf serve) [] nothing_held (u ∷ v ∷ w ∷ []) false [] ≡ []
+  unfolding clap_on_literals
+  serve_leaf = (λ i. or_else (serve_faults i) (rest_fault (leaf serve) (serve_walk i)))
+
+  pub takes_serve : fault_of program (codes "serve" ∷ u ∷ v ∷ w ∷ []) ≡ []
+  unfolding clap_on_literals
+  takes_serve = (λ i. or_else (serve_leaf i) [])
+
+pub takes_play : fault_of program (codes "play" ∷ []) ≡ []
+unfolding clap_on_literals
+takes_play = refl
+
+-- words without an option that the command doesn't take are no line
+module _ (words : List (String Global)) (paths : All IsPath (map string_bytes words)) (fault : fault_of program (map string_bytes words) ≢ []) where
+  abbrev Taken : List Text → Type 0
+  Taken texts = fault_of program texts ≡ []
+
+  word_at : (texts : List Text) (place : ℕ) → map string_bytes words ≡ texts → place < length texts → IsPlain (slice_index_or texts place [])
+  word_at texts place are within = plain (slice_index_or texts place []) (subst (All IsPath) are paths place [] within)
+
+  pub no_line_refused : IsNoLine words
+  no_line_refused = record {
+    play = λ is. fault (subst Taken (sym is) takes_play);
+    serve = λ port count is. fault (subst Taken (sym is.words_are) (takes_serve is.file is.port_digits is.count_digits
+        (word_at (codes "serve" ∷ is.file ∷ is.port_digits ∷ is.count_digits ∷ []) 1 is.words_are (lit< tt))
+        (word_at (codes "serve" ∷ is.file ∷ is.port_digits ∷ is.count_digits ∷ []) 2 is.words_are (lit< tt))
+        (word_at (codes "serve" ∷ is.file ∷ is.port_digits ∷ is.count_digits ∷ []) 3 is.words_are (lit< tt))));
+    gen = λ count seed is. fault (subst Taken (sym is.words_are) (takes_gen is.count_digits is.seed_digits
+        (word_at (codes "gen" ∷ is.count_digits ∷ is.seed_digits ∷ []) 1 is.words_are (lit< tt))
+        (word_at (codes "gen" ∷ is.count_digits ∷ is.seed_digits ∷ []) 2 is.words_are (lit< tt))));
+    check = λ is. fault (subst Taken (sym is.words_are) (takes_check is.file
+        (word_at (codes "check" ∷ is.file ∷ []) 1 is.words_are (lit< tt))));
+    grain = λ count is. fault (subst Taken (sym is.words_are) (takes_grain is.socket is.count_digits
+        (word_at (codes "grain" ∷ is.socket ∷ is.count_digits ∷ []) 1 is.words_are (lit< tt))
+        (word_at (codes "grain" ∷ is.socket ∷ is.count_digits ∷ []) 2 is.words_are (lit< tt))));
+  }

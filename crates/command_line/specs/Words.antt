@@ -1,0 +1,79 @@
+-- The lines that the program's words may be.
+use Rattle.std.specs.Prelude.{◌≡◌, ◌≤◌, ℕ, List, [], ◌∷◌, Some, length, map, slice_get, codes, String, string_bytes}
+use Rattle.std.specs.Str.Parse.{IsNumeral, digits_value}
+use Rattle.std.specs.declared.alloc.Global.{Global}
+use Rattle.command_line.specs.declared.line.Line.{Line}
+use Rattle.command_line.specs.declared.line.Line.TheVariants as line
+
+-- 1 to 10 decimal digits, leading zeros among them, and their number
+pub record IsNumber (digits : List ℕ) (number : ℕ) : Type 0 where
+  pub numeral : IsNumeral 10 digits
+  pub few : length digits ≤ 10
+  pub value : number ≡ digits_value 10 digits
+
+-- such digits of a number from 1 to a limit
+pub record IsCount (limit : ℕ) (digits : List ℕ) (count : ℕ) : Type 0 where
+  pub number : IsNumber digits count
+  pub some : 1 ≤ count
+  pub within : count ≤ limit
+
+-- a path: a word that doesn't begin with `-`
+abbrev pub IsPath : List ℕ → Type 0
+IsPath word = slice_get word 0 ≡ Some 45 → ⊥
+
+-- the one word `play`
+abbrev pub IsPlay : List (String Global) → Type 0
+IsPlay words = map string_bytes words ≡ codes "play" ∷ []
+
+-- The words `serve FILE PORT COUNT`.
+pub record IsServe (words : List (String Global)) (port count : ℕ) : Type 0 where
+  pub file : List ℕ
+  pub port_digits : List ℕ
+  pub count_digits : List ℕ
+  pub words_are : map string_bytes words ≡ codes "serve" ∷ file ∷ port_digits ∷ count_digits ∷ []
+  pub path : IsPath file
+  pub port_is : IsCount 65535 port_digits port
+  pub count_is : IsCount 1000000 count_digits count
+
+-- The words `gen COUNT SEED`.
+pub record IsGen (words : List (String Global)) (count seed : ℕ) : Type 0 where
+  pub count_digits : List ℕ
+  pub seed_digits : List ℕ
+  pub words_are : map string_bytes words ≡ codes "gen" ∷ count_digits ∷ seed_digits ∷ []
+  pub count_is : IsCount 100000 count_digits count
+  pub seed_is : IsNumber seed_digits seed
+
+-- The words `check FILE`.
+pub record IsCheck (words : List (String Global)) : Type 0 where
+  pub file : List ℕ
+  pub words_are : map string_bytes words ≡ codes "check" ∷ file ∷ []
+  pub path : IsPath file
+
+-- The words `grain SOCKET COUNT`.
+pub record IsGrain (words : List (String Global)) (count : ℕ) : Type 0 where
+  pub socket : List ℕ
+  pub count_digits : List ℕ
+  pub words_are : map string_bytes words ≡ codes "grain" ∷ socket ∷ count_digits ∷ []
+  pub path : IsPath socket
+  pub count_is : IsCount 1000000000 count_digits count
+
+-- The words are none of the lines.
+pub record IsNoLine (words : List (String Global)) : Type 0 where
+  pub play : IsPlay words → ⊥
+  pub serve : (port count : ℕ) → IsServe words port count → ⊥
+  pub gen : (count seed : ℕ) → IsGen words count seed → ⊥
+  pub check : IsCheck words → ⊥
+  pub grain : (count : ℕ) → IsGrain words count → ⊥
+
+-- the line that words are
+abbrev pub IsLine : List (String Global) → Line → Type 0
+IsLine words line.Play = IsPlay words
+IsLine words (line.Serve port count) = IsServe words port count
+IsLine words (line.Gen count seed) = IsGen words count seed
+IsLine words line.Check = IsCheck words
+IsLine words (line.Grain count) = IsGrain words count
+IsLine words line.Unknown = IsNoLine words
+
+-- words are one line at most
+abbrev pub IsOne : List (String Global) → Type 0
+IsOne words = (one other : Line) → IsLine words one → IsLine words other → one ≡ other

@@ -1,0 +1,8 @@
+//! Reads the program's words.
+#![tactic(auto)]
+
+mod command;
+mod line;
+mod number;
+
+pub use line::{Line, line_of};
