@@ -17,6 +17,7 @@ use Rattle.cloud_serve.specs.declared.serve.End.{End}
 use Rattle.cloud_serve.specs.declared.serve.End.TheVariants as end
 use Rattle.cloud_serve.specs.Acts.{added_by}
 use Rattle.cloud_serve.specs.Served.{Served, Stands, limit, acts_in}
+use Rattle.desk_orders.specs.Sites.{Law}
 use Rattle.hub_core.specs.Sharing.{book_of}
 use Rattle.hub_core.specs.Storing.{IsStored}
 use Rattle.small_book.specs.SmallBook.{small_book}
@@ -41,25 +42,25 @@ status_by (end.CutOff n) = 6
 status_by end.Memory = 7
 status_by end.Spent = 8
 
--- One connection was served from the small book, over the program's input, output, link, secrets and spawner: the headline. The history
+-- One connection was served from the small book, by the law of its sites, over the program's input, output, link, secrets and spawner: the headline. The history
 -- that it ends with is what the orders of its turns added, and nothing else, and the keeper has the tables after it. The door isn't
 -- asked.
-pub record ServesPlay (old new : Outside) (status : ℕ) : Type 0 where
+pub record ServesPlay (law : Law) (old new : Outside) (status : ℕ) : Type 0 where
   pub end : End
   pub places : List ℕ
   pub served : ℕ
   pub forwarded : ℕ
   pub history : List Event
-  pub headline : Served (record { inlet = old.inlet; outlet = old.outlet; line = old.line; book = book_of small_book [] old.drawer (record { spawns = old.spawns; keeping = old.keeping }) })
-      (record { inlet = new.inlet; outlet = new.outlet; line = new.line; book = book_of small_book history new.drawer (record { spawns = new.spawns; keeping = new.keeping }) }) end 0 places served forwarded
+  pub headline : Served (record { inlet = old.inlet; outlet = old.outlet; line = old.line; book = book_of law small_book [] old.drawer (record { spawns = old.spawns; keeping = old.keeping }) })
+      (record { inlet = new.inlet; outlet = new.outlet; line = new.line; book = book_of law small_book history new.drawer (record { spawns = new.spawns; keeping = new.keeping }) }) end 0 places served forwarded
   pub written : history ≡ added_by (flat_map (λ turn. turn.acts) headline.turns ++ acts_in headline.hand)
   pub stored : IsStored new.keeping (replay small_book history).tables
   pub status_is : status ≡ status_by end
   pub doorway_is : new.doorway ≡ old.doorway
 
 -- what `play` does, or want of memory before the connection, and then nothing was done
-abbrev pub Plays : Outside → Outside → ℕ → Type 0
-Plays old new status = ServesPlay old new status ⊎ ((status ≡ 7) × (new ≡ old))
+abbrev pub Plays : Law → Outside → Outside → ℕ → Type 0
+Plays law old new status = ServesPlay law old new status ⊎ ((status ≡ 7) × (new ≡ old))
 
 -- the status that the end of a stream asks for
 abbrev pub status_of_stream : Ending → ℕ

@@ -15,6 +15,7 @@ use Rattle.cloud_serve.specs.Effects.{Grew, failures, AskedOf}
 
 pub later_trans : (old mid new : Book) → Later old mid → Later mid new → Later old new
 later_trans old mid new a b = record {
+  law = b.law ∙ a.law;
   start = b.start ∙ a.start;
   more = a.more ++ b.more;
   seen = b.seen ∙ ap (λ (xs : List Event). xs ++ b.more) a.seen ∙ append_assoc old.seen a.more b.more;
@@ -24,7 +25,7 @@ later_trans old mid new a b = record {
 }
 
 pub later_refl : (book : Book) → Later book book
-later_refl book = record { start = refl; more = []; seen = sym (append-nil book.seen); store = omega arith; secrets = omega arith; starts = omega arith }
+later_refl book = record { law = refl; start = refl; more = []; seen = sym (append-nil book.seen); store = omega arith; secrets = omega arith; starts = omega arith }
 
 pub later_longer : (old new : Book) → Later old new → length old.seen ≤ length new.seen
 later_longer old new a = omega (arith, ap length a.seen, length-append old.seen a.more)

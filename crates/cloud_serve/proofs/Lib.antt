@@ -3,5 +3,4 @@ pub mod Orders
 pub mod Taking
 pub mod Serving
 pub mod Runs
-pub mod Sites
 pub mod Stated

@@ -12,7 +12,8 @@ use Rattle.desk_orders.specs.declared.reply.Reply.{Reply}
 use Rattle.desk_orders.specs.Answers.{IsAnswer}
 use Rattle.desk_orders.specs.Commands.{Asked}
 use Rattle.desk_orders.specs.Secrets.{DrawsAll}
-use Rattle.hub_core.specs.Book.{Book, Later, TakesNone, Placed, IsCounted, Ordered}
+use Rattle.desk_orders.specs.Sites.{Law}
+use Rattle.hub_core.specs.Book.{Book, Later, TakesNone, IsFoundFor, Placed, IsCounted, Ordered}
 use Rattle.cloud_serve.specs.Acts.{Act, added_by, drawn_by, is_store, is_secrets, is_start, store_failures, secret_failures, start_failures}
 use Rattle.cloud_serve.specs.Effects.{Grew, OrderedOf}
 use Rattle.cloud_serve.proofs.Growth.{later_trans, later_refl, later_longer, grew_trans}
@@ -49,6 +50,10 @@ ordered_none old new none = record {
   grows = omega (arith, later_longer old new none.later);
   alone = λ same. none.later.seen ∙ ap (λ (xs : List Event). old.seen ++ xs) (length_none none.later.more (omega (arith, same, ap length none.later.seen, length-append old.seen none.later.more)));
 }
+
+-- nothing was taken twice
+pub none_trans : (old mid new : Book) → TakesNone old mid → TakesNone mid new → TakesNone old new
+none_trans old mid new a b = record { later = later_trans old mid new a.later b.later; accepted = b.accepted ∙ a.accepted; coming = b.coming ∙ a.coming }
 
 pub ordered_refl : (book : Book) → OrderedOf book book []
 ordered_refl book = ordered_none book book (record { later = later_refl book; accepted = refl; coming = refl })
@@ -139,7 +144,11 @@ placed_later old new low lower order place answer drawn added later less p = rec
   seen = later.seen ∙ ap (λ (xs : List Event). xs ++ later.more) p.seen ∙ append_assoc (p.before ++ added) p.rest later.more;
   place_is = p.place_is;
   low_is = omega (arith, p.low_is);
-  lawful = subst (λ (start : State). IsAnswer (replay start p.before) place order answer drawn added) (sym later.start) p.lawful;
+  found = p.found;
+  found_is = subst (λ (law : Law). IsFoundFor law (replay new.start p.before) order answer p.found) (sym later.law)
+      (subst (λ (start : State). IsFoundFor old.law (replay start p.before) order answer p.found) (sym later.start) p.found_is);
+  lawful = subst (λ (law : Law). IsAnswer law (replay new.start p.before) place p.found order answer drawn added) (sym later.law)
+      (subst (λ (start : State). IsAnswer old.law (replay start p.before) place p.found order answer drawn added) (sym later.start) p.lawful);
 }
 
 pub placed_within : (book : Book) (low : ℕ) (order : Asked) (place : ℕ) (answer : Result Reply OrderFault) (drawn : List (List ℕ)) (added : List Event) → Placed low book order place answer drawn added → place + length added ≤ length book.seen

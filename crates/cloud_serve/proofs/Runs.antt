@@ -18,7 +18,9 @@ use Rattle.hub_core.specs.Book.{Book, Later}
 use Rattle.cloud_serve.specs.Acts.{Act}
 use Rattle.cloud_serve.specs.Effects.{AskedOf, OrderedOf}
 use Rattle.desk_orders.specs.Commands.{Asked}
-use Rattle.cloud_serve.specs.Turns.{Turn, IsMade, MakesOne, MakesBoth, EndsWith, IsLawfulBy, IsLawful, AreLawful, past}
+use Rattle.desk_orders.specs.Sites.{Law}
+use Rattle.host_base.specs.declared.key.Key.{Key}
+use Rattle.cloud_serve.specs.Turns.{Turn, Follows, IsKeyed, passed_to, IsMade, MakesOne, MakesBoth, EndsWith, IsLawfulBy, IsLawful, AreLawful, past}
 use Rattle.cloud_serve.specs.Served.{World, InHand, Nothing, Refusing, Answering, Broken, NoRoom, request_in, asked_in, acts_in, HandAt, CauseAt, IsOver, StreamAt, Stands, Complete, limit, Splits, Served}
 use Rattle.cloud_serve.specs.Serving.{ClosesWith, OneMore, Stops, SoFar}
 use Rattle.reply_texts.specs.Texts.{memory_text}
@@ -48,14 +50,23 @@ both_later old new later low first second turn m = record {
 made_within : (book : Book) (low : ℕ) (order : Asked) (act : Act) (turn : Turn) → IsMade book low order act → EndsWith act turn → turn.reached ≤ length book.seen
 made_within book low order act turn m ends = omega (arith, ends.reached_is, placed_within book low order act.place act.answer act.drawn act.added m.placed)
 
+keyed_later : (old new : Book) → Later old new → (low : ℕ) (key : Key) (passed : Request) (turn : Turn) → IsKeyed old low key passed turn → IsKeyed new low key passed turn
+keyed_later old new later low key passed turn is = record {
+  verdict = is.verdict;
+  judged = judged_later old new low low key turn.place is.verdict later (omega arith) is.judged;
+  reached_is = is.reached_is;
+  unordered = is.unordered;
+  follows = subst (λ (law : Law). Follows law is.verdict passed turn) (sym later.law) is.follows;
+}
+
 -- what was lawful stays so when more is seen
 lawful_later : (r : Showing) (old new : Book) → Later old new → (low last : ℕ) (turn : Turn) → IsLawfulBy r old low last turn → IsLawfulBy r new low last turn
 lawful_later showing.NoRoute old new later low last turn is = is
 lawful_later showing.NoCredential old new later low last turn is = is
 lawful_later (showing.BadBody field) old new later low last turn is = is
 lawful_later (showing.BadManifest bad) old new later low last turn is = is
-lawful_later (showing.Keyed key) old new later low last turn is =
-    record { verdict = is.verdict; judged = judged_later old new low low key turn.place is.verdict later (omega arith) is.judged; reached_is = is.reached_is; unordered = is.unordered; follows = is.follows }
+lawful_later (showing.Keyed key) old new later low last turn is = keyed_later old new later low key turn.request turn is
+lawful_later (showing.Used key target) old new later low last turn is = keyed_later old new later low key (passed_to target turn.request) turn is
 lawful_later (showing.Wants order) old new later low last turn is = (makes_later old new later low order turn is.0, is.1)
 lawful_later (showing.Opens first second) old new later low last turn (inl is) = inl (makes_later old new later low first turn is.0, is.1, is.2)
 lawful_later (showing.Opens first second) old new later low last turn (inr is) = inr (both_later old new later low first second turn is.0, is.1)
@@ -69,6 +80,7 @@ reached_within (showing.Wants order) book low last turn less is = made_within bo
 reached_within (showing.Opens first second) book low last turn less (inl is) = made_within book low first is.0.act turn is.0.made is.0.ends
 reached_within (showing.Opens first second) book low last turn less (inr is) = made_within book (past is.0.before) second is.0.act turn is.0.made is.0.ends
 reached_within (showing.Keyed key) book low last turn less is = omega (arith, is.reached_is, judged_within book low key turn.place is.verdict is.judged)
+reached_within (showing.Used key target) book low last turn less is = omega (arith, is.reached_is, judged_within book low key turn.place is.verdict is.judged)
 
 turns_later : (old new : Book) → Later old new → (low last : ℕ) (turns : List Turn) (high place : ℕ) → AreLawful old low last turns high place → AreLawful new low last turns high place
 turns_later old new later low last [] high place are = are

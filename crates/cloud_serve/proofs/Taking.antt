@@ -1,5 +1,5 @@
 -- What taking a turn comes to, over plain values.
-use Rattle.std.proofs.Common.{◌≡◌, ℕ, ◌+◌, ◌≤◌, Bool, true, false, List, [], ◌∷◌, Option, Result, Ok, Err, IfOk, length, codes, refl, ◌∙◌, ap, subst, arith, inl, inr}
+use Rattle.std.proofs.Common.{◌≡◌, ℕ, ◌+◌, ◌≤◌, Bool, true, false, List, [], ◌∷◌, Option, Result, Ok, Err, IfOk, length, codes, refl, sym, ◌∙◌, ap, subst, arith, inl, inr}
 use Rattle.host_base.specs.declared.bytes.Memory.{Memory}
 use Rattle.host_base.specs.declared.ids.GrainId.{GrainId}
 use Rattle.host_base.specs.declared.ids.RunId.{RunId}
@@ -18,7 +18,8 @@ use Rattle.share_graph.specs.declared.event.Event.{Event}
 use Rattle.desk_orders.specs.declared.reply.OrderFault.{OrderFault}
 use Rattle.desk_orders.specs.declared.reply.Reply.{Reply}
 use Rattle.desk_orders.specs.declared.reply.Reply.TheVariants as reply
-use Rattle.desk_orders.specs.Answers.{IsAnswer}
+use Rattle.desk_orders.specs.Sites.{Law}
+use Rattle.hub_core.specs.Giving.{Gives}
 use Rattle.desk_orders.specs.Commands.{Asked}
 use Rattle.reply_texts.specs.declared.faults.OwnFault.TheVariants as own
 use Rattle.reply_texts.specs.Faults.{fault_text}
@@ -28,13 +29,13 @@ use Rattle.share_graph.specs.declared.refusal.Refusal.TheVariants as refusal
 use Rattle.share_graph.specs.declared.state.State.{State}
 use Rattle.hub_core.specs.Book.{Book, Later, TakesNone, Judged, Ordered}
 use Rattle.cloud_serve.specs.Routes.{Shows}
-use Rattle.cloud_serve.specs.Taking.{AsksBy, Asks, ForwardBy, Forwards, Answers, BreaksOff, Takes, IsNoList, answered_at}
+use Rattle.cloud_serve.specs.Taking.{AsksBy, Asks, ForwardBy, Forwards, Answers, BreaksOff, ShowsKey, SiteBy, Takes, answered_at}
 use Rattle.reply_texts.specs.Texts.{wants_head, own_text, denial_text}
 use Rattle.cloud_serve.specs.Acts.{Act}
 use Rattle.cloud_serve.specs.Effects.{OrderedOf}
-use Rattle.cloud_serve.specs.Turns.{Turn, AnswersBack, AnswersOrder, IsMade, MakesOne, MakesBoth, IsLawfulBy, IsBegun, is_done, past}
+use Rattle.cloud_serve.specs.Turns.{Turn, AnswersBack, AnswersOrder, IsMade, MakesOne, MakesBoth, IsKeyed, IsLawfulBy, IsLawful, IsAskedOnce, IsBegun, is_done, passed_to, past}
 use Rattle.cloud_serve.proofs.Growth.{later_refl, asked_none, judged_later}
-use Rattle.cloud_serve.proofs.Orders.{ordered_none, ordered_refl, ordered_one, ordered_trans, act_of, placed_later, placed_within}
+use Rattle.cloud_serve.proofs.Orders.{none_trans, ordered_none, ordered_refl, ordered_one, ordered_trans, act_of, placed_later, placed_within}
 
 -- one text was asked, and what came back is answered, or memory ran out
 pub asks_by : (run : RunId) (grain : GrainId) (text : List ℕ) (head_only : Bool) (back : Option (List ℕ)) (result : Result (List ℕ) Memory) → IfOk result (λ reply. AnswersBack head_only back reply)
@@ -43,25 +44,24 @@ asks_by run grain text head_only back (Ok reply) is = (back, refl, is)
 asks_by run grain text head_only back (Err m) is = inr (back, refl)
 
 -- asking the text of a request is forwarding it
-forward_by : (permit : Permit) (request : Request) (text : List ℕ) (head_only : Bool) (result : Result (List ℕ) Memory) (asked : List Ask) → text ≡ grain_text permit request → head_only ≡ wants_head request
-    → AsksBy permit.run permit.grain text head_only result asked → ForwardBy permit request result asked
-forward_by permit request text head_only (Ok reply) asked is head a =
-    (a.0, a.1 ∙ ap (λ (xs : List ℕ). record { run = permit.run; grain = permit.grain; text = xs; back = a.0 } ∷ []) is, subst (λ (h : Bool). AnswersBack h a.0 reply) head a.2)
-forward_by permit request text head_only (Err m) asked is head (inl none) = inl none
-forward_by permit request text head_only (Err m) asked is head (inr one) = inr (one.0, one.1 ∙ ap (λ (xs : List ℕ). record { run = permit.run; grain = permit.grain; text = xs; back = one.0 } ∷ []) is)
+forward_by : (permit : Permit) (passed : Request) (text : List ℕ) (head_only : Bool) (result : Result (List ℕ) Memory) (asked : List Ask) → text ≡ grain_text permit passed
+    → AsksBy permit.run permit.grain text head_only result asked → ForwardBy permit passed head_only result asked
+forward_by permit passed text head_only (Ok reply) asked is a = (a.0, a.1 ∙ ap (λ (xs : List ℕ). record { run = permit.run; grain = permit.grain; text = xs; back = a.0 } ∷ []) is, a.2)
+forward_by permit passed text head_only (Err m) asked is (inl none) = inl none
+forward_by permit passed text head_only (Err m) asked is (inr one) = inr (one.0, one.1 ∙ ap (λ (xs : List ℕ). record { run = permit.run; grain = permit.grain; text = xs; back = one.0 } ∷ []) is)
 
-pub forwards : (before after : Line) (counted counts : ℕ) (permit : Permit) (request : Request) (text : List ℕ) (head_only : Bool) (result : Result (List ℕ) Memory) → text ≡ grain_text permit request → head_only ≡ wants_head request
-    → Asks before after counted counts permit.run permit.grain text head_only result → Forwards before after counted counts permit request result
-forwards before after counted counts permit request text head_only result is head a = record {
+pub forwards : (before after : Line) (counted counts : ℕ) (permit : Permit) (passed : Request) (text : List ℕ) (head_only : Bool) (result : Result (List ℕ) Memory) → text ≡ grain_text permit passed
+    → Asks before after counted counts permit.run permit.grain text head_only result → Forwards before after counted counts permit passed head_only result
+forwards before after counted counts permit passed text head_only result is a = record {
   asked = a.asked;
   asked_of = a.asked_of;
   counts_is = a.counts_is;
-  forwarded = forward_by permit request text head_only result a.asked is head a.answered;
+  forwarded = forward_by permit passed text head_only result a.asked is a.answered;
 }
 
 -- no memory for the text: nothing was asked
-pub forwards_none : (line : Line) (counted : ℕ) (permit : Permit) (request : Request) (m : Memory) → Forwards line line counted counted permit request (Err m)
-forwards_none line counted permit request m = record { asked = []; asked_of = asked_none line; counts_is = omega arith; forwarded = inl refl }
+pub forwards_none : (line : Line) (counted : ℕ) (permit : Permit) (passed : Request) (head_only : Bool) (m : Memory) → Forwards line line counted counted permit passed head_only (Err m)
+forwards_none line counted permit passed head_only m = record { asked = []; asked_of = asked_none line; counts_is = omega arith; forwarded = inl refl }
 
 -- a turn on which nothing was done
 abbrev nothing : ℕ → Request → Turn
@@ -122,56 +122,90 @@ answers_bad_manifest book line counted low last request bad (Ok text) r is =
     answers_plain text book line counted low last request (showing.BadManifest bad) r (record { place_is = refl; reached_is = refl; unasked = refl; unordered = refl; answer_is = is })
 answers_bad_manifest book line counted low last request bad (Err m) r is = breaks_at_once book line counted low request
 
--- the verdict was a denial
-pub answers_denied : (old new : Book) (line : Line) (counted low last : ℕ) (request : Request) (key : Key) (place : ℕ) (reason : Denial) (text : List ℕ) → low ≤ length old.seen → Shows request (showing.Keyed key)
-    → TakesNone old new → Judged (length old.seen) new key place (verdict.Deny reason) → text ≡ denial_text reason (wants_head request) → Answers old new line line counted counted low last request place text
-answers_denied old new line counted low last request key place reason text less r none judged is =
-    let turn : Turn = record { request = request; place = place; reached = place; asked = []; acts = []; answer = text } in
-    record {
-      turn = turn;
-      request_is = refl;
-      place_is = refl;
-      answer_is = refl;
-      lawful = (showing.Keyed key, r, record { verdict = verdict.Deny reason; judged = judged_later new new (length old.seen) low key place (verdict.Deny reason) (later_refl new) less judged; reached_is = refl; unordered = refl; follows = (refl, is) });
-      asked_of = asked_none line;
-      counts_is = omega arith;
-      ordered_of = ordered_none old new none;
-    }
+-- A request that shows a key is answered lawfully by the verdict on it.
+lawful_by : (book : Book) (low last : ℕ) (request : Request) (key : Key) (passed : Request) (turn : Turn) → ShowsKey request key passed → turn.request ≡ request → IsKeyed book low key passed turn → IsLawful book low last turn
+lawful_by book low last request key passed turn (inl (r, same)) is keyed =
+    (showing.Keyed key, subst (λ (x : Request). Shows x (showing.Keyed key)) (sym is) r, subst (λ (x : Request). IsKeyed book low key x turn) (same ∙ sym is) keyed)
+lawful_by book low last request key passed turn (inr (target, r, same)) is keyed =
+    (showing.Used key target, subst (λ (x : Request). Shows x (showing.Used key target)) (sym is) r, subst (λ (x : Request). IsKeyed book low key x turn) (same ∙ ap (passed_to target) (sym is)) keyed)
 
--- the request went through, and was answered
-pub answers_forwarded : (old new : Book) (before after : Line) (counted counts low last : ℕ) (request : Request) (key : Key) (place : ℕ) (permit : Permit) (text : List ℕ) → low ≤ length old.seen → Shows request (showing.Keyed key)
-    → TakesNone old new → Judged (length old.seen) new key place (verdict.Forward permit) → Forwards before after counted counts permit request (Ok text) → Answers old new before after counted counts low last request place text
-answers_forwarded old new before after counted counts low last request key place permit text less r none judged f =
-    let turn : Turn = record { request = request; place = place; reached = place; asked = f.asked; acts = []; answer = text } in
-    record {
-      turn = turn;
-      request_is = refl;
-      place_is = refl;
-      answer_is = refl;
-      lawful = (showing.Keyed key, r, record { verdict = verdict.Forward permit; judged = judged_later new new (length old.seen) low key place (verdict.Forward permit) (later_refl new) less judged; reached_is = refl; unordered = refl; follows = f.forwarded });
-      asked_of = f.asked_of;
-      counts_is = f.counts_is;
-      ordered_of = ordered_none old new none;
-    }
+begun_by : (book : Book) (low : ℕ) (request : Request) (key : Key) (passed : Request) (turn : Turn) → ShowsKey request key passed → turn.request ≡ request → IsAskedOnce book low key passed turn → IsBegun book low turn
+begun_by book low request key passed turn (inl (r, same)) is once =
+    inr (showing.Keyed key, subst (λ (x : Request). Shows x (showing.Keyed key)) (sym is) r, subst (λ (x : Request). IsAskedOnce book low key x turn) (same ∙ sym is) once)
+begun_by book low request key passed turn (inr (target, r, same)) is once =
+    inr (showing.Used key target, subst (λ (x : Request). Shows x (showing.Used key target)) (sym is) r, subst (λ (x : Request). IsAskedOnce book low key x turn) (same ∙ ap (passed_to target) (sym is)) once)
 
-begun_ask : (book : Book) (low : ℕ) (request : Request) (key : Key) (place : ℕ) (permit : Permit) (m : Memory) (asked : List Ask) → Shows request (showing.Keyed key) → Judged low book key place (verdict.Forward permit) → ForwardBy permit request (Err m) asked
-    → IsBegun book low (record { request = request; place = place; reached = place; asked = asked; acts = []; answer = [] })
-begun_ask book low request key place permit m asked r judged (inl none) = inl (none, refl)
-begun_ask book low request key place permit m asked r judged (inr one) = inr (showing.Keyed key, r, (permit, one.0, judged, one.1, refl))
+module _ (low last : ℕ) (request : Request) (key : Key) (passed : Request) (shows : ShowsKey request key passed) (place : ℕ) where
+  -- a turn on the verdict at the place
+  abbrev turn_on : List Ask → List ℕ → Turn
+  turn_on asked text = record { request = request; place = place; reached = place; asked = asked; acts = []; answer = text }
 
--- the request went through, and memory ran out
-pub breaks_forwarded : (old new : Book) (before after : Line) (counted counts low : ℕ) (request : Request) (key : Key) (place : ℕ) (permit : Permit) (m : Memory) → low ≤ length old.seen → Shows request (showing.Keyed key)
-    → TakesNone old new → Judged (length old.seen) new key place (verdict.Forward permit) → Forwards before after counted counts permit request (Err m) → BreaksOff old new before after counted counts low request
-breaks_forwarded old new before after counted counts low request key place permit m less r none judged f =
-    let turn : Turn = record { request = request; place = place; reached = place; asked = f.asked; acts = []; answer = [] } in
-    record {
-      turn = turn;
-      request_is = refl;
-      begun = begun_ask new low request key place permit m f.asked r (judged_later new new (length old.seen) low key place (verdict.Forward permit) (later_refl new) less judged) f.forwarded;
-      asked_of = f.asked_of;
-      counts_is = f.counts_is;
-      ordered_of = ordered_none old new none;
-    }
+  -- the verdict was a denial
+  pub answers_denied : (old new : Book) (line : Line) (counted : ℕ) (reason : Denial) (text : List ℕ) → low ≤ length old.seen
+      → TakesNone old new → Judged (length old.seen) new key place (verdict.Deny reason) → text ≡ denial_text reason (wants_head request) → Answers old new line line counted counted low last request place text
+  answers_denied old new line counted reason text less none judged is = record {
+    turn = turn_on [] text;
+    request_is = refl;
+    place_is = refl;
+    answer_is = refl;
+    lawful = lawful_by new low last request key passed (turn_on [] text) shows refl
+        (record { verdict = verdict.Deny reason; judged = judged_later new new (length old.seen) low key place (verdict.Deny reason) (later_refl new) less judged; reached_is = refl; unordered = refl; follows = (refl, is) });
+    asked_of = asked_none line;
+    counts_is = omega arith;
+    ordered_of = ordered_none old new none;
+  }
+
+  -- the verdict was an item of a site, and what the site gave was answered
+  pub answers_site : (old mid new : Book) (line : Line) (counted tag item : ℕ) (text : List ℕ) → low ≤ length old.seen
+      → TakesNone old mid → TakesNone mid new → Judged (length old.seen) mid key place (verdict.Site tag item) → SiteBy mid.law tag item (wants_head request) (Ok text) → Answers old new line line counted counted low last request place text
+  answers_site old mid new line counted tag item text less none more judged (given, gives, answers) = record {
+    turn = turn_on [] text;
+    request_is = refl;
+    place_is = refl;
+    answer_is = refl;
+    lawful = lawful_by new low last request key passed (turn_on [] text) shows refl
+        (record {
+          verdict = verdict.Site tag item;
+          judged = judged_later mid new (length old.seen) low key place (verdict.Site tag item) more.later less judged;
+          reached_is = refl;
+          unordered = refl;
+          follows = (refl, (given, subst (λ (law : Law). Gives law tag item given) (sym more.later.law) gives, answers));
+        });
+    asked_of = asked_none line;
+    counts_is = omega arith;
+    ordered_of = ordered_none old new (none_trans old mid new none more);
+  }
+
+  -- the request went through, and was answered
+  pub answers_forwarded : (old new : Book) (before after : Line) (counted counts : ℕ) (permit : Permit) (text : List ℕ) → low ≤ length old.seen
+      → TakesNone old new → Judged (length old.seen) new key place (verdict.Forward permit) → Forwards before after counted counts permit passed (wants_head request) (Ok text) → Answers old new before after counted counts low last request place text
+  answers_forwarded old new before after counted counts permit text less none judged f = record {
+    turn = turn_on f.asked text;
+    request_is = refl;
+    place_is = refl;
+    answer_is = refl;
+    lawful = lawful_by new low last request key passed (turn_on f.asked text) shows refl
+        (record { verdict = verdict.Forward permit; judged = judged_later new new (length old.seen) low key place (verdict.Forward permit) (later_refl new) less judged; reached_is = refl; unordered = refl; follows = f.forwarded });
+    asked_of = f.asked_of;
+    counts_is = f.counts_is;
+    ordered_of = ordered_none old new none;
+  }
+
+  begun_ask : (book : Book) (permit : Permit) (head_only : Bool) (m : Memory) (asked : List Ask) → Judged low book key place (verdict.Forward permit) → ForwardBy permit passed head_only (Err m) asked → IsBegun book low (turn_on asked [])
+  begun_ask book permit head_only m asked judged (inl none) = inl (none, refl)
+  begun_ask book permit head_only m asked judged (inr one) = begun_by book low request key passed (turn_on asked []) shows refl (permit, one.0, judged, one.1, refl)
+
+  -- the request went through, and memory ran out
+  pub breaks_forwarded : (old new : Book) (before after : Line) (counted counts : ℕ) (permit : Permit) (head_only : Bool) (m : Memory) → low ≤ length old.seen
+      → TakesNone old new → Judged (length old.seen) new key place (verdict.Forward permit) → Forwards before after counted counts permit passed head_only (Err m) → BreaksOff old new before after counted counts low request
+  breaks_forwarded old new before after counted counts permit head_only m less none judged f = record {
+    turn = turn_on f.asked [];
+    request_is = refl;
+    begun = begun_ask new permit head_only m f.asked (judged_later new new (length old.seen) low key place (verdict.Forward permit) (later_refl new) less judged) f.forwarded;
+    asked_of = f.asked_of;
+    counts_is = f.counts_is;
+    ordered_of = ordered_none old new none;
+  }
 
 -- an order that was answered, as an act, and the turn that ends with it
 abbrev turn_with : (request : Request) (acts : List Act) (act : Act) → List ℕ → Turn
@@ -295,10 +329,3 @@ module _ (old mid new : Book) (low : ℕ) (request : Request) (first second : As
     counts_is = omega arith;
     ordered_of = ordered_both;
   }
-
--- an answer that is lawful is no list
-pub no_list : (s : State) (n : ℕ) (order : Asked) (answer : Result Reply OrderFault) (drawn : List (List ℕ)) (added : List Event) → IsAnswer s n order answer drawn added → IsNoList answer
-no_list s n order (Ok (reply.Made made text)) drawn added is = tt
-no_list s n order (Ok (reply.Refused why)) drawn added is = tt
-no_list s n order (Ok (reply.Options list)) drawn added is = absurd is
-no_list s n order (Err fault) drawn added is = tt

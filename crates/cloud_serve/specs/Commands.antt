@@ -1,10 +1,11 @@
--- What the desk's routes and their bodies ask for.
-use Rattle.std.specs.Prelude.{ℕ, Bool, true, false, List, Option, Some, None, Result, Ok, Err}
+-- What the routes of the desk and of running grains, and their bodies, ask for.
+use Rattle.std.specs.Prelude.{ℕ, true, false, List, Option, Some, None, Result, Ok, Err}
 use Rattle.host_base.specs.declared.digest.Digest.{Digest}
 use Rattle.host_base.specs.declared.ids.GrainId.{GrainId}
 use Rattle.share_graph.specs.declared.desk.Caller.{Caller}
 use Rattle.share_graph.specs.declared.desk.Caller.TheVariants as caller
 use Rattle.desk_bodies.specs.Bodies.{account_body, child_body, grain_body, manifest_body, mark_body, plain_body, redeem_body, share_body, tab_body, token_body}
+use Rattle.desk_bodies.specs.Bodies.{choose_body, claim_body, query_body, save_body}
 use Rattle.desk_bodies.specs.declared.fault.BodyFault.{BodyFault}
 use Rattle.desk_orders.specs.declared.order.Command.{Command}
 use Rattle.desk_orders.specs.declared.order.Command.TheVariants as command
@@ -26,8 +27,8 @@ abbrev pub stating : {A : Type 0} → (A → Showing) → Result A BodyFault →
 stating make (Ok x) = Ok (make x)
 stating make (Err fault) = Err fault
 
--- WHAT IS ASKED FOR by a route and a body, where the credential has this digest: of an account by its login, of a bearer, or of
--- either; or the fault of the body. It is none where the route isn't the desk's, or isn't answered yet.
+-- WHAT IS ASKED FOR by a route and a body, where the credential has this digest: of an account by its login, of a bearer, of
+-- either, or of a run by its token; or the fault of the body. It is none where the route shows a key.
 abbrev pub asked_at : Route → Digest → List ℕ → Option (Result Showing BodyFault)
 asked_at route.Accounts who body = Some (stating (λ fields. wants (caller.Login who) (command.AddAccount fields.handle fields.name)) (account_body body))
 asked_at (route.AccountAdmin n) who body = Some (stating (λ on. wants (caller.Login who) (command.SetAdmin (record { 0 = n }) on)) (mark_body body))
@@ -52,17 +53,11 @@ asked_at route.Child who body =
     Some (stating (λ fields. wants (caller.Bearer who) (command.Child fields.for_sharing fields.assignment fields.needs)) (child_body body))
 asked_at route.Open who body = Some (stating (λ tab. opens (caller.Bearer who) None tab) (tab_body body))
 asked_at route.Wake who body = Some (stating (λ _. wants (caller.Bearer who) (command.StartRun None)) (plain_body body))
+asked_at (route.GrainQuery n) who body = Some (stating (λ query. wants (caller.Login who) (command.Options (record { 0 = n }) query)) (query_body body))
+asked_at (route.GrainChoose n) who body =
+    Some (stating (λ fields. wants (caller.Login who) (command.Choose (record { 0 = n }) fields.offer fields.query fields.assignment)) (choose_body body))
+asked_at route.Claim who body = Some (stating (λ fields. wants (caller.Run who) (command.Claim fields.token fields.permissions)) (claim_body body))
+asked_at route.Save who body = Some (stating (λ fields. wants (caller.Run who) (command.Save fields.handle fields.label)) (save_body body))
+asked_at route.Restore who body = Some (stating (λ token. wants (caller.Run who) (command.Restore token)) (redeem_body body))
+asked_at route.Drop who body = Some (stating (λ token. wants (caller.Run who) (command.DropSaved token)) (redeem_body body))
 asked_at _ who body = None
-
--- whether a route is the desk's, and answered: not the two of the powerbox yet
-abbrev pub is_of_desk : Route → Bool
-is_of_desk (route.GrainQuery n) = false
-is_of_desk (route.GrainChoose n) = false
-is_of_desk (route.Session digest) = false
-is_of_desk route.Api = false
-is_of_desk (route.Use n) = false
-is_of_desk route.Claim = false
-is_of_desk route.Save = false
-is_of_desk route.Restore = false
-is_of_desk route.Drop = false
-is_of_desk _ = true

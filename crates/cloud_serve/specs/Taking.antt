@@ -3,18 +3,20 @@ use Rattle.std.specs.Prelude.{◌≡◌, ℕ, ◌+◌, ◌⊎◌, Bool, List, []
 use Rattle.host_base.specs.declared.bytes.Memory.{Memory}
 use Rattle.host_base.specs.declared.ids.GrainId.{GrainId}
 use Rattle.host_base.specs.declared.ids.RunId.{RunId}
+use Rattle.host_base.specs.declared.key.Key.{Key}
 use Rattle.host_base.specs.declared.permit.Permit.{Permit}
 use Rattle.host_base.specs.declared.request.Request.{Request}
 use Rattle.grain_supervise.specs.declared.ask.Ask.{Ask}
 use Rattle.grain_supervise.specs.Line.{Line}
-use Rattle.desk_orders.specs.declared.reply.OrderFault.{OrderFault}
-use Rattle.desk_orders.specs.declared.reply.Reply.{Reply}
-use Rattle.desk_orders.specs.declared.reply.Reply.TheVariants as reply
+use Rattle.desk_orders.specs.Sites.{Law}
+use Rattle.site_caps.specs.declared.fault.SiteFault.{SiteFault}
 use Rattle.cloud_serve.specs.declared.turn.Answered.{Answered}
 use Rattle.hub_core.specs.Book.{Book}
+use Rattle.hub_core.specs.Giving.{Gives}
+use Rattle.cloud_serve.specs.declared.showing.Showing.TheVariants as showing
+use Rattle.cloud_serve.specs.Routes.{Shows}
 use Rattle.cloud_serve.specs.Effects.{AskedOf, OrderedOf}
-use Rattle.reply_texts.specs.Texts.{wants_head}
-use Rattle.cloud_serve.specs.Turns.{Turn, IsLawful, IsBegun, AnswersBack, ask_of}
+use Rattle.cloud_serve.specs.Turns.{Turn, IsLawful, IsBegun, AnswersBack, AnswersSite, ask_of, passed_to}
 
 -- what asking this once came to: the answer to what came back, or want of memory before or behind it
 abbrev pub AsksBy : RunId → GrainId → List ℕ → Bool → Result (List ℕ) Memory → List Ask → Type 0
@@ -29,16 +31,16 @@ pub record Asks (before after : Line) (counted counts : ℕ) (run : RunId) (grai
   pub counts_is : counts ≡ counted + length asked
   pub answered : AsksBy run grain text head_only answer asked
 
--- the same for the grain's text of a request
-abbrev pub ForwardBy : Permit → Request → Result (List ℕ) Memory → List Ask → Type 0
-ForwardBy permit request (Ok answer) asked = (back : Option (List ℕ)) × (asked ≡ ask_of permit request back ∷ []) × AnswersBack (wants_head request) back answer
-ForwardBy permit request (Err m) asked = (asked ≡ []) ⊎ ((back : Option (List ℕ)) × (asked ≡ ask_of permit request back ∷ []))
+-- the same for the grain's text of a request as it is passed on
+abbrev pub ForwardBy : Permit → Request → Bool → Result (List ℕ) Memory → List Ask → Type 0
+ForwardBy permit passed head_only (Ok answer) asked = (back : Option (List ℕ)) × (asked ≡ ask_of permit passed back ∷ []) × AnswersBack head_only back answer
+ForwardBy permit passed head_only (Err m) asked = (asked ≡ []) ⊎ ((back : Option (List ℕ)) × (asked ≡ ask_of permit passed back ∷ []))
 
-pub record Forwards (before after : Line) (counted counts : ℕ) (permit : Permit) (request : Request) (answer : Result (List ℕ) Memory) : Type 0 where
+pub record Forwards (before after : Line) (counted counts : ℕ) (permit : Permit) (passed : Request) (head_only : Bool) (answer : Result (List ℕ) Memory) : Type 0 where
   pub asked : List Ask
   pub asked_of : AskedOf before after asked
   pub counts_is : counts ≡ counted + length asked
-  pub forwarded : ForwardBy permit request answer asked
+  pub forwarded : ForwardBy permit passed head_only answer asked
 
 -- a turn on this request was taken, with this place and this answer
 pub record Answers (old new : Book) (before after : Line) (counted counts low last : ℕ) (request : Request) (place : ℕ) (text : List ℕ) : Type 0 where
@@ -65,12 +67,15 @@ abbrev pub Takes : Book → Book → Line → Line → ℕ → ℕ → ℕ → �
 Takes old new before after counted counts low last request (Ok answered) = Answers old new before after counted counts low last request answered.place answered.text
 Takes old new before after counted counts low last request (Err m) = BreaksOff old new before after counted counts low request
 
--- an answer that isn't a list
-abbrev pub IsNoList : Result Reply OrderFault → Type 0
-IsNoList (Ok (reply.Options list)) = ⊥
-IsNoList (Ok (reply.Made made text)) = Unit {0}
-IsNoList (Ok (reply.Refused why)) = Unit {0}
-IsNoList (Err fault) = Unit {0}
+-- A request shows a key, and is passed on as it is, or with the target behind a handle's number.
+abbrev pub ShowsKey : Request → Key → Request → Type 0
+ShowsKey request key passed =
+    (Shows request (showing.Keyed key) × (passed ≡ request)) ⊎ ((target : List ℕ) × Shows request (showing.Used key target) × (passed ≡ passed_to target request))
+
+-- what an item of a site is answered, or want of memory
+abbrev pub SiteBy : Law → ℕ → ℕ → Bool → Result (List ℕ) Memory → Type 0
+SiteBy law tag item head_only (Ok answer) = (given : Result (List ℕ) SiteFault) × Gives law tag item given × AnswersSite given head_only answer
+SiteBy law tag item head_only (Err m) = Unit {0}
 
 -- the answer at a place, where there is a text
 abbrev pub answered_at : ℕ → Result (List ℕ) Memory → Result Answered Memory

@@ -20,16 +20,21 @@ use Rattle.desk_orders.specs.declared.reply.OrderFault.TheVariants as order_faul
 use Rattle.desk_orders.specs.declared.reply.Reply.{Reply}
 use Rattle.desk_orders.specs.declared.reply.Reply.TheVariants as reply
 use Rattle.desk_orders.specs.Commands.{Asked}
+use Rattle.desk_orders.specs.Sites.{Law}
+use Rattle.site_caps.specs.declared.fault.SiteFault.{SiteFault}
+use Rattle.site_caps.specs.declared.fault.SiteFault.TheVariants as site_fault
 use Rattle.hub_core.specs.Book.{Book, Judged, Placed}
+use Rattle.hub_core.specs.Giving.{Gives}
 use Rattle.reply_texts.specs.declared.done.Handed.{Handed}
 use Rattle.reply_texts.specs.declared.done.Handed.TheVariants as handed
 use Rattle.reply_texts.specs.declared.faults.OwnFault.TheVariants as own
 use Rattle.reply_texts.specs.Done.{done_text}
 use Rattle.reply_texts.specs.Faults.{fault_text}
+use Rattle.reply_texts.specs.Options.{options_text}
 use Rattle.reply_texts.specs.Refusals.{command_text}
 use Rattle.cloud_serve.specs.Acts.{Act}
 use Rattle.cloud_serve.specs.Routes.{Shows}
-use Rattle.reply_texts.specs.Texts.{wants_head, own_text, denial_text}
+use Rattle.reply_texts.specs.Texts.{wants_head, own_text, denial_text, site_text}
 
 -- One request and all that came of it: its place in the history, how far the connection has counted the history then,
 -- what was asked of the link, the orders that it made, and the answer.
@@ -40,6 +45,10 @@ pub record Turn : Type 0 where
   pub asked : List Ask
   pub acts : List Act
   pub answer : List ℕ
+
+-- a request with another target, as it is passed on
+abbrev pub passed_to : List ℕ → Request → Request
+passed_to target request = record request { target = target }
 
 -- a request is asked of the run that its permit names, by the grain's text
 abbrev pub ask_of : Permit → Request → Option (List ℕ) → Ask
@@ -59,13 +68,22 @@ AnswersBack head_only (Some back) answer =
     ((length back ≡ 4194305) × (answer ≡ own_text 502 (codes "LongAnswer") (4194305 ∷ []) head_only))
     ⊎ ((length back ≢ 4194305) × ((outcome : Result (List ℕ) RelayFault) × Relays back head_only outcome × AnswersRelay head_only outcome answer))
 
--- What follows from a verdict: a denial is answered and nothing is asked; a request that goes through is asked once, and
--- answered by what came back. No session's key and no bearer's token leads to an item of the site.
-abbrev pub Follows : Verdict → Turn → Type 0
-Follows (verdict.Deny reason) turn = (turn.asked ≡ []) × (turn.answer ≡ denial_text reason (wants_head turn.request))
-Follows (verdict.Forward permit) turn =
-    (back : Option (List ℕ)) × (turn.asked ≡ ask_of permit turn.request back ∷ []) × AnswersBack (wants_head turn.request) back turn.answer
-Follows (verdict.Site tag item) turn = ⊥
+-- The answer to what a site gave: its text, or why it gives none.
+abbrev pub AnswersSite : Result (List ℕ) SiteFault → Bool → List ℕ → Type 0
+AnswersSite (Ok text) head_only answer = answer ≡ site_text text head_only
+AnswersSite (Err (site_fault.NoDriver tag)) head_only answer = answer ≡ fault_text (own.NoDriver tag) head_only
+AnswersSite (Err (site_fault.NotOffered tag item)) head_only answer = answer ≡ fault_text (own.NotOffered tag item) head_only
+AnswersSite (Err (site_fault.TwoDrivers tag)) head_only answer = ⊥
+AnswersSite (Err site_fault.Memory) head_only answer = ⊥
+
+-- What follows from a verdict: a denial is answered and nothing is asked; a request that goes through is asked once, as it is passed on, and
+-- answered by what came back; and an item of a site is answered by what the law of the sites allows for it.
+abbrev pub Follows : Law → Verdict → Request → Turn → Type 0
+Follows law (verdict.Deny reason) passed turn = (turn.asked ≡ []) × (turn.answer ≡ denial_text reason (wants_head turn.request))
+Follows law (verdict.Forward permit) passed turn =
+    (back : Option (List ℕ)) × (turn.asked ≡ ask_of permit passed back ∷ []) × AnswersBack (wants_head turn.request) back turn.answer
+Follows law (verdict.Site tag item) passed turn =
+    (turn.asked ≡ []) × ((given : Result (List ℕ) SiteFault) × Gives law tag item given × AnswersSite given (wants_head turn.request) turn.answer)
 
 -- what an answer hands out, beside numbers: the key of the session that was opened, or a token
 abbrev pub handed_by : Option ℕ → List ℕ → Handed
@@ -80,7 +98,7 @@ handed_of made (Some text) = handed_by made.session text
 abbrev pub AnswersOrder : Result Reply OrderFault → Bool → List ℕ → Type 0
 AnswersOrder (Ok (reply.Made made text)) head_only answer = answer ≡ done_text made (handed_of made text) head_only
 AnswersOrder (Ok (reply.Refused why)) head_only answer = answer ≡ command_text why head_only
-AnswersOrder (Ok (reply.Options list)) head_only answer = ⊥
+AnswersOrder (Ok (reply.Options list)) head_only answer = answer ≡ options_text list head_only
 AnswersOrder (Err order_fault.Store) head_only answer = answer ≡ fault_text own.StoreFailed head_only
 AnswersOrder (Err order_fault.Secrets) head_only answer = answer ≡ fault_text own.SecretsFailed head_only
 AnswersOrder (Err order_fault.Start) head_only answer = answer ≡ fault_text own.StartFailed head_only
@@ -94,13 +112,13 @@ pub record IsPlain (low last : ℕ) (text : List ℕ) (turn : Turn) : Type 0 whe
   pub unordered : turn.acts ≡ []
   pub answer_is : turn.answer ≡ text
 
--- Answered by the verdict on a key at the turn's place, and what follows from it.
-pub record IsKeyed (book : Book) (low : ℕ) (key : Key) (turn : Turn) : Type 0 where
+-- Answered by the verdict on a key at the turn's place, and what follows from it for the request as it is passed on.
+pub record IsKeyed (book : Book) (low : ℕ) (key : Key) (passed : Request) (turn : Turn) : Type 0 where
   pub verdict : Verdict
   pub judged : Judged low book key turn.place verdict
   pub reached_is : turn.reached ≡ turn.place
   pub unordered : turn.acts ≡ []
-  pub follows : Follows verdict turn
+  pub follows : Follows book.law verdict passed turn
 
 -- whether an order was carried out
 abbrev pub is_done : Result Reply OrderFault → Bool
@@ -157,18 +175,24 @@ IsLawfulBy showing.NoRoute book low last turn = IsPlain low last (own_text 404 (
 IsLawfulBy showing.NoCredential book low last turn = IsPlain low last (denial_text denial.UnknownKey (wants_head turn.request)) turn
 IsLawfulBy (showing.BadBody field) book low last turn = IsPlain low last (fault_text (own.BadBody field) (wants_head turn.request)) turn
 IsLawfulBy (showing.BadManifest bad) book low last turn = IsPlain low last (command_text (refusal.Manifest bad) (wants_head turn.request)) turn
-IsLawfulBy (showing.Keyed key) book low last turn = IsKeyed book low key turn
+IsLawfulBy (showing.Keyed key) book low last turn = IsKeyed book low key turn.request turn
+IsLawfulBy (showing.Used key target) book low last turn = IsKeyed book low key (passed_to target turn.request) turn
 IsLawfulBy (showing.Wants order) book low last turn = IsOrdered book low order turn
 IsLawfulBy (showing.Opens first second) book low last turn = IsOpened book low first second turn
 
 abbrev pub IsLawful : Book → ℕ → ℕ → Turn → Type 0
 IsLawful book low last turn = (shown : Showing) × Shows turn.request shown × IsLawfulBy shown book low last turn
 
+-- the one text of a request that goes through was asked
+abbrev pub IsAskedOnce : Book → ℕ → Key → Request → Turn → Type 0
+IsAskedOnce book low key passed turn =
+    (permit : Permit) × (back : Option (List ℕ)) × Judged low book key turn.place (verdict.Forward permit) × (turn.asked ≡ ask_of permit passed back ∷ []) × (turn.acts ≡ [])
+
 -- What may have been done on a turn that memory ran out on: the one text of a request that goes through was asked, or the order was
 -- made, or of two the first or both.
 abbrev pub IsBegunBy : Showing → Book → ℕ → Turn → Type 0
-IsBegunBy (showing.Keyed key) book low turn =
-    (permit : Permit) × (back : Option (List ℕ)) × Judged low book key turn.place (verdict.Forward permit) × (turn.asked ≡ ask_of permit turn.request back ∷ []) × (turn.acts ≡ [])
+IsBegunBy (showing.Keyed key) book low turn = IsAskedOnce book low key turn.request turn
+IsBegunBy (showing.Used key target) book low turn = IsAskedOnce book low key (passed_to target turn.request) turn
 IsBegunBy (showing.Wants order) book low turn = MakesOne book low order turn
 IsBegunBy (showing.Opens first second) book low turn = MakesOne book low first turn ⊎ MakesBoth book low first second turn
 IsBegunBy showing.NoRoute book low turn = ⊥

@@ -1,9 +1,9 @@
-//! What the desk's routes ask for.
+//! What the routes of the desk and of running grains ask for.
 ghost use Rattle.std.specs.Prelude.{◌≡◌, IfOk, None, MatchOption, Result};
 ghost use Rattle.desk_bodies.specs.declared.fault.BodyFault.{BodyFault};
 ghost use Rattle.desk_bodies.specs.Answers.{Answers};
 ghost use Rattle.cloud_serve.specs.Asking.{AnswersAt};
-ghost use Rattle.cloud_serve.specs.Commands.{asked_at, is_of_desk};
+ghost use Rattle.cloud_serve.specs.Commands.{asked_at};
 ghost use Rattle.cloud_serve.specs.Routes.{IsAsked, IsAskedAt};
 ghost use Rattle.cloud_serve.specs.declared.showing.Showing.{Showing};
 
@@ -11,6 +11,7 @@ use crate::commands::{
     admin_mark, enabled_mark, new_account, new_app, new_child, new_grain, new_share, new_token,
     opening, plain, redemption,
 };
+use crate::powerbox::{choice, claim, drop_reference, options, reference, restoration};
 use crate::showing::Showing;
 use desk_bodies::BodyFault;
 use front_http::Route;
@@ -19,7 +20,7 @@ use hub_core::Command;
 use share_graph::Caller;
 use std::alloc::Global;
 
-// What a route and a body ask for, where the route is the desk's and answered.
+// What a route and a body ask for, where the route shows no key.
 fn stated(
     alloc: Global,
     route: Route,
@@ -61,19 +62,13 @@ fn stated(
         Route::Child => Some(new_child(alloc, who, body)),
         Route::Open => Some(opening(alloc, bearer, None, body)),
         Route::Wake => Some(plain(alloc, bearer, Command::StartRun(None), body)),
-        _ => None,
-    }
-}
-
-/// Whether a route is the desk's, and answered.
-pub fn is_answered(route: Route) -> bool
-    ensures { result ≡ is_of_desk route }
-{
-    match route {
-        Route::GrainQuery(_) | Route::GrainChoose(_) => false,
-        Route::Session(_) | Route::Api | Route::Use(_) => false,
-        Route::Claim | Route::Save | Route::Restore | Route::Drop => false,
-        _ => true,
+        Route::GrainQuery(num) => Some(options(alloc, who, GrainId(num), body)),
+        Route::GrainChoose(num) => Some(choice(alloc, who, GrainId(num), body)),
+        Route::Claim => Some(claim(alloc, who, body)),
+        Route::Save => Some(reference(alloc, who, body)),
+        Route::Restore => Some(restoration(alloc, who, body)),
+        Route::Drop => Some(drop_reference(alloc, who, body)),
+        Route::Session(_) | Route::Api | Route::Use(_) => None,
     }
 }
 
@@ -91,7 +86,7 @@ fn shown(answer: Result<Showing, BodyFault>) -> Result<Showing, Memory>
     }
 }
 
-/// What is asked for on a route of the desk with a credential.
+/// What is asked for on a route of the desk or of a running grain with a credential.
 pub fn asked_for(alloc: Global, route: Route, who: Digest, body: &[u8]) -> Result<Showing, Memory>
     ensures { IfOk result (IsAskedAt (asked_at route who body.now)) }
 {

@@ -4,6 +4,8 @@
 mod asking;
 mod commands;
 mod ending;
+mod passing;
+mod powerbox;
 mod serve;
 mod showing;
 mod turn;

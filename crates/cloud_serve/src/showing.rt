@@ -1,12 +1,14 @@
 //! What a request shows, and so how it is answered.
-ghost use Rattle.std.specs.Prelude.{◌≡◌, IfOk};
-ghost use Rattle.cloud_serve.specs.Routes.{Shows, ShowsAt, IsAtDesk, bearer_showing};
+ghost use Rattle.std.specs.Prelude.{◌≡◌, ℕ, List, IfOk};
+ghost use Rattle.front_http.specs.Routes.{IsRoute, IsUse};
+ghost use Rattle.cloud_serve.specs.Routes.{Shows, ShowsAt, IsAtDesk, IsUsing, bearer_showing};
 
-use crate::asking::{asked_for, is_answered};
+use crate::asking::asked_for;
 use app_manifest::ManifestFault;
-use front_http::{Route, Routes};
+use front_http::{Route, Routes, use_target};
 use host_base::{Digest, Key, Memory, Request};
 use hub_core::Order;
+use plain_data::Text;
 use std::alloc::Global;
 
 /// What a request shows.
@@ -22,6 +24,8 @@ pub enum Showing {
     BadManifest(ManifestFault),
     /// It shows a key, and is answered by the verdict on it.
     Keyed(Key),
+    /// It shows the key of a handle, and is answered by the verdict on it; this is the target that it is passed on with.
+    Used(Key, Text),
     /// It wants this of the desk.
     Wants(Order),
     /// It wants a grain opened: the first order starts a run of it, where none is live, and the second opens a session.
@@ -37,7 +41,7 @@ fn credential(bearer: &Option<Digest>) -> Showing
     }
 }
 
-// What is shown on a route of the desk.
+// What is shown on a route of the desk or of a running grain.
 fn at_desk(
     alloc: Global,
     route: Route,
@@ -48,29 +52,36 @@ fn at_desk(
 {
     match bearer {
         Some(digest) => asked_for(alloc, route, *digest, body),
-        None => {
-            if is_answered(route) {
-                Ok(Showing::NoCredential)
-            } else {
-                Ok(Showing::NoRoute)
-            }
-        }
+        None => Ok(Showing::NoCredential),
+    }
+}
+
+// What is shown by a request of a run through the handle of a number.
+fn used(alloc: Global, num: u32, bearer: &Option<Digest>, target: &str) -> Result<Showing, Memory>
+    requires { (m : ℕ) × (rest : List ℕ) × IsUse m target.now rest }
+    ensures { IfOk result (IsUsing num target.now bearer.now) }
+{
+    let Some(digest) = bearer else {
+        return Ok(Showing::NoCredential);
+    };
+    let found = use_target(alloc, target)?;
+    match found {
+        Some(passed) => Ok(Showing::Used(Key::Handle(*digest, num), passed)),
+        None => unreachable!(),
     }
 }
 
 // What is shown on a route.
-fn showing_at(
-    alloc: Global,
-    route: Route,
-    bearer: &Option<Digest>,
-    body: &[u8],
-) -> Result<Showing, Memory>
-    ensures { IfOk result (ShowsAt route bearer.now body.now) }
+fn showing_at(alloc: Global, route: Route, request: &Request) -> Result<Showing, Memory>
+    requires { IsRoute request.now route }
+    ensures { IfOk result (ShowsAt route request.now) }
 {
+    let bearer = &request.bearer;
     match route {
         Route::Session(digest) => Ok(Showing::Keyed(Key::Session(digest))),
         Route::Api => Ok(credential(bearer)),
-        _ => at_desk(alloc, route, bearer, body),
+        Route::Use(num) => used(alloc, num, bearer, request.target.as_str()),
+        _ => at_desk(alloc, route, bearer, request.body.as_slice()),
     }
 }
 
@@ -79,7 +90,7 @@ pub fn find_showing(alloc: Global, routes: &Routes, request: &Request) -> Result
     ensures { IfOk result (Shows request.now) }
 {
     match routes.route(request) {
-        Some(found) => showing_at(alloc, found, &request.bearer, request.body.as_slice()),
+        Some(found) => showing_at(alloc, found, request),
         None => Ok(Showing::NoRoute),
     }
 }

@@ -3,10 +3,12 @@ ghost use Rattle.std.specs.Prelude.{◌≡◌, ℕ, ◌+◌, ◌<◌, ◌≤◌,
 ghost use Rattle.hub_core.specs.Book.{Book};
 ghost use Rattle.cloud_serve.specs.Routes.{Shows};
 ghost use Rattle.grain_supervise.specs.Line.{Line};
-ghost use Rattle.cloud_serve.specs.Taking.{Asks, Forwards, Takes, IsNoList, answered_at};
+ghost use Rattle.cloud_serve.specs.Taking.{Asks, Forwards, ShowsKey, SiteBy, Takes, answered_at};
 ghost use Rattle.cloud_serve.specs.Turns.{AnswersBack, AnswersOrder, handed_of, is_done};
+ghost use Rattle.hub_core.specs.Book.{TakesNone};
 ghost use Rattle.cloud_serve.specs.declared.showing.Showing.TheVariants as shown;
 
+use crate::passing::with_target;
 use crate::showing::{Showing, find_showing};
 use bridge_headers::{RelayFault, answer_text, grain_text};
 use front_http::Routes;
@@ -16,9 +18,11 @@ use host_base::{
 };
 use hub_core::{Desk, Order, OrderFault, Reply};
 use reply_texts::{
-    Handed, OwnFault, command_reply, denial_reply, done_reply, fault_reply, own_reply, wants_head,
+    Handed, OwnFault, command_reply, denial_reply, done_reply, fault_reply, options_reply,
+    own_reply, site_reply, wants_head,
 };
 use share_graph::{Made, Refusal};
+use site_caps::SiteFault;
 use std::alloc::Global;
 
 /// The place and the text of an answer.
@@ -72,59 +76,91 @@ fn ask<L: Link>(
     }
 }
 
-// A request that goes through.
+// A request that goes through, as it is passed on.
 fn forward<L: Link>(
     alloc: Global,
-    request: &Request,
+    passed: &Request,
     permit: &Permit,
+    head_only: bool,
     link: &mut L,
     forwarded: &mut u64,
 ) -> Result<Bytes, Memory>
     requires { forwarded.old < 18446744073709551615 }
     ensures few { forwarded.new ≤ forwarded.old + 1 }
-    ensures forwards { Forwards (L.line link.old) (L.line link.new) forwarded.old forwarded.new permit.now request.now result }
+    ensures forwards { Forwards (L.line link.old) (L.line link.new) forwarded.old forwarded.new permit.now passed.now head_only result }
 {
-    match grain_text(alloc, permit, request) {
+    match grain_text(alloc, permit, passed) {
         Err(Memory) => Err(Memory),
         Ok(text) => ask(
             alloc,
             permit.run,
             permit.grain,
             text.as_slice(),
-            wants_head(request),
+            head_only,
             link,
             forwarded,
         ),
     }
 }
 
-// A turn on a request that shows a key.
+// What an item of a site is answered.
+fn site_answer<D: Desk>(
+    alloc: Global,
+    desk: &mut D,
+    tag: u64,
+    item: u32,
+    head_only: bool,
+) -> Result<Bytes, Memory>
+    ensures none { TakesNone (D.book desk.old) (D.book desk.new) }
+    ensures gives { SiteBy (D.book desk.old).law tag item head_only result }
+{
+    match desk.site(alloc, tag, item) {
+        Ok(text) => site_reply(alloc, text.as_slice(), head_only),
+        Err(fault) => match fault {
+            SiteFault::NoDriver(tag) => fault_reply(alloc, OwnFault::NoDriver(tag), head_only),
+            SiteFault::NotOffered(tag, item) => {
+                fault_reply(alloc, OwnFault::NotOffered(tag, item), head_only)
+            }
+            SiteFault::TwoDrivers(_) => unreachable!(),
+            SiteFault::Memory => Err(Memory),
+        },
+    }
+}
+
+// A turn on a request that shows a key, and is passed on so.
 fn keyed<D: Desk, L: Link>(
     alloc: Global,
     request: &Request,
+    passed: &Request,
     key: &Key,
     desk: &mut D,
     link: &mut L,
     forwarded: &mut u64,
 ) -> Result<Answered, Memory>
-    requires shown { Shows request.now (shown.Keyed key.now) }
+    requires shown { ShowsKey request.now key.now passed.now }
     requires room { forwarded.old < 18446744073709551615 }
     ensures few { forwarded.new ≤ forwarded.old + 1 }
     ensures takes { (low last : ℕ) → low ≤ length (D.book desk.old).seen →
         Takes (D.book desk.old) (D.book desk.new) (L.line link.old) (L.line link.new) forwarded.old forwarded.new low last request.now result }
 {
+    let head_only = wants_head(request);
     match desk.verdict(alloc, key) {
         Err(Memory) => Err(Memory),
         Ok((place, verdict)) => match verdict {
-            Verdict::Deny(reason) => match denial_reply(alloc, &reason, wants_head(request)) {
+            Verdict::Deny(reason) => match denial_reply(alloc, &reason, head_only) {
                 Ok(text) => Ok(Answered { place, text }),
                 Err(Memory) => Err(Memory),
             },
-            Verdict::Site { tag: _, item: _ } => unreachable!(),
-            Verdict::Forward(permit) => match forward(alloc, request, &permit, link, forwarded) {
+            Verdict::Site { tag, item } => match site_answer(alloc, desk, tag, item, head_only) {
                 Ok(text) => Ok(Answered { place, text }),
                 Err(Memory) => Err(Memory),
             },
+            Verdict::Forward(permit) => {
+                match forward(alloc, passed, &permit, head_only, link, forwarded) {
+                    Ok(text) => Ok(Answered { place, text }),
+                    Err(Memory) => Err(Memory),
+                }
+            }
         },
     }
 }
@@ -152,13 +188,12 @@ fn was_done(answer: &Result<Reply, OrderFault>) -> bool
     }
 }
 
-// The text of the answer to an order, which isn't a list.
+// The text of the answer to an order.
 fn order_text(
     alloc: Global,
     answer: Result<Reply, OrderFault>,
     head_only: bool,
 ) -> Result<Bytes, Memory>
-    requires { IsNoList answer }
     ensures { IfOk result (AnswersOrder answer head_only) }
 {
     match answer {
@@ -167,7 +202,7 @@ fn order_text(
                 let handed = handed(&made, text);
                 done_reply(alloc, &made, &handed, head_only)
             }
-            Reply::Options(_) => unreachable!(),
+            Reply::Options(list) => options_reply(alloc, list.as_slice(), head_only),
             Reply::Refused(refusal) => command_reply(alloc, &refusal, head_only),
         },
         Err(fault) => match fault {
@@ -270,7 +305,13 @@ pub fn take_turn<D: Desk, L: Link>(
                     command_reply(alloc, &Refusal::Manifest(bad), head_only),
                 )
             }
-            Showing::Keyed(key) => keyed(alloc, request, &key, desk, link, forwarded),
+            Showing::Keyed(key) => keyed(alloc, request, request, &key, desk, link, forwarded),
+            Showing::Used(key, target) => {
+                let Ok(passed) = with_target(alloc, request, target) else {
+                    return Err(Memory);
+                };
+                keyed(alloc, request, &passed, &key, desk, link, forwarded)
+            }
             Showing::Wants(order) => ordered(alloc, request, order, desk),
             Showing::Opens(first, second) => opened(alloc, request, first, second, desk),
         },

@@ -2,6 +2,7 @@
 
 use crate::conversation::Conversation;
 use admin_run::{World, book_keeper, run};
+use club_site::plain_sites;
 use conn_door::MemDoor;
 use grain_supervise::{Ask, CannedLink, EchoLink, FakeSpawner, Link};
 use host_base::{Answer, ListSecrets, MemSink, MemSource, Secrets, SeqSecrets};
@@ -200,12 +201,16 @@ fn played_with<L: Link + Drop, S: Secrets + Drop>(
     let Ok(keeper) = book_keeper(alloc, fails) else {
         return Err(AllocError);
     };
+    let Ok(sites) = plain_sites(alloc) else {
+        return Err(AllocError);
+    };
     let world = World {
         link,
         keeper,
         secrets,
         spawner,
         door,
+        sites,
     };
     let ran = run(alloc, words, &mut input, &mut out, world);
     let came = Came {

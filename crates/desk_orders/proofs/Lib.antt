@@ -1,2 +1,4 @@
+pub mod OfOptions
+pub mod Listed
 pub mod OfOrders
 pub mod Wanted

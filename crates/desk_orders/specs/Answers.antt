@@ -1,19 +1,21 @@
 -- THE LAWFUL ANSWERS of an order, once for all commands.
-use Rattle.std.specs.Prelude.{◌≡◌, ◌⊎◌, ℕ, List, [], ◌∷◌, Option, Some, None, Result, Ok, Err}
+use Rattle.std.specs.Prelude.{◌≡◌, ◌⊎◌, ℕ, Bool, false, List, [], ◌∷◌, Option, Some, None, Result, Ok, Err}
 use Rattle.share_graph.specs.declared.desk.Made.{Made}
 use Rattle.share_graph.specs.declared.event.Event.{Event}
 use Rattle.share_graph.specs.declared.event.Event.TheVariants as event
 use Rattle.share_graph.specs.declared.refusal.Refusal.{Refusal}
 use Rattle.share_graph.specs.declared.state.State.{State}
 use Rattle.desk_base.specs.Accepting.{Ready, WantsSecret, Accepts, IsRefusal}
+use Rattle.desk_base.specs.Made.{nothing_made}
 use Rattle.desk_base.specs.Steps.{Keeps}
 use Rattle.desk_orders.specs.declared.order.Command.{Command}
-use Rattle.desk_orders.specs.Commands.{Asked, secret_use}
+use Rattle.desk_orders.specs.Commands.{Asked, lists, secret_use}
 use Rattle.desk_orders.specs.declared.reply.OrderFault.{OrderFault}
 use Rattle.desk_orders.specs.declared.reply.OrderFault.TheVariants as fault
 use Rattle.desk_orders.specs.declared.reply.Reply.{Reply}
 use Rattle.desk_orders.specs.declared.reply.Reply.TheVariants as reply
 use Rattle.desk_orders.specs.Orders.{RowOf}
+use Rattle.desk_orders.specs.Sites.{Law, ListsBy}
 use Rattle.desk_orders.specs.Secrets.{secret_text, shown_by, text_digest}
 
 -- the event starts a run or stops one: then it is the spawner's to do
@@ -32,30 +34,36 @@ IsOfTables (event.HandleMade handle) = ⊥
 IsOfTables _ = Unit {0}
 
 -- The change is accepted, with the secrets that were drawn for the order: none, or the one whose text has its digest.
-abbrev pub AcceptsWith : State → ℕ → Asked → List (List ℕ) → Event → Made → Type 0
-AcceptsWith s n order [] e made = Accepts s n None (RowOf s order) e made
-AcceptsWith s n order (secret ∷ []) e made = Accepts s n (Some (text_digest (secret_text order.command secret))) (RowOf s order) e made
-AcceptsWith s n order (secret ∷ more ∷ rest) e made = ⊥
+abbrev pub AcceptsWith : State → ℕ → Option Bool → Asked → List (List ℕ) → Event → Made → Type 0
+AcceptsWith s n found order [] e made = Accepts s n None (RowOf s found order) e made
+AcceptsWith s n found order (secret ∷ []) e made = Accepts s n (Some (text_digest (secret_text order.command secret))) (RowOf s found order) e made
+AcceptsWith s n found order (secret ∷ more ∷ rest) e made = ⊥
 
 -- The order is refused: by what is ready, or because a row has the digest of the secret that was drawn.
-abbrev pub RefusesWith : State → ℕ → Asked → List (List ℕ) → Refusal → Type 0
-RefusesWith s n order [] r = IsRefusal s n None (RowOf s order) r
-RefusesWith s n order (secret ∷ []) r = IsRefusal s n (Some (text_digest (secret_text order.command secret))) (RowOf s order) r
-RefusesWith s n order (secret ∷ more ∷ rest) r = ⊥
+abbrev pub RefusesWith : State → ℕ → Option Bool → Asked → List (List ℕ) → Refusal → Type 0
+RefusesWith s n found order [] r = IsRefusal s n None (RowOf s found order) r
+RefusesWith s n found order (secret ∷ []) r = IsRefusal s n (Some (text_digest (secret_text order.command secret))) (RowOf s found order) r
+RefusesWith s n found order (secret ∷ more ∷ rest) r = ⊥
 
 -- the text of the secret that was drawn, if one was and the reply shows it
 abbrev pub shown_text : Command → List (List ℕ) → Option (List ℕ)
 shown_text c [] = None
 shown_text c (secret ∷ rest) = shown_by (secret_use c) (secret_text c secret)
 
--- THE ANSWER to an order at a state with n entries, the secrets that are drawn for it, and the entries that it adds.
-abbrev pub IsAnswer : State → ℕ → Asked → Result Reply OrderFault → List (List ℕ) → List Event → Type 0
-IsAnswer s n order (Ok (reply.Refused r)) drawn added = (added ≡ []) × RefusesWith s n order drawn r
-IsAnswer s n order (Ok (reply.Made made text)) drawn added =
-    ((added ≡ []) × (drawn ≡ []) × (text ≡ None) × Ready n (RowOf s order) (Keeps made))
-    ⊎ ((e : Event) × (added ≡ e ∷ []) × (text ≡ shown_text order.command drawn) × AcceptsWith s n order drawn e made)
-IsAnswer s n order (Ok (reply.Options list)) drawn added = ⊥
-IsAnswer s n order (Err fault.Secrets) drawn added = (added ≡ []) × (drawn ≡ []) × WantsSecret n (RowOf s order)
-IsAnswer s n order (Err fault.Start) drawn added = (added ≡ []) × ((e : Event) × (made : Made) × IsOfRuns e × AcceptsWith s n order drawn e made)
-IsAnswer s n order (Err fault.Store) drawn added = (added ≡ []) × ((e : Event) × (made : Made) × IsOfTables e × AcceptsWith s n order drawn e made)
-IsAnswer s n order (Err fault.Memory) drawn added = (added ≡ [])
+-- a command that is carried out: things are as it asks, or its change is accepted
+abbrev pub IsDone : State → ℕ → Option Bool → Asked → Made → Option (List ℕ) → List (List ℕ) → List Event → Type 0
+IsDone s n found order made text drawn added =
+    ((added ≡ []) × (drawn ≡ []) × (text ≡ None) × Ready n (RowOf s found order) (Keeps made))
+    ⊎ ((e : Event) × (added ≡ e ∷ []) × (text ≡ shown_text order.command drawn) × AcceptsWith s n found order drawn e made)
+
+-- THE ANSWER to an order at a state with n entries, with what the sites have of what it chooses, the secrets that are drawn for it, and the
+-- entries that it adds.
+abbrev pub IsAnswer : Law → State → ℕ → Option Bool → Asked → Result Reply OrderFault → List (List ℕ) → List Event → Type 0
+IsAnswer law s n found order (Ok (reply.Refused r)) drawn added = (added ≡ []) × RefusesWith s n found order drawn r
+IsAnswer law s n found order (Ok (reply.Made made text)) drawn added = (lists order.command ≡ false) × IsDone s n found order made text drawn added
+IsAnswer law s n found order (Ok (reply.Options list)) drawn added =
+    (added ≡ []) × (drawn ≡ []) × Ready n (RowOf s found order) (Keeps nothing_made) × ListsBy law s order.caller order.command list
+IsAnswer law s n found order (Err fault.Secrets) drawn added = (added ≡ []) × (drawn ≡ []) × WantsSecret n (RowOf s found order)
+IsAnswer law s n found order (Err fault.Start) drawn added = (added ≡ []) × ((e : Event) × (made : Made) × IsOfRuns e × AcceptsWith s n found order drawn e made)
+IsAnswer law s n found order (Err fault.Store) drawn added = (added ≡ []) × ((e : Event) × (made : Made) × IsOfTables e × AcceptsWith s n found order drawn e made)
+IsAnswer law s n found order (Err fault.Memory) drawn added = (added ≡ [])

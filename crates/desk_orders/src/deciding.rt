@@ -19,6 +19,7 @@ use account_desk::{
 };
 use host_base::Digest;
 use least_access::Solved;
+use saved_refs::{choose, choose_ready, claim, drop_saved, restore, save, save_ready};
 use session_desk::{
     close_session, open_session, open_session_ready, start_run, start_run_ready, stop_run,
 };
@@ -45,6 +46,7 @@ pub enum Decision {
 fn ready(
     state: &State,
     solved: &Solved,
+    found: Option<bool>,
     caller: &Caller,
     command: &Command,
 ) -> Result<Readiness, DeskFault>
@@ -52,7 +54,7 @@ fn ready(
     requires solution { IsSolutionOf state.now.tables solved.now }
     requires stated { IsStated caller.now command.now }
     requires draws { commands.draws command.now ≡ true }
-    ensures { IsReady (RowBy state.now caller.now command.now) result }
+    ensures { IsReady (RowBy state.now found caller.now command.now) result }
 {
     match command {
         Command::AddAccount(handle, name) => add_account_ready(state, solved, caller, handle, name),
@@ -79,18 +81,31 @@ fn ready(
         Command::OpenSession { grain, tab } => {
             open_session_ready(state, solved, caller, *grain, *tab)
         }
+        Command::Choose {
+            grain,
+            offer,
+            query,
+            assignment,
+        } => choose_ready(
+            state, solved, caller, *grain, offer, query, assignment, found,
+        ),
+        Command::Save { handle, label } => save_ready(state, solved, caller, *handle, label),
         Command::SetAdmin(_, _) | Command::SetEnabled(_, _) => unreachable!(),
         Command::AddApp(_) | Command::NewGrain(_, _) => unreachable!(),
         Command::Trash(_) | Command::Untrash(_) => unreachable!(),
         Command::Share { .. } | Command::Redeem(_) | Command::Revoke(_) => unreachable!(),
         Command::StopRun(_) | Command::CloseSession(_) => unreachable!(),
+        Command::Options(_, _) | Command::Claim { .. } => unreachable!(),
+        Command::Restore(_) | Command::DropSaved(_) => unreachable!(),
     }
 }
 
 // Carries out an order with a secret, whose digest is given.
 fn carry_at(
+    alloc: Global,
     state: &State,
     solved: &Solved,
+    found: Option<bool>,
     caller: &Caller,
     command: &Command,
     digest: Digest,
@@ -100,7 +115,7 @@ fn carry_at(
     requires solution { IsSolutionOf state.now.tables solved.now }
     requires stated { IsStated caller.now command.now }
     requires draws { commands.draws command.now ≡ true }
-    ensures { IsCarriedAt state.now digest (RowBy state.now caller.now command.now) result }
+    ensures { IsCarriedAt state.now digest (RowBy state.now found caller.now command.now) result }
 {
     match command {
         Command::AddAccount(handle, name) => {
@@ -138,11 +153,22 @@ fn carry_at(
         Command::OpenSession { grain, tab } => {
             open_session(state, solved, caller, *grain, *tab, digest)
         }
+        Command::Choose {
+            grain,
+            offer,
+            query,
+            assignment,
+        } => choose(
+            alloc, state, solved, caller, *grain, offer, query, assignment, found, digest,
+        ),
+        Command::Save { handle, label } => save(state, solved, caller, *handle, label, digest),
         Command::SetAdmin(_, _) | Command::SetEnabled(_, _) => unreachable!(),
         Command::AddApp(_) | Command::NewGrain(_, _) => unreachable!(),
         Command::Trash(_) | Command::Untrash(_) => unreachable!(),
         Command::Share { .. } | Command::Redeem(_) | Command::Revoke(_) => unreachable!(),
         Command::StopRun(_) | Command::CloseSession(_) => unreachable!(),
+        Command::Options(_, _) | Command::Claim { .. } => unreachable!(),
+        Command::Restore(_) | Command::DropSaved(_) => unreachable!(),
     }
 }
 
@@ -151,6 +177,7 @@ fn carry(
     alloc: Global,
     state: &State,
     solved: &Solved,
+    found: Option<bool>,
     caller: &Caller,
     command: &Command,
 ) -> Result<Outcome, DeskFault>
@@ -158,7 +185,8 @@ fn carry(
     requires solution { IsSolutionOf state.now.tables solved.now }
     requires stated { IsStated caller.now command.now }
     requires draws { commands.draws command.now ≡ false }
-    ensures { IsCarried (RowBy state.now caller.now command.now) result }
+    requires asks { commands.lists command.now ≡ false }
+    ensures { IsCarried (RowBy state.now found caller.now command.now) result }
 {
     match command {
         Command::SetAdmin(account, on) => set_admin(state, solved, caller, *account, *on),
@@ -179,7 +207,14 @@ fn carry(
         Command::CloseSession(session) => close_session(state, solved, caller, *session),
         Command::AddAccount(_, _) => unreachable!(),
         Command::MakeToken { .. } | Command::Child { .. } => unreachable!(),
+        Command::Claim { token, permissions } => {
+            claim(alloc, state, solved, caller, token, permissions)
+        }
+        Command::Restore(token) => restore(state, solved, caller, token),
+        Command::DropSaved(token) => drop_saved(state, solved, caller, token),
         Command::StartRun(_) | Command::OpenSession { .. } => unreachable!(),
+        Command::Choose { .. } | Command::Save { .. } => unreachable!(),
+        Command::Options(_, _) => unreachable!(),
     }
 }
 
@@ -194,6 +229,7 @@ fn decide_drawing(
     state: &State,
     solved: &Solved,
     entries: u64,
+    found: Option<bool>,
     caller: &Caller,
     command: &Command,
 ) -> Decision
@@ -201,10 +237,10 @@ fn decide_drawing(
     requires solution { IsSolutionOf state.now.tables solved.now }
     requires stated { IsStated caller.now command.now }
     requires draws { commands.draws command.now ≡ true }
-    ensures decided { Decides state.now entries (RowBy state.now caller.now command.now) result }
+    ensures decided { Decides state.now entries (RowBy state.now found caller.now command.now) result }
     ensures fits { FitsIfDecided state.now result }
 {
-    match ready(state, solved, caller, command) {
+    match ready(state, solved, found, caller, command) {
         Err(fault) => match fault {
             DeskFault::Refused(refusal) => Decision::Refused(refusal),
             DeskFault::Memory => Decision::Memory,
@@ -227,6 +263,7 @@ fn decide_plain(
     state: &State,
     solved: &Solved,
     entries: u64,
+    found: Option<bool>,
     caller: &Caller,
     command: &Command,
 ) -> Decision
@@ -234,11 +271,12 @@ fn decide_plain(
     requires solution { IsSolutionOf state.now.tables solved.now }
     requires stated { IsStated caller.now command.now }
     requires draws { commands.draws command.now ≡ false }
-    ensures decided { Decides state.now entries (RowBy state.now caller.now command.now) result }
+    requires asks { commands.lists command.now ≡ false }
+    ensures decided { Decides state.now entries (RowBy state.now found caller.now command.now) result }
     ensures fits { FitsIfDecided state.now result }
     ensures never_draws { result ≡ Decision.Draw → ⊥ }
 {
-    match carry(alloc, state, solved, caller, command) {
+    match carry(alloc, state, solved, found, caller, command) {
         Err(fault) => match fault {
             DeskFault::Refused(refusal) => Decision::Refused(refusal),
             DeskFault::Memory => Decision::Memory,
@@ -256,36 +294,41 @@ fn decide_plain(
     }
 }
 
-/// What is decided of an order at that many entries, with no secret. A change that is decided fits the state.
+/// What is decided of an order at that many entries, with no secret, and with what the sites have of the item that it chooses. A change that is
+/// decided fits the state.
 #[tactic(auto, unfolding(crate::specs::Orders::RowOf))]
 pub fn decide(
     alloc: Global,
     state: &State,
     solved: &Solved,
     entries: u64,
+    found: Option<bool>,
     order: &Order,
 ) -> Decision
     requires formed { IsWellFormed state.now }
     requires solution { IsSolutionOf state.now.tables solved.now }
-    ensures decided { Decides state.now entries (RowOf state.now order.now) result }
+    requires asks { commands.lists order.now.command ≡ false }
+    ensures decided { Decides state.now entries (RowOf state.now found order.now) result }
     ensures draws { result ≡ Decision.Draw → commands.draws order.now.command ≡ true }
-    ensures one { IsOne (RowOf state.now order.now) }
+    ensures one { IsOne (RowOf state.now found order.now) }
     ensures fits { FitsIfDecided state.now result }
 {
     let caller = &order.caller;
     let command = &order.command;
     if draws(command) {
-        decide_drawing(state, solved, entries, caller, command)
+        decide_drawing(state, solved, entries, found, caller, command)
     } else {
-        decide_plain(alloc, state, solved, entries, caller, command)
+        decide_plain(alloc, state, solved, entries, found, caller, command)
     }
 }
 
 // The same with the digest of the secret that was drawn.
 fn complete(
+    alloc: Global,
     state: &State,
     solved: &Solved,
     entries: u64,
+    found: Option<bool>,
     caller: &Caller,
     command: &Command,
     digest: Digest,
@@ -295,11 +338,11 @@ fn complete(
     requires solution { IsSolutionOf state.now.tables solved.now }
     requires stated { IsStated caller.now command.now }
     requires draws { commands.draws command.now ≡ true }
-    requires wants { WantsSecret entries (RowBy state.now caller.now command.now) }
-    ensures decided { DecidesAt state.now entries digest (RowBy state.now caller.now command.now) result }
+    requires wants { WantsSecret entries (RowBy state.now found caller.now command.now) }
+    ensures decided { DecidesAt state.now entries digest (RowBy state.now found caller.now command.now) result }
     ensures fits { FitsIfDecided state.now result }
 {
-    match carry_at(state, solved, caller, command, digest) {
+    match carry_at(alloc, state, solved, found, caller, command, digest) {
         Err(fault) => match fault {
             DeskFault::Refused(refusal) => Decision::Refused(refusal),
             DeskFault::Memory => Decision::Memory,
@@ -315,9 +358,11 @@ fn complete(
 /// decided fits the state.
 #[tactic(auto, unfolding(crate::specs::Orders::RowOf))]
 pub fn decide_at(
+    alloc: Global,
     state: &State,
     solved: &Solved,
     entries: u64,
+    found: Option<bool>,
     order: &Order,
     digest: Digest,
 ) -> Decision
@@ -325,14 +370,16 @@ pub fn decide_at(
     requires few { length state.now.sessions < 2 ^ 32 - 1 }
     requires solution { IsSolutionOf state.now.tables solved.now }
     requires draws { commands.draws order.now.command ≡ true }
-    requires wants { WantsSecret entries (RowOf state.now order.now) }
-    ensures decided { DecidesAt state.now entries digest (RowOf state.now order.now) result }
+    requires wants { WantsSecret entries (RowOf state.now found order.now) }
+    ensures decided { DecidesAt state.now entries digest (RowOf state.now found order.now) result }
     ensures fits { FitsIfDecided state.now result }
 {
     complete(
+        alloc,
         state,
         solved,
         entries,
+        found,
         &order.caller,
         &order.command,
         digest,

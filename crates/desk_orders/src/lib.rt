@@ -5,8 +5,10 @@ mod deciding;
 mod order;
 mod reply;
 mod secrets;
+mod sites;
 
 pub use deciding::{Decision, ENTRY_LIMIT, decide, decide_at};
 pub use order::{Command, Order};
-pub use reply::{Listed, OrderFault, Reply};
+pub use reply::{Listing, OrderFault, Reply};
 pub use secrets::{SecretUse, draws, secret_text, secret_use, shown_text};
+pub use sites::{found_of, list_options, lists};

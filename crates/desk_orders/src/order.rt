@@ -5,9 +5,10 @@ ghost use Rattle.desk_orders.specs.Commands as commands;
 
 use app_manifest::Manifest;
 use host_base::{AccountId, AppId, Digest, GrainId, GrantId, SessionId};
-use perm_roles::Assignment;
+use perm_roles::{Assignment, PermSet};
 use plain_data::Name;
-use share_graph::{Caller, Needs};
+use powerbox_match::Query;
+use share_graph::{Caller, Needs, Offer};
 use std::marker::Model;
 
 /// What a caller asks for.
@@ -62,9 +63,32 @@ pub enum Command {
     },
     /// A session is closed.
     CloseSession(SessionId),
+    /// What may be chosen for a grain, of what matches a query.
+    Options(GrainId, Query),
+    /// What is offered is chosen for a grain, which asked by a query: another grain, with an assignment, or an item of a site.
+    Choose {
+        grain: GrainId,
+        offer: Offer,
+        query: Query,
+        assignment: Assignment,
+    },
+    /// The run that calls claims what was chosen for its grain, whose token has this digest, while the chooser holds the permissions on that grain.
+    Claim {
+        token: Digest,
+        permissions: PermSet,
+    },
+    /// What a handle of the run that calls stands for is saved, with a label.
+    Save {
+        handle: u32,
+        label: Name,
+    },
+    /// The run that calls gets a handle to what was saved, whose token has this digest.
+    Restore(Digest),
+    /// What was saved, whose token has this digest, is dropped.
+    DropSaved(Digest),
 }
 
-/// A command with its caller, who is as its row asks: a login, a bearer, or either. A grain is named to run or to be opened exactly
+/// A command with its caller, who is as its row asks: a login, a bearer, either, or a run. A grain is named to run or to be opened exactly
 /// where the caller is a login. A handle in it has the form of one, and a manifest in it is sound.
 #[derive(Drop)]
 pub struct Order {
@@ -75,11 +99,12 @@ pub struct Order {
 impl Model for Order {
     ghost use Rattle.std.specs.Coded.{codes};
     ghost use Rattle.app_manifest.specs.contracts.manifest.Manifest as manifest_type;
+    ghost use Rattle.powerbox_match.specs.Code.{descriptor_code};
     ghost use Rattle.desk_orders.specs.Commands.{Asked, IsStated};
 
     ghost Value = { Asked };
 
-    ghost coded = { Prim.hlevel (codes, manifest_type.the_row.coded) };
+    ghost coded = { Prim.hlevel (codes, manifest_type.the_row.coded, descriptor_code) };
 
     ghost view = { λ order. record { caller = order.caller; command = order.command } };
 

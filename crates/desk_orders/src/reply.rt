@@ -1,16 +1,13 @@
 //! What is answered to orders.
 
 use host_base::{Bytes, Memory};
-use powerbox_match::Quality;
-use share_graph::{Made, Offer, Refusal};
+use plain_data::List;
+use saved_refs::Listed;
+use share_graph::{Made, Refusal};
 use thiserror::Error;
 
-/// An offer of the powerbox, and how well it matches what was asked for.
-#[derive(Clone, Copy, Debug, PartialEq, Eq)]
-pub struct Listed {
-    pub offer: Offer,
-    pub quality: Quality,
-}
+/// What may be chosen: grains, preferred ones first, then by number; then what the sites offer, preferred first, then by tag and item.
+pub type Listing = List<Listed>;
 
 /// The answer to an order that was carried out or refused.
 #[derive(Drop)]
@@ -18,7 +15,7 @@ pub enum Reply {
     /// What was made or is there already, and the text of the secret that was drawn, where the reply shows it.
     Made(Made, Option<Bytes>),
     /// What may be chosen.
-    Options(Vec<Listed>),
+    Options(Listing),
     /// Why nothing was done.
     Refused(Refusal),
 }

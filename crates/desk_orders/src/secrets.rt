@@ -34,6 +34,9 @@ pub fn secret_use(command: &Command) -> Option<SecretUse>
         Command::Trash(_) | Command::Untrash(_) => None,
         Command::Share { .. } | Command::Redeem(_) | Command::Revoke(_) => None,
         Command::StopRun(_) | Command::CloseSession(_) => None,
+        Command::Choose { .. } | Command::Save { .. } => Some(SecretUse::Token),
+        Command::Options(_, _) | Command::Claim { .. } => None,
+        Command::Restore(_) | Command::DropSaved(_) => None,
     }
 }
 

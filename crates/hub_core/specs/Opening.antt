@@ -7,6 +7,7 @@ use Rattle.share_graph.specs.declared.state.State.{State}
 use Rattle.share_graph.specs.declared.state.Tables.{Tables}
 use Rattle.row_tables.specs.Checks.{GivesTables, IsBadRow}
 use Rattle.row_tables.specs.declared.stored.BadRow.{BadRow}
+use Rattle.hub_core.specs.Sharing.{Sharing}
 use Rattle.hub_core.specs.declared.opening.OpenFault.{OpenFault}
 use Rattle.hub_core.specs.declared.opening.OpenFault.TheVariants as open_fault
 
@@ -27,7 +28,22 @@ pub record HasBadRow (keeping : Keeping) (bad : BadRow) : Type 0 where
   pub first : IsBadRow rows bad
 
 -- Why a history isn't opened: the keeper failed, which was counted, its rows have a bad one, or memory ran out.
-abbrev pub HasCause : Keeping → Keeping → OpenFault → Type 0
-HasCause old new open_fault.Store = Rose old.faults new.faults
-HasCause old new (open_fault.BadRow bad) = HasBadRow old bad
-HasCause old new open_fault.Memory = Unit {0}
+pub record HasCause (old new : Keeping) (fault : OpenFault) : Type 0 where
+  pub store : fault ≡ open_fault.Store → Rose old.faults new.faults
+  pub bad_row : (bad : BadRow) → fault ≡ open_fault.BadRow bad → HasBadRow old bad
+
+-- A HISTORY IS OPENED on the rows of a keeper: it begins with the tables that they state, and has no entry.
+pub record IsOpenedOn {K S P C : Type 0} (keeping : Keeping) (secrets : S) (spawner : P) (sites : List C) (locked : Sharing K S P C) : Type 0 where
+  pub tables : Tables
+  pub loaded : AreLoaded keeping tables
+  pub start : locked.start ≡ opened tables
+  pub history : locked.history ≡ []
+  pub secrets_are : locked.secrets ≡ secrets
+  pub spawner_is : locked.spawner ≡ spawner
+  pub sites_are : locked.sites ≡ sites
+
+-- It isn't opened, for a cause, and the objects are handed back.
+pub record IsClosedOn {S P : Type 0} (old new : Keeping) (secrets secrets' : S) (spawner spawner' : P) (fault : OpenFault) : Type 0 where
+  pub cause : HasCause old new fault
+  pub secrets_are : secrets' ≡ secrets
+  pub spawner_is : spawner' ≡ spawner

@@ -1,11 +1,13 @@
 //! Adding an entry to a history, in place.
 
-ghost use Rattle.std.specs.Prelude.{◌≡◌, ◌<◌, IfOk, OnOk, OnErr, vec_len, vec_capacity};
+ghost use Rattle.std.specs.Prelude.{◌≡◌, ◌<◌, ◌++◌, ◌∷◌, [], IfOk, OnOk, OnErr, vec_len, vec_capacity};
 ghost use Rattle.share_graph.specs.EventFits.{EventFits};
 ghost use Rattle.share_graph.specs.History as history;
 ghost use Rattle.share_graph.specs.WellFormed.{IsWellFormed};
 ghost use Rattle.live_access.specs.Kept.{IsSolvedFor};
+ghost use Rattle.live_access.specs.Ready.{IsReadyFor};
 ghost use Rattle.row_tables.specs.RowAfter.{AddsNext};
+ghost use Rattle.state_step.specs.Staging.{event_of, HasRoomFor};
 ghost use Rattle.hub_core.specs.Adding.{Adds, HasItsRow, KeepsRows};
 ghost use Rattle.hub_core.specs.Storing.{IsStored};
 
@@ -14,10 +16,10 @@ use cloud_keeper::{Keeper, Row};
 use desk_orders::OrderFault;
 use grain_supervise::Spawner;
 use host_base::Memory;
-use live_access::Solution;
+use live_access::{Region, Solution};
 use row_tables::row_after;
 use share_graph::{Event, State, Tables};
-use state_step::{apply, copy_of_event, prepare};
+use state_step::{Staged, apply, copy_of_event, prepare};
 use std::alloc::Global;
 
 // Takes room for one entry more.
@@ -38,6 +40,28 @@ fn row_of(alloc: Global, tables: &Tables, event: &Event) -> Result<Option<Row>, 
     ensures kept { IfOk result (λ row. KeepsRows tables.now event.now row) }
 {
     row_after(alloc, tables, event)
+}
+
+// Lets an event happen for which all room was taken: in the state, in what is solved, and as the next entry.
+fn happen(
+    state: &mut State,
+    solution: &mut Solution,
+    entries: &mut Vec<Event>,
+    staged: Staged,
+    region: Region,
+    event: Event,
+)
+    requires staged { event_of staged ≡ event }
+    requires staged_room { HasRoomFor state.old staged }
+    requires ready { IsReadyFor state.old event solution.old region }
+    requires room { vec_len entries.old < vec_capacity entries.old }
+    ensures state { state.new ≡ history.after state.old event }
+    ensures solved { IsSolvedFor state.new.tables solution.new }
+    ensures entry { entries.new.items ≡ entries.old.items ++ event ∷ [] }
+{
+    apply(state, staged);
+    solution.settle(state, region);
+    entries.push_reserved(event);
 }
 
 /// Adds an entry: first all room is taken, in the history, in the state and in what is solved; then the spawner or the keeper is told;
@@ -75,8 +99,6 @@ pub fn add_entry<K: Keeper, P: Spawner>(
             return Err(fault);
         }
     }
-    apply(state, staged);
-    solution.settle(state, region);
-    entries.push_reserved(event);
+    happen(state, solution, entries, staged, region, event);
     Ok(())
 }

@@ -1,6 +1,6 @@
 //! Answering an order at the end of a history.
 
-ghost use Rattle.std.specs.Prelude.{◌≡◌, ◌+◌, ◌<◌, ◌≤◌, length, true, IfOk};
+ghost use Rattle.std.specs.Prelude.{◌≡◌, ◌+◌, ◌<◌, ◌≤◌, length, true, false, IfOk};
 ghost use Rattle.share_graph.specs.declared.state.State.{State};
 ghost use Rattle.share_graph.specs.EventFits.{EventFits};
 ghost use Rattle.share_graph.specs.History as history;
@@ -11,18 +11,22 @@ ghost use Rattle.desk_orders.specs.Commands as commands;
 ghost use Rattle.desk_orders.specs.Orders.{RowOf};
 ghost use Rattle.desk_orders.specs.Secrets as texts;
 ghost use Rattle.desk_orders.specs.Secrets.{text_digest};
+ghost use Rattle.desk_orders.specs.Sites.{Law};
 ghost use Rattle.hub_core.specs.Adding.{Adds};
-ghost use Rattle.hub_core.specs.Sharing.{Holds, Answered};
+ghost use Rattle.hub_core.specs.Sharing.{Holds, Answered, AnsweredBy};
 ghost use Rattle.hub_core.specs.Storing.{IsStored};
 
 use crate::adding::add_entry;
 use cloud_keeper::Keeper;
-use desk_orders::{Decision, Order, OrderFault, Reply, decide, decide_at, secret_text, shown_text};
+use desk_orders::{
+    Decision, Order, OrderFault, Reply, decide, decide_at, found_of, secret_text, shown_text,
+};
 use grain_supervise::Spawner;
 use host_base::{Bytes, Digest, Memory, Secrets, digest_of};
 use live_access::Solution;
 use share_graph::{Event, State};
 use share_tokens::Secret;
+use site_caps::{Registry, SiteDriver};
 use std::alloc::Global;
 
 // Accepts a change: adds its event.
@@ -77,6 +81,7 @@ fn answer_drawn<K: Keeper, S: Secrets, P: Spawner>(
     keeper: &mut K,
     secrets: &mut S,
     spawner: &mut P,
+    found: Option<bool>,
     order: &Order,
 ) -> Result<Reply, OrderFault>
     requires formed { IsWellFormed state.old }
@@ -84,10 +89,11 @@ fn answer_drawn<K: Keeper, S: Secrets, P: Spawner>(
     requires few { length entries.old.items ≤ 1000000 }
     requires sessions { length state.old.sessions < 2147483648 + length entries.old.items }
     requires draws { commands.draws order.now.command ≡ true }
-    requires wants { WantsSecret (length entries.old.items) (RowOf state.old order.now) }
+    requires asks { commands.lists order.now.command ≡ false }
+    requires wants { WantsSecret (length entries.old.items) (RowOf state.old found order.now) }
     ensures kept { (start : State) → state.old ≡ history.replay start entries.old.items → Holds start state.new entries.new.items solution.new }
     ensures stored { IsStored (K.keeping keeper.old) state.old.tables → IsStored (K.keeping keeper.new) state.new.tables }
-    ensures answered { Answered state.old entries.old.items entries.new.items (S.drawer secrets.old) (S.drawer secrets.new)
+    ensures answered { (law : Law) → Answered law found state.old entries.old.items entries.new.items (S.drawer secrets.old) (S.drawer secrets.new)
         (record { spawns = P.spawns spawner.old; keeping = K.keeping keeper.old }) (record { spawns = P.spawns spawner.new; keeping = K.keeping keeper.new }) order.now result }
 {
     let Ok(secret) = secrets.draw() else {
@@ -97,7 +103,7 @@ fn answer_drawn<K: Keeper, S: Secrets, P: Spawner>(
         return Err(OrderFault::Memory);
     };
     let count = count_of(entries);
-    match decide_at(state, solution.solved(), count, order, digest) {
+    match decide_at(alloc, state, solution.solved(), count, found, order, digest) {
         Decision::Refused(refusal) => Ok(Reply::Refused(refusal)),
         Decision::Same(_) => unreachable!(),
         Decision::Draw => unreachable!(),
@@ -120,8 +126,8 @@ fn answer_drawn<K: Keeper, S: Secrets, P: Spawner>(
     }
 }
 
-/// Answers an order at the end of a history.
-pub fn answer<K: Keeper, S: Secrets, P: Spawner>(
+// Answers an order at the end of a history, with what the sites have of what it chooses. It asks for no list.
+fn answer<K: Keeper, S: Secrets, P: Spawner>(
     alloc: Global,
     state: &mut State,
     solution: &mut Solution,
@@ -129,23 +135,25 @@ pub fn answer<K: Keeper, S: Secrets, P: Spawner>(
     keeper: &mut K,
     secrets: &mut S,
     spawner: &mut P,
+    found: Option<bool>,
     order: &Order,
 ) -> Result<Reply, OrderFault>
     requires formed { IsWellFormed state.old }
     requires solved { IsSolvedFor state.old.tables solution.old }
     requires few { length entries.old.items ≤ 1000000 }
     requires sessions { length state.old.sessions < 2147483648 + length entries.old.items }
+    requires asks { commands.lists order.now.command ≡ false }
     ensures kept { (start : State) → state.old ≡ history.replay start entries.old.items → Holds start state.new entries.new.items solution.new }
     ensures stored { IsStored (K.keeping keeper.old) state.old.tables → IsStored (K.keeping keeper.new) state.new.tables }
-    ensures answered { Answered state.old entries.old.items entries.new.items (S.drawer secrets.old) (S.drawer secrets.new)
+    ensures answered { (law : Law) → Answered law found state.old entries.old.items entries.new.items (S.drawer secrets.old) (S.drawer secrets.new)
         (record { spawns = P.spawns spawner.old; keeping = K.keeping keeper.old }) (record { spawns = P.spawns spawner.new; keeping = K.keeping keeper.new }) order.now result }
 {
     let count = count_of(entries);
-    match decide(alloc, state, solution.solved(), count, order) {
+    match decide(alloc, state, solution.solved(), count, found, order) {
         Decision::Refused(refusal) => Ok(Reply::Refused(refusal)),
         Decision::Same(made) => Ok(Reply::Made(made, None)),
         Decision::Draw => answer_drawn(
-            alloc, state, solution, entries, keeper, secrets, spawner, order,
+            alloc, state, solution, entries, keeper, secrets, spawner, found, order,
         ),
         Decision::Change(event, made) => {
             match accept(alloc, state, solution, entries, keeper, spawner, event, &[]) {
@@ -155,4 +163,35 @@ pub fn answer<K: Keeper, S: Secrets, P: Spawner>(
         }
         Decision::Memory => Err(OrderFault::Memory),
     }
+}
+
+/// Answers an order that asks for no list, with what the drivers of the sites have of what it chooses.
+pub fn answer_with_sites<K: Keeper, S: Secrets, P: Spawner, C: SiteDriver + Drop>(
+    alloc: Global,
+    state: &mut State,
+    solution: &mut Solution,
+    entries: &mut Vec<Event>,
+    keeper: &mut K,
+    secrets: &mut S,
+    spawner: &mut P,
+    sites: &Registry<C>,
+    order: &Order,
+) -> Result<Reply, OrderFault>
+    requires formed { IsWellFormed state.old }
+    requires solved { IsSolvedFor state.old.tables solution.old }
+    requires few { length entries.old.items ≤ 1000000 }
+    requires sessions { length state.old.sessions < 2147483648 + length entries.old.items }
+    requires asks { commands.lists order.now.command ≡ false }
+    ensures kept { (start : State) → state.old ≡ history.replay start entries.old.items → Holds start state.new entries.new.items solution.new }
+    ensures stored { IsStored (K.keeping keeper.old) state.old.tables → IsStored (K.keeping keeper.new) state.new.tables }
+    ensures answered { AnsweredBy (record { tags = C.Law.tags; may_offer = C.Law.may_offer; may_restore = C.Law.may_restore })
+        state.old entries.old.items entries.new.items (S.drawer secrets.old) (S.drawer secrets.new)
+        (record { spawns = P.spawns spawner.old; keeping = K.keeping keeper.old }) (record { spawns = P.spawns spawner.new; keeping = K.keeping keeper.new }) order.now result }
+{
+    let Ok(found) = found_of(alloc, state, sites, order) else {
+        return Err(OrderFault::Memory);
+    };
+    answer(
+        alloc, state, solution, entries, keeper, secrets, spawner, found, order,
+    )
 }

@@ -1,8 +1,10 @@
 ghost use Rattle.std.specs.Prelude.{◌≡◌, length, IfOk};
 ghost use Rattle.hub_core.specs.Book.{Book, TakesNone, Judged, Ordered};
+ghost use Rattle.hub_core.specs.Giving.{Gives};
 
 use desk_orders::{Order, OrderFault, Reply};
 use host_base::{Key, Memory, Verdict};
+use site_caps::{SiteFault, SiteText};
 use std::alloc::Global;
 
 /// What judges keys and answers orders. Others may add entries to its history at any call.
@@ -21,4 +23,9 @@ pub trait Desk {
     /// Answers an order, at a place of the history: where it changes something, its event is the entry at that place.
     fn order(&mut self, alloc: Global, order: Order) -> (u64, Result<Reply, OrderFault>)
         ensures { Ordered (book self.old) (book self.new) order result.0 result.1 };
+
+    /// What the site of a tag gives for an item, by the law of the sites. No command is accepted by it.
+    fn site(&mut self, alloc: Global, tag: u64, item: u32) -> Result<SiteText, SiteFault>
+        ensures none { TakesNone (book self.old) (book self.new) }
+        ensures gives { Gives (book self.old).law tag item result };
 }

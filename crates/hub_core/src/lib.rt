@@ -10,7 +10,7 @@ mod solo;
 mod telling;
 
 pub use desk::Desk;
-pub use desk_orders::{Command, Listed, Order, OrderFault, Reply};
+pub use desk_orders::{Command, Listing, Order, OrderFault, Reply};
 pub use locked::Locked;
 pub use opening::{NotOpened, OpenFault};
 pub use solo::SoloDesk;

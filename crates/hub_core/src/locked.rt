@@ -1,33 +1,37 @@
 //! One value that holds the state, its history and what each node holds.
 
-ghost use Rattle.std.specs.Prelude.{◌≡◌, ◌<◌, [], length, IfOk, IfErr};
-ghost use Rattle.share_graph.specs.declared.state.Tables.{Tables};
+ghost use Rattle.std.specs.Prelude.{◌≡◌, ◌<◌, [], length, true, false, IfOk, IfErr};
 ghost use Rattle.share_graph.specs.History.{replay};
 ghost use Rattle.share_graph.specs.WellFormed.{IsWellFormed};
 ghost use Rattle.least_access.specs.Solved.{IsSolutionOf};
 ghost use Rattle.session_table.specs.Verdict.{IsVerdict};
 ghost use Rattle.live_access.specs.Kept.{IsSolvedFor};
-ghost use Rattle.hub_core.specs.Opening.{AreLoaded, HasCause, opened};
-ghost use Rattle.hub_core.specs.Sharing.{Answered};
+ghost use Rattle.hub_core.specs.Opening.{IsOpenedOn, IsClosedOn};
+ghost use Rattle.desk_orders.specs.Commands as commands;
+ghost use Rattle.desk_orders.specs.Listing.{IsListed};
+ghost use Rattle.hub_core.specs.Giving.{Gives};
+ghost use Rattle.hub_core.specs.Listing.{reply_of};
+ghost use Rattle.hub_core.specs.Sharing.{AnsweredBy};
 ghost use Rattle.hub_core.specs.Storing.{IsStored};
 
-use crate::answering::answer;
+use crate::answering::answer_with_sites;
 use crate::opening::{NotOpened, OpenFault, load_tables};
 use cloud_keeper::Keeper;
-use desk_orders::{Order, OrderFault, Reply};
+use desk_orders::{Order, OrderFault, Reply, list_options, lists};
 use grain_supervise::Spawner;
 use host_base::{Key, Memory, Secrets, Verdict};
 use least_access::Solved;
 use live_access::{Solution, solve};
 use session_table::verdict;
-use share_graph::{Event, Rows, State, Tables, copy_of};
+use share_graph::{DeskFault, Event, Rows, State, Tables, copy_of};
+use site_caps::{Registry, SiteDriver, SiteFault, SiteText};
 use std::alloc::Global;
 use std::marker::Model;
 
-/// The state, its history and what each node holds, with the keeper of its rows, the secrets that are drawn for it and the spawner of its
-/// runs. It is what one holds who has the lock.
+/// The state, its history and what each node holds, with the keeper of its rows, the secrets that are drawn for it, the spawner of its runs
+/// and the drivers of its sites. It is what one holds who has the lock.
 #[derive(Drop)]
-pub struct Locked<K: Keeper, S, P> {
+pub struct Locked<K: Keeper, S, P, C: SiteDriver> {
     start: State,
     state: State,
     solution: Solution,
@@ -35,20 +39,21 @@ pub struct Locked<K: Keeper, S, P> {
     keeper: K,
     secrets: S,
     spawner: P,
+    sites: Registry<C>,
 }
 
-impl<K: Keeper, S, P> Model for Locked<K, S, P> {
+impl<K: Keeper, S, P, C: SiteDriver> Model for Locked<K, S, P, C> {
     ghost use Rattle.std.specs.Coded.{codes};
     ghost use Rattle.share_graph.specs.contracts.event.Event as event_type;
     ghost use Rattle.share_graph.specs.contracts.state.State as state_type;
     ghost use Rattle.hub_core.specs.Sharing.{Sharing, Holds};
     ghost use Rattle.hub_core.specs.Storing.{IsStored};
 
-    ghost Value = { Sharing K S P };
+    ghost Value = { Sharing K S P C };
 
     ghost coded = { Prim.hlevel (codes, state_type.the_row.coded, event_type.the_row.coded) };
 
-    ghost view = { λ locked. record { start = locked.start; history = locked.history.items; keeper = locked.keeper; secrets = locked.secrets; spawner = locked.spawner } };
+    ghost view = { λ locked. record { start = locked.start; history = locked.history.items; keeper = locked.keeper; secrets = locked.secrets; spawner = locked.spawner; sites = locked.sites } };
 
     ghost invariant = { λ locked. Holds locked.start locked.state locked.history.items locked.solution × IsStored (K.keeping locked.keeper) locked.state.tables };
 }
@@ -63,7 +68,7 @@ fn open(alloc: Global, state: &State) -> Result<(State, Solution), Memory>
     Ok((start, solution))
 }
 
-impl<K: Keeper, S: Secrets, P: Spawner> Locked<K, S, P> {
+impl<K: Keeper, S: Secrets, P: Spawner, C: SiteDriver + Drop> Locked<K, S, P, C> {
     /// Opens a history that begins with a well-formed state of fewer than 2^31 sessions, whose tables the keeper has. Its one fault is want
     /// of memory.
     pub fn from_state(
@@ -72,11 +77,12 @@ impl<K: Keeper, S: Secrets, P: Spawner> Locked<K, S, P> {
         keeper: K,
         secrets: S,
         spawner: P,
+        sites: Registry<C>,
     ) -> Result<Self, NotOpened<K, S, P>>
         requires formed { IsWellFormed state }
         requires few { length state.sessions < 2147483648 }
         requires stored { IsStored (K.keeping keeper) state.tables }
-        ensures ok { IfOk result (λ locked. locked ≡ record { start = state; history = []; keeper = keeper; secrets = secrets; spawner = spawner }) }
+        ensures ok { IfOk result (λ locked. locked ≡ record { start = state; history = []; keeper = keeper; secrets = secrets; spawner = spawner; sites = sites }) }
         ensures err { IfErr result (λ closed. closed ≡ record { fault = OpenFault.Memory; keeper = keeper; secrets = secrets; spawner = spawner }) }
     {
         match open(alloc, &state) {
@@ -88,6 +94,7 @@ impl<K: Keeper, S: Secrets, P: Spawner> Locked<K, S, P> {
                 keeper,
                 secrets,
                 spawner,
+                sites,
             }),
             Err(Memory) => Err(NotOpened {
                 fault: OpenFault::Memory,
@@ -107,11 +114,10 @@ impl<K: Keeper, S: Secrets, P: Spawner> Locked<K, S, P> {
         keeper: K,
         secrets: S,
         spawner: P,
+        sites: Registry<C>,
     ) -> Result<Self, NotOpened<K, S, P>>
-        ensures ok { IfOk result (λ locked. (t : Tables) × AreLoaded (K.keeping keeper) t
-            × (locked ≡ record { start = opened t; history = []; keeper = locked.keeper; secrets = secrets; spawner = spawner })) }
-        ensures err { IfErr result (λ closed. HasCause (K.keeping keeper) (K.keeping closed.keeper) closed.fault
-            × (closed.secrets ≡ secrets) × (closed.spawner ≡ spawner)) }
+        ensures ok { IfOk result (IsOpenedOn (K.keeping keeper) secrets spawner sites) }
+        ensures err { IfErr result (λ closed. IsClosedOn (K.keeping keeper) (K.keeping closed.keeper) secrets closed.secrets spawner closed.spawner closed.fault) }
     {
         let mut keeper = keeper;
         match load_tables(alloc, &mut keeper) {
@@ -122,7 +128,7 @@ impl<K: Keeper, S: Secrets, P: Spawner> Locked<K, S, P> {
                     runs: Rows::empty(alloc),
                     handles: Rows::empty(alloc),
                 };
-                Locked::from_state(alloc, state, keeper, secrets, spawner)
+                Locked::from_state(alloc, state, keeper, secrets, spawner, sites)
             }
             Err(fault) => Err(NotOpened {
                 fault,
@@ -171,17 +177,53 @@ impl<K: Keeper, S: Secrets, P: Spawner> Locked<K, S, P> {
         verdict(alloc, &self.state, self.solution.solved(), key)
     }
 
-    /// Answers an order at the end of the history. Where it changes something, its event is the next entry, and the keeper has the row that
-    /// it adds or changes; a refusal, a fault and want of memory leave the history and the rows as they were.
-    pub fn order(&mut self, alloc: Global, order: Order) -> Result<Reply, OrderFault>
+    /// What the site of a tag gives for an item.
+    ///
+    /// # Errors
+    /// `NoDriver` where there is no such site, and `NotOffered` where it gives nothing for the item.
+    pub fn site(&self, alloc: Global, tag: u64, item: u32) -> Result<SiteText, SiteFault>
+        ensures { Gives (record { tags = C.Law.tags; may_offer = C.Law.may_offer; may_restore = C.Law.may_restore }) tag item result }
+    {
+        match self.sites.restore(alloc, tag, item) {
+            Ok(text) => Ok(text),
+            Err(fault) => Err(fault),
+        }
+    }
+
+    // Answers an order that asks for a list.
+    fn list(&self, alloc: Global, order: &Order) -> Result<Reply, OrderFault>
+        requires { commands.lists order.now.command ≡ true }
+        ensures listed { (outcome : _) × IsListed (record { tags = C.Law.tags; may_offer = C.Law.may_offer; may_restore = C.Law.may_restore }) (replay self.now.start self.now.history) order.now outcome × (result ≡ reply_of outcome) }
+        ensures stored { IsStored (K.keeping self.now.keeper) (replay self.now.start self.now.history).tables }
+    {
+        match list_options(
+            alloc,
+            &self.state,
+            self.solution.solved(),
+            &self.sites,
+            order,
+        ) {
+            Ok(list) => Ok(Reply::Options(list)),
+            Err(fault) => match fault {
+                DeskFault::Refused(refusal) => Ok(Reply::Refused(refusal)),
+                DeskFault::Memory => Err(OrderFault::Memory),
+            },
+        }
+    }
+
+    // Answers an order that asks for no list.
+    fn carry_out(&mut self, alloc: Global, order: &Order) -> Result<Reply, OrderFault>
+        requires { commands.lists order.now.command ≡ false }
         ensures start { self.new.start ≡ self.old.start }
-        ensures answered { Answered (replay self.old.start self.old.history) self.old.history self.new.history
+        ensures sites { self.new.sites ≡ self.old.sites }
+        ensures answered { AnsweredBy (record { tags = C.Law.tags; may_offer = C.Law.may_offer; may_restore = C.Law.may_restore })
+            (replay self.old.start self.old.history) self.old.history self.new.history
             (S.drawer self.old.secrets) (S.drawer self.new.secrets)
             (record { spawns = P.spawns self.old.spawner; keeping = K.keeping self.old.keeper }) (record { spawns = P.spawns self.new.spawner; keeping = K.keeping self.new.keeper })
-            order result }
+            order.now result }
         ensures stored { IsStored (K.keeping self.new.keeper) (replay self.new.start self.new.history).tables }
     {
-        answer(
+        answer_with_sites(
             alloc,
             &mut self.state,
             &mut self.solution,
@@ -189,7 +231,27 @@ impl<K: Keeper, S: Secrets, P: Spawner> Locked<K, S, P> {
             &mut self.keeper,
             &mut self.secrets,
             &mut self.spawner,
-            &order,
+            &self.sites,
+            order,
         )
+    }
+
+    /// Answers an order at the end of the history. Where it changes something, its event is the next entry, and the keeper has the row that
+    /// it adds or changes; a refusal, a fault and want of memory leave the history and the rows as they were.
+    pub fn order(&mut self, alloc: Global, order: Order) -> Result<Reply, OrderFault>
+        ensures start { self.new.start ≡ self.old.start }
+        ensures sites { self.new.sites ≡ self.old.sites }
+        ensures answered { AnsweredBy (record { tags = C.Law.tags; may_offer = C.Law.may_offer; may_restore = C.Law.may_restore })
+            (replay self.old.start self.old.history) self.old.history self.new.history
+            (S.drawer self.old.secrets) (S.drawer self.new.secrets)
+            (record { spawns = P.spawns self.old.spawner; keeping = K.keeping self.old.keeper }) (record { spawns = P.spawns self.new.spawner; keeping = K.keeping self.new.keeper })
+            order result }
+        ensures stored { IsStored (K.keeping self.new.keeper) (replay self.new.start self.new.history).tables }
+    {
+        if lists(&order) {
+            self.list(alloc, &order)
+        } else {
+            self.carry_out(alloc, &order)
+        }
     }
 }

@@ -10,46 +10,47 @@ use cloud_keeper::Keeper;
 use desk_orders::{Order, OrderFault, Reply};
 use grain_supervise::Spawner;
 use host_base::{Key, Memory, Secrets, Verdict};
+use site_caps::{SiteDriver, SiteFault, SiteText};
 use std::alloc::Global;
 use std::marker::Model;
 
 /// A desk that owns its history: nobody else adds to it, so its places are all of it.
 #[derive(Drop)]
-pub struct SoloDesk<K: Keeper, S, P> {
-    locked: Locked<K, S, P>,
+pub struct SoloDesk<K: Keeper, S, P, C: SiteDriver> {
+    locked: Locked<K, S, P, C>,
 }
 
-impl<K: Keeper, S, P> Model for SoloDesk<K, S, P> {
+impl<K: Keeper, S, P, C: SiteDriver> Model for SoloDesk<K, S, P, C> {
     ghost use Rattle.std.specs.Coded.{codes};
     ghost use Rattle.share_graph.specs.contracts.event.Event as event_type;
     ghost use Rattle.share_graph.specs.contracts.state.State as state_type;
     ghost use Rattle.hub_core.specs.Sharing.{Sharing};
 
-    ghost Value = { Sharing K S P };
+    ghost Value = { Sharing K S P C };
 
     ghost coded = { Prim.hlevel (codes, state_type.the_row.coded, event_type.the_row.coded) };
 
     ghost view = { λ desk. desk.locked };
 }
 
-impl<K: Keeper, S: Secrets, P: Spawner> SoloDesk<K, S, P> {
+impl<K: Keeper, S: Secrets, P: Spawner, C: SiteDriver + Drop> SoloDesk<K, S, P, C> {
     /// A desk that owns a history.
-    pub fn new(locked: Locked<K, S, P>) -> Self
+    pub fn new(locked: Locked<K, S, P, C>) -> Self
         ensures { result ≡ locked }
     {
         SoloDesk { locked }
     }
 
     /// The history, handed back.
-    pub fn into_locked(self) -> Locked<K, S, P>
+    pub fn into_locked(self) -> Locked<K, S, P, C>
         ensures { result ≡ self }
     {
         self.locked
     }
 }
 
-impl<K: Keeper, S: Secrets, P: Spawner> Desk for SoloDesk<K, S, P> {
-    ghost book = { λ sharing. book_of sharing.start sharing.history (S.drawer sharing.secrets)
+impl<K: Keeper, S: Secrets, P: Spawner, C: SiteDriver + Drop> Desk for SoloDesk<K, S, P, C> {
+    ghost book = { λ sharing. book_of (record { tags = C.Law.tags; may_offer = C.Law.may_offer; may_restore = C.Law.may_restore }) sharing.start sharing.history (S.drawer sharing.secrets)
         (record { spawns = P.spawns sharing.spawner; keeping = K.keeping sharing.keeper }) };
 
     fn place(&self) -> u64 {
@@ -64,5 +65,9 @@ impl<K: Keeper, S: Secrets, P: Spawner> Desk for SoloDesk<K, S, P> {
     fn order(&mut self, alloc: Global, order: Order) -> (u64, Result<Reply, OrderFault>) {
         let place = self.locked.entries();
         (place, self.locked.order(alloc, order))
+    }
+
+    fn site(&mut self, alloc: Global, tag: u64, item: u32) -> Result<SiteText, SiteFault> {
+        self.locked.site(alloc, tag, item)
     }
 }

@@ -5,6 +5,7 @@
 use admin_run::{book_keeper, small_desk};
 use cloud_keeper::MemKeeper;
 use cloud_serve::{ConnEnd, serve_conn};
+use club_site::{PlainClub, plain_sites};
 use grain_supervise::{EchoLink, FakeSpawner};
 use host_base::{AccountId, Fails, GrainId, MemSink, MemSource, Memory, Secrets, SeqSecrets};
 use hub_core::SoloDesk;
@@ -23,10 +24,11 @@ fn bytes_of(alloc: Global, text: &str) -> Result<Vec<u8>, AllocError> {
 }
 
 // A server of the small book.
-fn desk(alloc: Global) -> Result<SoloDesk<MemKeeper, SeqSecrets, FakeSpawner>, Memory> {
+fn desk(alloc: Global) -> Result<SoloDesk<MemKeeper, SeqSecrets, FakeSpawner, PlainClub>, Memory> {
     let keeper = book_keeper(alloc, Fails::empty(alloc))?;
     let spawner = FakeSpawner::new(alloc, Fails::empty(alloc));
-    match small_desk(alloc, keeper, SeqSecrets::new(), spawner) {
+    let sites = plain_sites(alloc)?;
+    match small_desk(alloc, keeper, SeqSecrets::new(), spawner, sites) {
         Ok(desk) => Ok(desk),
         Err(_) => Err(Memory),
     }

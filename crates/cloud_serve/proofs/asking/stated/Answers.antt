@@ -59,3 +59,21 @@ returns-in-Open c = states c.args.route route.Open c.args.who c.args.body.now _ 
 
 pub returns-in-Wake : goal.returns-in-Wake
 returns-in-Wake c = states c.args.route route.Wake c.args.who c.args.body.now _ c.plain-in-Wake.result c.in-Wake.is refl c.plain-in-Wake.ensures
+
+pub returns-in-GrainQuery : goal.returns-in-GrainQuery
+returns-in-GrainQuery c = states c.args.route (route.GrainQuery c.in-GrainQuery.num) c.args.who c.args.body.now _ c.options.result c.in-GrainQuery.is refl c.options.ensures
+
+pub returns-in-GrainChoose : goal.returns-in-GrainChoose
+returns-in-GrainChoose c = states c.args.route (route.GrainChoose c.in-GrainChoose.num) c.args.who c.args.body.now _ c.choice.result c.in-GrainChoose.is refl c.choice.ensures
+
+pub returns-in-Claim : goal.returns-in-Claim
+returns-in-Claim c = states c.args.route route.Claim c.args.who c.args.body.now _ c.claim.result c.in-Claim.is refl c.claim.ensures
+
+pub returns-in-Save : goal.returns-in-Save
+returns-in-Save c = states c.args.route route.Save c.args.who c.args.body.now _ c.reference.result c.in-Save.is refl c.reference.ensures
+
+pub returns-in-Restore : goal.returns-in-Restore
+returns-in-Restore c = states c.args.route route.Restore c.args.who c.args.body.now _ c.restoration.result c.in-Restore.is refl c.restoration.ensures
+
+pub returns-in-Drop : goal.returns-in-Drop
+returns-in-Drop c = states c.args.route route.Drop c.args.who c.args.body.now _ c.drop_reference.result c.in-Drop.is refl c.drop_reference.ensures

@@ -27,3 +27,6 @@ pub returns-in-BadManifest-clause-takes : goal.returns-in-BadManifest-clause-tak
 returns-in-BadManifest-clause-takes g c low less =
     let shown : Shows c.args.request.now (showing.BadManifest c.in-BadManifest.bad) = subst (λ (s : Showing). Shows c.args.request.now s) c.in-BadManifest.is c.in-Ok.ensures in
     rw c.placed-in-BadManifest.ensures (answers_bad_manifest _ _ _ low c.args.last c.args.request.now c.in-BadManifest.bad c.command_reply.result shown (rw c.wants_head-head_only.ensures at c.command_reply.ensures))
+
+pub returns-in_default-clause-takes : goal.returns-in_default-clause-takes
+returns-in_default-clause-takes g c low less = breaks_at_once _ _ _ low c.args.request.now

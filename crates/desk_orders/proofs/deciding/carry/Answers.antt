@@ -11,3 +11,6 @@ returns-in-NewGrain c = rw c.in-NewGrain.is c.new_grain.ensures.row
 
 pub returns-in-Share : goal.returns-in-Share
 returns-in-Share c = rw c.in-Share.is c.share.ensures.row
+
+pub returns-in-Claim : goal.returns-in-Claim
+returns-in-Claim c = rw c.in-Claim.is c.claim.ensures.row

@@ -9,5 +9,5 @@ use Rattle.desk_orders.proofs.deciding.decide_plain.Goals as goal
 pub returns-else-entries-from-clause-fits : goal.returns-else-entries-from-clause-fits
 returns-else-entries-from-clause-fits c =
     let s = c.args.state.now in
-    (fits_by s c.requires.formed c.args.caller.now c.args.command.now c.requires.stated).fits (Plain c.in-Change.event) c.in-Change.made
-    (subst (λ (o : Outcome). IsCarried (RowBy s c.args.caller.now c.args.command.now) (Ok o)) c.in-Change.is c.in-Ok.ensures)
+    (fits_by s c.requires.formed c.args.found c.args.caller.now c.args.command.now c.requires.stated).fits (Plain c.in-Change.event) c.in-Change.made
+    (subst (λ (o : Outcome). IsCarried (RowBy s c.args.found c.args.caller.now c.args.command.now) (Ok o)) c.in-Change.is c.in-Ok.ensures)

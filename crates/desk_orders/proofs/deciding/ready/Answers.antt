@@ -8,3 +8,9 @@ returns-in-MakeToken c = rw c.in-MakeToken.is c.make_token_ready.ensures
 
 pub returns-in-Child : goal.returns-in-Child
 returns-in-Child c = rw c.in-Child.is c.child_ready.ensures
+
+pub returns-in-Choose : goal.returns-in-Choose
+returns-in-Choose c = rw c.in-Choose.is c.choose_ready.ensures
+
+pub returns-in-Save : goal.returns-in-Save
+returns-in-Save c = rw c.in-Save.is c.save_ready.ensures

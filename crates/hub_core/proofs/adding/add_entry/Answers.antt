@@ -13,6 +13,6 @@ returns-in-Err-clause-stored g c =
 
 pub returns-clause-stored : goal.returns-clause-stored
 returns-clause-stored g c =
-    let is : c.apply.new.state ≡ after c.args.state.now c.args.event = search rules in
-    stored_after (g.K.Keeper.keeping c.args.keeper.now) (g.K.Keeper.keeping c.tell.new.keeper) c.args.state.now c.apply.new.state c.args.event c.in_ok-row.row c.requires.formed c.requires.fits
+    let is : c.happen.new.state ≡ after c.args.state.now c.args.event = search rules in
+    stored_after (g.K.Keeper.keeping c.args.keeper.now) (g.K.Keeper.keeping c.tell.new.keeper) c.args.state.now c.happen.new.state c.args.event c.in_ok-row.row c.requires.formed c.requires.fits
     c.in_ok-row.ensures.kept c.in-Ok.ensures.stores is

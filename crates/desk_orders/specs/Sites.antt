@@ -1,0 +1,82 @@
+-- What the sites tell of an order, and what is listed of them.
+use Rattle.std.specs.Prelude.{◌≡◌, ◌⊎◌, ◌++◌, ◌∷◌, [], ℕ, Bool, List, Option, Some, None, Contains, option_map, map, filter}
+use Rattle.std.specs.List.{filter_map}
+use Rattle.host_base.specs.declared.ids.GrainId.{GrainId}
+use Rattle.powerbox_match.specs.Descriptor.{DescriptorData}
+use Rattle.powerbox_match.specs.Matching.{match_of, same_quality}
+use Rattle.powerbox_match.specs.declared.choices.Choice.{Choice}
+use Rattle.powerbox_match.specs.declared.value.Quality.{Quality}
+use Rattle.powerbox_match.specs.declared.value.Quality.TheVariants.{Preferred, Acceptable}
+use Rattle.share_graph.specs.declared.desk.Caller.{Caller}
+use Rattle.share_graph.specs.declared.desk.Offer.{Offer}
+use Rattle.share_graph.specs.declared.desk.Offer.TheVariants as offer
+use Rattle.share_graph.specs.declared.rows.Account.{Account}
+use Rattle.share_graph.specs.declared.state.State.{State}
+use Rattle.site_caps.specs.Finding.{HasOffer, HasNoOffer}
+use Rattle.site_caps.specs.Sites.{IsSites}
+use Rattle.site_caps.specs.declared.offer.SiteOffer.{SiteOffer}
+use Rattle.desk_base.specs.Calling.{IsCaller}
+use Rattle.desk_base.specs.Wording.{secret_of}
+use Rattle.saved_refs.specs.Options.{AreOptions}
+use Rattle.saved_refs.specs.declared.listed.Listed.{Listed}
+use Rattle.desk_orders.specs.declared.order.Command.{Command}
+use Rattle.desk_orders.specs.declared.order.Command.TheVariants as command
+
+-- The law of the sites: their tags, which offers may answer a query at a tag, and which text, or none, may be given for an item there.
+pub record Law : Type 0 where
+  pub tags : List ℕ
+  pub may_offer : ℕ → List DescriptorData → List SiteOffer → Bool
+  pub may_restore : ℕ → ℕ → Option (List ℕ) → Bool
+
+-- whether the caller's account is an admin
+abbrev pub IsAdminBy : State → Caller → Bool → Type 0
+IsAdminBy s who admin = (account : Account) → IsCaller s (secret_of who) account → admin ≡ account.admin
+
+-- what the site of a tag has of an item, where the law allows its offers
+abbrev pub IsFound : Law → List DescriptorData → Bool → ℕ → ℕ → Option Bool → Type 0
+IsFound law query admin tag item None = (Contains law.tags tag → ⊥) ⊎ (Contains law.tags tag × HasNoOffer (law.may_offer tag query) admin item)
+IsFound law query admin tag item (Some admin_only) =
+    Contains law.tags tag × ((one : SiteOffer) × HasOffer (law.may_offer tag query) admin item one × (one.admin_only ≡ admin_only))
+
+-- the same of an offer: a grain is no item of a site
+abbrev pub IsFoundOf : Law → State → Caller → List DescriptorData → Offer → Option Bool → Type 0
+IsFoundOf law s who query (offer.Site tag item) found = (admin : Bool) × IsAdminBy s who admin × IsFound law query admin tag item found
+IsFoundOf law s who query (offer.Grain n) found = Unit {0}
+
+-- WHAT THE SITES HAVE of the item that a command chooses, for an admin or for anybody. Of a command that chooses none they may be said to have
+-- anything, which nobody reads.
+abbrev pub IsFoundBy : Law → State → Caller → Command → Option Bool → Type 0
+IsFoundBy law s who (command.Choose n offer query assignment) found = IsFoundOf law s who query offer found
+IsFoundBy law s who _ found = Unit {0}
+
+-- the offers of all sites that answer a query, each with the tag of its site: the law allows them, and those for admins alone are among them
+-- where the caller is one
+abbrev pub AreTold : Law → State → Caller → List DescriptorData → List (ℕ × SiteOffer) → Type 0
+AreTold law s who query told = (admin : Bool) × IsAdminBy s who admin × IsSites law.tags law.may_offer query admin told
+
+-- a grain that may be chosen
+abbrev pub grain_listed : Choice → Listed
+grain_listed choice = record { offer = offer.Grain (record { 0 = choice.num }); quality = choice.quality }
+
+-- an offer of the site of a tag, and how well it matches
+abbrev pub site_listed : List DescriptorData → ℕ × SiteOffer → Option Listed
+site_listed query (tag, one) = option_map (λ q. record { offer = offer.Site tag one.item; quality = q }) (match_of query (one.descriptor ∷ []))
+
+-- those of a quality
+abbrev pub those_of : Quality → List Listed → List Listed
+those_of q listed = filter (λ (one : Listed). same_quality one.quality q) listed
+
+-- the offers of sites: preferred ones first, then by tag and item
+abbrev pub sites_listed : List DescriptorData → List (ℕ × SiteOffer) → List Listed
+sites_listed query told = let listed = filter_map (site_listed query) told in those_of Preferred listed ++ those_of Acceptable listed
+
+-- WHAT MAY BE CHOSEN for a grain: grains, preferred ones first, then by number; and then what the sites offer
+abbrev pub AreListed : Law → State → Caller → GrainId → List DescriptorData → List Listed → Type 0
+AreListed law s who n query list =
+    (choices : List Choice) × (told : List (ℕ × SiteOffer)) × AreOptions s who n query choices × AreTold law s who query told
+    × (list ≡ map grain_listed choices ++ sites_listed query told)
+
+-- the same of a command that asks for it; no other has a list
+abbrev pub ListsBy : Law → State → Caller → Command → List Listed → Type 0
+ListsBy law s who (command.Options n query) list = AreListed law s who n query list
+ListsBy law s who _ list = ⊥

@@ -1,0 +1,239 @@
+//! What the sites have of what an order chooses, and the list of what may be chosen.
+
+ghost use Rattle.std.specs.Prelude.{◌≡◌, ◌++◌, Bool, IfOk, OnOk, true, map};
+ghost use Rattle.std.specs.List.{filter_map};
+ghost use Rattle.share_graph.specs.WellFormed.{IsWellFormed};
+ghost use Rattle.least_access.specs.Solved.{IsSolutionOf};
+ghost use Rattle.desk_orders.specs.Commands as commands;
+ghost use Rattle.powerbox_match.specs.Matching.{same_quality};
+ghost use Rattle.desk_orders.specs.Listing.{IsListed, IsListedFor};
+ghost use Rattle.desk_orders.specs.Sites.{IsAdminBy, IsFound, IsFoundOf, IsFoundBy, site_listed, grain_listed, those_of, sites_listed};
+
+use crate::order::{Command, Order};
+use crate::reply::Listing;
+use desk_base::secret_of;
+use host_base::{GrainId, Memory};
+use least_access::Solved;
+use plain_data::List;
+use powerbox_match::{Choice, Quality, Query, matches};
+use saved_refs::{Listed, grain_options};
+use share_graph::{Caller, DeskFault, Offer, State, by_login};
+use site_caps::{Registry, SiteDriver, SiteFault, SiteOffer};
+use std::alloc::{AllocError, Global};
+use std::slice;
+
+/// Whether an order asks what may be chosen, and so is answered by a list.
+pub fn lists(order: &Order) -> bool
+    ensures { result ≡ commands.lists order.now.command }
+{
+    match &order.command {
+        Command::Options(_, _) => true,
+        _ => false,
+    }
+}
+
+// Whether the caller's account is an admin.
+fn is_admin(state: &State, caller: &Caller) -> bool
+    requires { IsWellFormed state.now }
+    ensures { IsAdminBy state.now caller.now result }
+{
+    match by_login(&state.tables, &secret_of(caller)) {
+        Some(account) => account.admin,
+        None => false,
+    }
+}
+
+// Whether a site offers an item for admins alone, or nothing where it isn't offered.
+fn found_item<C: SiteDriver + Drop>(
+    alloc: Global,
+    state: &State,
+    sites: &Registry<C>,
+    caller: &Caller,
+    query: &Query,
+    tag: u64,
+    item: u32,
+) -> Result<Option<bool>, Memory>
+    requires { IsWellFormed state.now }
+    ensures { IfOk result (λ found. (admin : Bool) × IsAdminBy state.now caller.now admin × IsFound (record { tags = C.Law.tags; may_offer = C.Law.may_offer; may_restore = C.Law.may_restore }) query.now admin tag item found) }
+{
+    match sites.find(alloc, query, is_admin(state, caller), tag, item) {
+        Ok(offer) => Ok(Some(offer.admin_only)),
+        Err(SiteFault::NoDriver(_)) | Err(SiteFault::NotOffered(_, _)) => Ok(None),
+        Err(SiteFault::TwoDrivers(_)) => Ok(None),
+        Err(SiteFault::Memory) => Err(Memory),
+    }
+}
+
+// What the sites have of an offer: a grain is no item of a site.
+fn found_of_offer<C: SiteDriver + Drop>(
+    alloc: Global,
+    state: &State,
+    sites: &Registry<C>,
+    caller: &Caller,
+    query: &Query,
+    offer: &Offer,
+) -> Result<Option<bool>, Memory>
+    requires { IsWellFormed state.now }
+    ensures { IfOk result (IsFoundOf (record { tags = C.Law.tags; may_offer = C.Law.may_offer; may_restore = C.Law.may_restore }) state.now caller.now query.now offer.now) }
+{
+    match offer {
+        Offer::Site { tag, item } => found_item(alloc, state, sites, caller, query, *tag, *item),
+        Offer::Grain(_) => Ok(None),
+    }
+}
+
+/// What the sites have of the item that an order chooses: whether it is offered for admins alone, or nothing where it isn't offered, or none
+/// is chosen.
+pub fn found_of<C: SiteDriver + Drop>(
+    alloc: Global,
+    state: &State,
+    sites: &Registry<C>,
+    order: &Order,
+) -> Result<Option<bool>, Memory>
+    requires { IsWellFormed state.now }
+    ensures { IfOk result (IsFoundBy (record { tags = C.Law.tags; may_offer = C.Law.may_offer; may_restore = C.Law.may_restore })
+        state.now order.now.caller order.now.command) }
+{
+    match &order.command {
+        Command::Choose {
+            grain: _,
+            offer,
+            query,
+            assignment: _,
+        } => found_of_offer(alloc, state, sites, &order.caller, query, offer),
+        _ => Ok(None),
+    }
+}
+
+// A grain that may be chosen.
+fn grain_of(choice: &Choice) -> Listed
+    ensures { result ≡ grain_listed choice.now }
+{
+    Listed {
+        offer: Offer::Grain(GrainId(choice.num)),
+        quality: choice.quality,
+    }
+}
+
+// The grains that may be chosen.
+fn grains_of(alloc: Global, choices: &[Choice]) -> Result<Vec<Listed>, AllocError>
+    ensures { IfOk result (λ list. list.items ≡ map grain_listed choices.now) }
+{
+    choices.iter().map(|choice| grain_of(choice)).collect(alloc)
+}
+
+// An offer of a site, and how well it matches.
+fn offer_of(query: &Query, told: &(u64, SiteOffer)) -> Option<Listed>
+    ensures { result ≡ site_listed query.now told.now }
+{
+    let (tag, offer) = told;
+    let quality = matches(query, slice::from_ref(&offer.descriptor))?;
+    Some(Listed {
+        offer: Offer::Site {
+            tag: *tag,
+            item: offer.item,
+        },
+        quality,
+    })
+}
+
+// The offers of sites, and how well they match.
+fn offers_of(
+    alloc: Global,
+    query: &Query,
+    told: &[(u64, SiteOffer)],
+) -> Result<Vec<Listed>, AllocError>
+    ensures { IfOk result (λ list. list.items ≡ filter_map (site_listed query.now) told.now) }
+{
+    told.iter()
+        .filter_map(|one| offer_of(query, one))
+        .collect(alloc)
+}
+
+// Whether it has the quality.
+fn has_quality(quality: Quality, listed: &Listed) -> bool
+    ensures { result ≡ same_quality listed.now.quality quality }
+{
+    listed.quality == quality
+}
+
+// Appends those of a quality.
+fn append_those(
+    list: &mut Vec<Listed>,
+    quality: Quality,
+    listed: &[Listed],
+) -> Result<(), AllocError>
+    ensures { OnOk result (list.new.items ≡ list.old.items ++ those_of quality listed.now) }
+{
+    for one in listed {
+        if has_quality(quality, one) {
+            list.push(*one)?;
+        }
+    }
+    Ok(())
+}
+
+// What may be chosen: the grains, and then what the sites offer, preferred ones first.
+fn joined(
+    alloc: Global,
+    query: &Query,
+    choices: &[Choice],
+    told: &[(u64, SiteOffer)],
+) -> Result<Listing, AllocError>
+    ensures { IfOk result (λ list. list ≡ map grain_listed choices.now ++ sites_listed query.now told.now) }
+{
+    let mut list = grains_of(alloc, choices)?;
+    let offers = offers_of(alloc, query, told)?;
+    append_those(&mut list, Quality::Preferred, &offers)?;
+    append_those(&mut list, Quality::Acceptable, &offers)?;
+    Ok(List::new(list))
+}
+
+// What may be chosen for a grain, of what matches a query.
+fn options_of<C: SiteDriver + Drop>(
+    alloc: Global,
+    state: &State,
+    solved: &Solved,
+    sites: &Registry<C>,
+    caller: &Caller,
+    num: GrainId,
+    query: &Query,
+) -> Result<Listing, DeskFault>
+    requires formed { IsWellFormed state.now }
+    requires solution { IsSolutionOf state.now.tables solved.now }
+    ensures { IsListedFor (record { tags = C.Law.tags; may_offer = C.Law.may_offer; may_restore = C.Law.may_restore }) state.now caller.now num query.now result }
+{
+    let choices = grain_options(alloc, state, solved, caller, num, query)?;
+    let told = sites.options(alloc, query, is_admin(state, caller))?;
+    match joined(alloc, query, choices.as_slice(), &told) {
+        Ok(list) => Ok(list),
+        Err(AllocError) => Err(DeskFault::Memory),
+    }
+}
+
+/// What may be chosen, for an order that asks for it: by its row, with the offers of the sites.
+pub fn list_options<C: SiteDriver + Drop>(
+    alloc: Global,
+    state: &State,
+    solved: &Solved,
+    sites: &Registry<C>,
+    order: &Order,
+) -> Result<Listing, DeskFault>
+    requires formed { IsWellFormed state.now }
+    requires solution { IsSolutionOf state.now.tables solved.now }
+    requires asks { commands.lists order.now.command ≡ true }
+    ensures { IsListed (record { tags = C.Law.tags; may_offer = C.Law.may_offer; may_restore = C.Law.may_restore }) state.now order.now result }
+{
+    match &order.command {
+        Command::Options(grain, query) => options_of(
+            alloc,
+            state,
+            solved,
+            sites,
+            &order.caller,
+            *grain,
+            query,
+        ),
+        _ => unreachable!(),
+    }
+}
