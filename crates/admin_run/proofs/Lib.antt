@@ -1,3 +1,4 @@
-pub mod Played
 pub mod BookRows
+pub mod Completes
+pub mod Played
 pub mod Registered

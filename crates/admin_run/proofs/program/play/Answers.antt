@@ -2,6 +2,7 @@ use Rattle.std.proofs.Common.{◌∙◌, ap, subst, inl}
 use Rattle.share_graph.specs.History.{replay}
 use Rattle.hub_core.specs.Sharing.{Sharing}
 use Rattle.hub_core.specs.Storing.{IsStored}
+use Rattle.admin_run.proofs.Completes.{completes}
 use Rattle.admin_run.proofs.Played.{serves_play}
 use Rattle.admin_run.proofs.program.play.Goals as goal
 
@@ -15,3 +16,8 @@ returns-in-Ok-clause-plays g c =
     (c.into_parts-keeper.ensures.secrets ∙ ap (λ (x : Sharing _ _ _ _). x.secrets) c.into_locked.ensures) (c.into_parts-keeper.ensures.spawner ∙ ap (λ (x : Sharing _ _ _ _). x.spawner) c.into_locked.ensures)
     c.serve_conn-end.ensures.served (subst (λ (x : Sharing _ _ _ _). IsStored (g.K.Keeper.keeping c.into_parts-keeper.result.0) (replay x.start x.history).tables) c.into_locked.ensures c.into_parts-keeper.ensures.stored)
     c.status_of-status.ensures)
+
+pub returns-in-Ok-clause-completes : goal.returns-in-Ok-clause-completes
+returns-in-Ok-clause-completes g c = λ bytes requests told stream few reads writes.
+    let end = c.serve_conn-end.result in
+    completes end.end c.status_of-status.result end.served requests c.status_of-status.ensures (c.serve_conn-end.ensures.complete bytes requests told stream few reads writes)
