@@ -1,8 +1,7 @@
 -- A keeper in memory that has the rows of the small book.
-use Rattle.std.proofs.Common.{◌≡◌, ℕ, List, Some, refl, sym, ◌∙◌, ap, subst}
+use Rattle.std.proofs.Common.{◌≡◌, List, Some, sym, ◌∙◌, ap, subst}
 use Rattle.cloud_keeper.specs.declared.row.Row.{Row}
 use Rattle.cloud_keeper.specs.InMemory.{MemRows}
-use Rattle.cloud_keeper.specs.Keeping.{Keeping}
 use Rattle.share_graph.specs.declared.state.State.{State}
 use Rattle.share_graph.specs.declared.state.Tables.{Tables}
 use Rattle.share_graph.specs.WellFormed.{IsWellFormed}

@@ -4,7 +4,7 @@ use Rattle.front_http.specs.Stream.{Requests, Ending, Done, Last, Cut, Bad}
 use Rattle.cloud_serve.specs.declared.serve.End.{End}
 use Rattle.cloud_serve.specs.declared.serve.End.TheVariants as end
 use Rattle.cloud_serve.specs.Served.{Complete, IsEndOf}
-use Rattle.admin_run.specs.Run.{status_by, status_of_stream}
+use Rattle.admin_run.specs.Statuses.{status_by, status_of_stream}
 
 status_here : (e : End) (x : Ending) → IsEndOf e x → status_by e ≡ status_of_stream x
 status_here end.Done Done is = refl

@@ -1,5 +1,5 @@
 -- One connection that was served from the small book by a desk of one's own.
-use Rattle.std.proofs.Common.{◌≡◌, ℕ, List, [], sym, refl, subst, arith}
+use Rattle.std.proofs.Common.{◌≡◌, ℕ, List, [], length, sym, refl, subst, arith}
 use Rattle.host_base.specs.Drawing.{Drawer}
 use Rattle.host_base.specs.Outside.{Inlet, Outlet}
 use Rattle.share_graph.specs.declared.event.Event.{Event}
@@ -15,12 +15,13 @@ use Rattle.desk_orders.specs.Sites.{Law}
 use Rattle.hub_core.specs.Sharing.{Sharing, book_of}
 use Rattle.hub_core.specs.Storing.{Outer, IsStored}
 use Rattle.small_book.specs.SmallBook.{small_book}
-use Rattle.admin_run.specs.Run.{Outside, ServesPlay, status_by}
+use Rattle.admin_run.specs.Connection.{ServesBook}
+use Rattle.admin_run.specs.Outside.{Outside}
 
 abbrev world : Law → Inlet → Outlet → Line → State → List Event → Drawer → Outer → World
 world law inlet outlet line start history drawer outer = record { inlet = inlet; outlet = outlet; line = line; book = book_of law start history drawer outer }
 
-module _ (law : Law) (inlet inlet' : Inlet) (outlet outlet' : Outlet) (line line' : Line) (doorway : Doorway) (end : End) (places : List ℕ) (served forwarded status : ℕ) where
+module _ (law : Law) (inlet inlet' : Inlet) (outlet outlet' : Outlet) (line line' : Line) (doorway : Doorway) (end : End) (places : List ℕ) (served forwarded entries : ℕ) where
   -- a connection that was served from the small book, and ended with that history and those objects
   abbrev Ends : State → List Event → Drawer → Drawer → Outer → Outer → ℕ → Type 0
   Ends start history drawer drawer' outer outer' from =
@@ -33,20 +34,17 @@ module _ (law : Law) (inlet inlet' : Inlet) (outlet outlet' : Outlet) (line line
   behind drawer outer = record { inlet = inlet'; outlet = outlet'; line = line'; drawer = drawer; spawns = outer.spawns; keeping = outer.keeping; doorway = doorway }
 
   from_book : (drawer drawer' : Drawer) (outer outer' : Outer) (start : State) (history : List Event) (from : ℕ) → Ends start history drawer drawer' outer outer' from → IsStored outer'.keeping (replay start history).tables
-      → status ≡ status_by end → ServesPlay law (before drawer outer) (behind drawer' outer') status
+      → entries ≡ length history → ServesBook law (before drawer outer) (behind drawer' outer') end served forwarded entries
   from_book drawer drawer' outer outer' start history from s stored is =
       let begun : Ends start history drawer drawer' outer outer' 0 = subst (λ (n : ℕ). Ends start history drawer drawer' outer outer' n) s.from_is s in
       let one : Ends small_book history drawer drawer' outer outer' 0 = subst (λ (x : State). Ends x history drawer drawer' outer outer' 0) s.ordered_of.later.start begun in
       record {
-        end = end;
         places = places;
-        served = served;
-        forwarded = forwarded;
         history = history;
         headline = one;
         written = one.ordered_of.alone (omega (arith, one.ordered_of.accepted));
         stored = subst (λ (x : State). IsStored outer'.keeping (replay x history).tables) s.ordered_of.later.start stored;
-        status_is = is;
+        entries_are = is;
         doorway_is = refl;
       }
 
@@ -55,13 +53,13 @@ module _ (law : Law) (inlet inlet' : Inlet) (outlet outlet' : Outlet) (line line
     abbrev outer_of : Sharing K S P C → Outer
     outer_of desk = record { spawns = spawns_of desk.spawner; keeping = keeping_of desk.keeper }
 
-    pub serves_play : (desk desk' : Sharing K S P C) (keeper keeper' : K) (secrets secrets' : S) (spawner spawner' : P) (sites : List C) (from : ℕ)
+    pub serves_book : (desk desk' : Sharing K S P C) (keeper keeper' : K) (secrets secrets' : S) (spawner spawner' : P) (sites : List C) (from : ℕ)
         → desk ≡ record { start = small_book; history = []; keeper = keeper; secrets = secrets; spawner = spawner; sites = sites } → keeper' ≡ desk'.keeper → secrets' ≡ desk'.secrets → spawner' ≡ desk'.spawner
         → Served (world law inlet outlet line desk.start desk.history (drawer_of desk.secrets) (outer_of desk))
         (world law inlet' outlet' line' desk'.start desk'.history (drawer_of desk'.secrets) (outer_of desk')) end from places served forwarded
-        → IsStored (keeping_of keeper') (replay desk'.start desk'.history).tables → status ≡ status_by end
-        → ServesPlay law (before (drawer_of secrets) (record { spawns = spawns_of spawner; keeping = keeping_of keeper })) (behind (drawer_of secrets') (record { spawns = spawns_of spawner'; keeping = keeping_of keeper' })) status
-    serves_play desk desk' keeper keeper' secrets secrets' spawner spawner' sites from fresh keeper_back secrets_back spawner_back s stored is =
+        → IsStored (keeping_of keeper') (replay desk'.start desk'.history).tables → entries ≡ length desk'.history
+        → ServesBook law (before (drawer_of secrets) (record { spawns = spawns_of spawner; keeping = keeping_of keeper })) (behind (drawer_of secrets') (record { spawns = spawns_of spawner'; keeping = keeping_of keeper' })) end served forwarded entries
+    serves_book desk desk' keeper keeper' secrets secrets' spawner spawner' sites from fresh keeper_back secrets_back spawner_back s stored is =
         let outer : Outer = record { spawns = spawns_of spawner; keeping = keeping_of keeper } in
         let begun : Ends desk'.start desk'.history (drawer_of secrets) (drawer_of desk'.secrets) outer (outer_of desk') from =
         subst (λ (x : Sharing K S P C). Served (world law inlet outlet line x.start x.history (drawer_of x.secrets) (outer_of x))

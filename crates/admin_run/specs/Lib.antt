@@ -1,3 +1,8 @@
 pub mod Book
-pub mod Run
-pub mod Words
+pub mod Connection
+pub mod Judging
+pub mod Making
+pub mod Outside
+pub mod Playing
+pub mod Program
+pub mod Statuses

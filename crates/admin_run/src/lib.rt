@@ -1,10 +1,17 @@
 //! What the program does with its words, its input and its output.
 #![tactic(auto)]
 
+mod connection;
+mod judging;
 mod keeping;
+mod making;
 mod program;
-mod words;
+mod statuses;
+mod telling;
+mod world;
 
+pub use connection::small_desk;
 pub use keeping::book_keeper;
-pub use program::{Ran, USAGE, World, run, small_desk};
-pub use words::{Line, line_of};
+pub use program::run;
+pub use telling::USAGE;
+pub use world::{Back, Ran, World};

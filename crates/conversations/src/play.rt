@@ -1,11 +1,12 @@
 //! Playing a conversation over memory, and what goes otherwise.
 
 use crate::conversation::Conversation;
-use admin_run::{World, book_keeper, run};
+use admin_run::{Ran, World, book_keeper, run};
 use club_site::plain_sites;
 use conn_door::MemDoor;
 use grain_supervise::{Ask, CannedLink, EchoLink, FakeSpawner, Link};
 use host_base::{Answer, ListSecrets, MemSink, MemSource, Secrets, SeqSecrets};
+use host_clock::StillClock;
 use plain_data::List;
 use std::alloc::{AllocError, Global};
 use thiserror::Error;
@@ -209,17 +210,21 @@ fn played_with<L: Link + Drop, S: Secrets + Drop>(
         keeper,
         secrets,
         spawner,
+        clock: StillClock::new(0),
         door,
         sites,
     };
-    let ran = run(alloc, words, &mut input, &mut out, world);
+    let Ran { status, back, .. } = run(alloc, words, &mut input, &mut out, world);
+    let Some(back) = back else {
+        return Err(AllocError);
+    };
     let came = Came {
         out,
-        told: told(alloc, &ran.spawner)?,
-        rows: ran.keeper.rows().len(),
-        status: ran.status,
+        told: told(alloc, &back.spawner)?,
+        rows: back.keeper.rows().len(),
+        status,
     };
-    Ok((came, ran.link))
+    Ok((came, back.link))
 }
 
 // The secrets that a conversation lists.

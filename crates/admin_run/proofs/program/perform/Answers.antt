@@ -1,0 +1,10 @@
+use Rattle.admin_run.proofs.program.perform.Goals as goal
+
+pub returns-in-Check-clause-does : goal.returns-in-Check-clause-does
+returns-in-Check-clause-does g c = rw c.in-Check.is (c.check.ensures.checks (g.I.Source.inlet c.args.input.now) (g.E.Door.doorway c.args.door.now))
+
+pub returns-in-Serve-clause-does : goal.returns-in-Serve-clause-does
+returns-in-Serve-clause-does g c = rw c.in-Serve.is (c.usage.ensures.tells (g.I.Source.inlet c.args.input.now) (g.E.Door.doorway c.args.door.now))
+
+pub returns-in-Unknown-clause-does : goal.returns-in-Unknown-clause-does
+returns-in-Unknown-clause-does g c = rw c.in-Unknown.is (c.usage-in-Unknown.ensures.tells (g.I.Source.inlet c.args.input.now) (g.E.Door.doorway c.args.door.now))

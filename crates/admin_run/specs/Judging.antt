@@ -1,0 +1,33 @@
+-- What `check` does.
+use Rattle.std.specs.Prelude.{◌≡◌, ℕ, ◌⊎◌, List, Some, Ok, length}
+use Rattle.host_base.specs.Outside.{Outlet, Rose}
+use Rattle.cloud_keeper.specs.Keeping.{Keeping, Follows}
+use Rattle.cloud_keeper.specs.declared.row.Row.{Row}
+use Rattle.share_graph.specs.Checked.{IsChecked}
+use Rattle.share_graph.specs.declared.state.Tables.{Tables}
+use Rattle.row_tables.specs.Checks.{IsBadRow}
+use Rattle.row_tables.specs.TablesRows.{tables_of}
+use Rattle.row_tables.specs.declared.stored.BadRow.{BadRow}
+use Rattle.printed_lines.specs.Lines.{counts_line, bad_row_line}
+use Rattle.admin_run.specs.Outside.{Outside, Tells}
+
+-- Of rows that state tables without a fault the counts are printed, and else the place of the first bad row, counted from 0, with status 10; where memory runs
+-- out, nothing.
+abbrev pub JudgesRows : Outlet → Outlet → List Row → ℕ → Type 0
+JudgesRows old new rows status =
+    ((t : Tables) × (tables_of rows ≡ Ok t) × IsChecked t × Tells old new (counts_line (length rows) t) 0 status)
+    ⊎ (((bad : BadRow) × IsBadRow rows bad × Tells old new (bad_row_line bad.index) 10 status)
+    ⊎ ((status ≡ 7) × (new ≡ old)))
+
+-- The rows of a keeper are loaded and judged; where it fails, which it counts, nothing is printed, with status 9, nor where memory runs out.
+abbrev pub Judges : Outlet → Outlet → Keeping → Keeping → ℕ → Type 0
+Judges old new keeping keeping' status =
+    ((rows : List Row) × ((there : List Row) → keeping.rows ≡ Some there → rows ≡ there) × JudgesRows old new rows status)
+    ⊎ (((status ≡ 9) × Rose keeping.faults keeping'.faults × (new ≡ old))
+    ⊎ ((status ≡ 7) × (new ≡ old)))
+
+-- `check`: the keeper's rows are judged and stay as they are, and nothing else is asked.
+pub record Checks (old new : Outside) (status : ℕ) : Type 0 where
+  pub judged : Judges old.outlet new.outlet old.keeping new.keeping status
+  pub kept : Follows old.keeping new.keeping (λ rows. rows)
+  pub others : new ≡ record old { outlet = new.outlet; keeping = new.keeping }

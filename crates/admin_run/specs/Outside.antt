@@ -1,0 +1,44 @@
+-- What the program's objects tell, and the lines that it prints.
+use Rattle.std.specs.Prelude.{◌≡◌, ℕ, ◌⊎◌, ◌++◌, List, Some, take, codes}
+use Rattle.host_base.specs.Drawing.{Drawer}
+use Rattle.host_base.specs.Outside.{Inlet, Outlet, Rose}
+use Rattle.cloud_keeper.specs.Keeping.{Keeping}
+use Rattle.grain_supervise.specs.Line.{Line}
+use Rattle.grain_supervise.specs.Spawning.{Spawns}
+use Rattle.conn_door.specs.Doors.{Doorway}
+
+-- What the program's objects tell: its input and output, the link to the grains, the secrets, the spawner, the keeper and the door.
+pub record Outside : Type 0 where
+  pub inlet : Inlet
+  pub outlet : Outlet
+  pub line : Line
+  pub drawer : Drawer
+  pub spawns : Spawns
+  pub keeping : Keeping
+  pub doorway : Doorway
+
+-- Want of memory before anything was done.
+pub record DoesNothing (old new : Outside) (status : ℕ) : Type 0 where
+  pub status_is : status ≡ 7
+  pub same : new ≡ old
+
+-- A text is printed: whole at the given status, and at 5 as far as the sink took it, whose count rose.
+abbrev pub Tells : Outlet → Outlet → List ℕ → ℕ → ℕ → Type 0
+Tells old new text done status =
+    ((status ≡ done) × ((before : List ℕ) → old.written ≡ Some before → new.written ≡ Some (before ++ text)))
+    ⊎ ((status ≡ 5) × Rose old.faults new.faults × ((before : List ℕ) → old.written ≡ Some before → (n : ℕ) × (new.written ≡ Some (before ++ take n text))))
+
+-- the usage line
+abbrev pub usage_line : List ℕ
+usage_line = codes "usage: admin_cli play | serve FILE PORT COUNT | gen N SEED | check FILE | grain SOCKET COUNT\n"
+
+-- The usage line is printed, with status 2; nothing is taken, asked, drawn, started, kept or accepted.
+pub record TellsUsage (old new : Outside) (status : ℕ) : Type 0 where
+  pub others : new ≡ record old { outlet = new.outlet }
+  pub told : Tells old.outlet new.outlet usage_line 2 status
+
+-- What causes a status: 4 the input or the door, 5 the output, 9 the keeper, whose count rose.
+pub record HasCause (old new : Outside) (status : ℕ) : Type 0 where
+  pub taken : status ≡ 4 → Rose old.inlet.faults new.inlet.faults ⊎ Rose old.doorway.faults new.doorway.faults
+  pub written : status ≡ 5 → Rose old.outlet.faults new.outlet.faults
+  pub stored : status ≡ 9 → Rose old.keeping.faults new.keeping.faults

@@ -1,0 +1,33 @@
+//! Lines that the program prints.
+ghost use Rattle.std.specs.Prelude.{◌≡◌, ◌≢◌, ◌≤◌};
+ghost use Rattle.host_base.specs.Outside.{Rose};
+ghost use Rattle.admin_run.specs.Outside.{Tells};
+
+use host_base::{Bytes, Sink, WriteFailed};
+
+/// The line that is written where the words are none of the program's lines.
+pub const USAGE: &[u8] =
+    b"usage: admin_cli play | serve FILE PORT COUNT | gen N SEED | check FILE | grain SOCKET COUNT\n";
+
+/// Prints a text; the status is the given one, or 5 where it couldn't be printed.
+pub(crate) fn tell<O: Sink>(out: &mut O, text: &[u8], done: u8) -> u8
+    ensures tells { Tells (O.outlet out.old) (O.outlet out.new) text.now done result }
+    ensures counts { (O.outlet out.old).faults ≤ (O.outlet out.new).faults }
+    ensures cause { done ≢ 5 → result ≡ 5 → Rose (O.outlet out.old).faults (O.outlet out.new).faults }
+    ensures either { result ≢ 5 → result ≡ done }
+{
+    match out.put(text) {
+        Ok(()) => done,
+        Err(WriteFailed) => 5,
+    }
+}
+
+/// The same of a line of its own.
+pub(crate) fn tell_line<O: Sink>(out: &mut O, line: Bytes, done: u8) -> u8
+    ensures tells { Tells (O.outlet out.old) (O.outlet out.new) line done result }
+    ensures counts { (O.outlet out.old).faults ≤ (O.outlet out.new).faults }
+    ensures cause { done ≢ 5 → result ≡ 5 → Rose (O.outlet out.old).faults (O.outlet out.new).faults }
+    ensures either { result ≢ 5 → result ≡ done }
+{
+    tell(out, line.as_slice(), done)
+}
