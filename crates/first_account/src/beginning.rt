@@ -1,0 +1,68 @@
+ghost use Rattle.std.specs.Prelude.{◌≡◌, ◌≤◌, ◌∷◌, [], List, Some, IfOk, OnOk, OnErr, IsErrOf};
+ghost use Rattle.host_base.specs.Outside.{Rose};
+ghost use Rattle.cloud_keeper.specs.Keeping.{Follows};
+ghost use Rattle.cloud_keeper.specs.declared.row.Row.{Row};
+ghost use Rattle.share_graph.specs.Checked.{IsChecked};
+ghost use Rattle.row_tables.specs.Kept.{AreRowsOf};
+ghost use Rattle.first_account.specs.Drawn.{IsTokenOfNext, DrewOneAtMost};
+ghost use Rattle.first_account.specs.First.{first_tables, first_row, HasNoRows, HasJust};
+
+use crate::admin::first_row;
+use crate::fault::FirstFault;
+use crate::token::draw_token;
+use cloud_keeper::{KeepFault, Keeper, Row};
+use host_base::{Bytes, Secrets};
+use std::alloc::Global;
+
+// Keeps the first row.
+fn keep<K: Keeper>(alloc: Global, keeper: &mut K, row: &Row) -> Result<(), FirstFault>
+    requires { HasNoRows (K.keeping keeper.old) }
+    ensures counts { (K.keeping keeper.old).faults ≤ (K.keeping keeper.new).faults }
+    ensures kept { OnOk result (HasJust row.now (K.keeping keeper.new)) }
+    ensures cause { IsErrOf result FirstFault.StoreFailed → Rose (K.keeping keeper.old).faults (K.keeping keeper.new).faults }
+    ensures same { OnErr result (Follows (K.keeping keeper.old) (K.keeping keeper.new) (λ rows. rows)) }
+    ensures no_secrets { IsErrOf result FirstFault.SecretsFailed → ⊥ }
+{
+    match keeper.commit(alloc, row) {
+        Ok(()) => Ok(()),
+        Err(KeepFault::StoreFailed) => Err(FirstFault::StoreFailed),
+        Err(KeepFault::Memory) => Err(FirstFault::Memory),
+    }
+}
+
+/// Makes account 1 with a keeper that has no rows: an enabled admin with the handle `admin` and the name `Admin`, whose login is a secret
+/// that is drawn. The answer is the secret's token, which is shown this once.
+///
+/// # Errors
+/// Want of memory, and a failure of the secrets or of the store. After each the keeper's rows are as before.
+pub fn first_account<K: Keeper, S: Secrets>(
+    alloc: Global,
+    keeper: &mut K,
+    secrets: &mut S,
+) -> Result<Bytes, FirstFault>
+    requires { HasNoRows (K.keeping keeper.old) }
+
+    // The answer is the token of the next secret.
+    ensures token { IfOk result (IsTokenOfNext (S.drawer secrets.old).coming (S.drawer secrets.new).coming) }
+
+    // The keeper has the row of that account and no other, and so the rows of tables that can be opened.
+    ensures row { IfOk result (λ token. HasJust (first_row token) (K.keeping keeper.new)) }
+    ensures opens { IfOk result (λ token. AreRowsOf (first_tables token) (first_row token ∷ [])) }
+    ensures checked { IfOk result (λ token. IsChecked (first_tables token)) }
+
+    // What fails was counted, and no count falls.
+    ensures secrets_failed { IsErrOf result FirstFault.SecretsFailed → Rose (S.drawer secrets.old).faults (S.drawer secrets.new).faults }
+    ensures store_failed { IsErrOf result FirstFault.StoreFailed → Rose (K.keeping keeper.old).faults (K.keeping keeper.new).faults }
+    ensures secrets_count { (S.drawer secrets.old).faults ≤ (S.drawer secrets.new).faults }
+    ensures store_count { (K.keeping keeper.old).faults ≤ (K.keeping keeper.new).faults }
+
+    // What an error leaves.
+    ensures same { OnErr result (Follows (K.keeping keeper.old) (K.keeping keeper.new) (λ rows. rows)) }
+    ensures drawn { OnErr result (DrewOneAtMost (S.drawer secrets.old).coming (S.drawer secrets.new).coming) }
+    ensures undrawn { IsErrOf result FirstFault.SecretsFailed → (S.drawer secrets.new).coming ≡ (S.drawer secrets.old).coming }
+{
+    let token = draw_token(alloc, secrets)?;
+    let row = first_row(alloc, token.as_slice())?;
+    keep(alloc, keeper, &row)?;
+    Ok(token)
+}
