@@ -6,10 +6,11 @@ ghost use Rattle.site_caps.specs.Registered.{IsRegistered};
 use cloud_keeper::{Keeper, Row};
 use club_site::{PlainClub, plain_sites};
 use grain_supervise::{FakeSpawner, Spawner};
-use host_base::{Key, Memory, Secrets, SeqSecrets, Verdict};
+use host_base::{AccountId, GrainId, Key, Memory, Secrets, SeqSecrets, Verdict};
 use hub_core::{Locked, NotOpened};
 use plain_data::List;
 use row_tables::rows_of;
+use share_graph::Node;
 use site_caps::{Registry, SiteDriver};
 use std::alloc::Global;
 
@@ -61,6 +62,19 @@ pub fn holdings<K: Keeper, S: Secrets, P: Spawner, C: SiteDriver + Drop>(
     let entries = locked.entries();
     let rows = rows_of(alloc, locked.tables())?;
     Ok(Held { entries, rows })
+}
+
+/// What an account holds of a grain: nothing without entry, else a number with a bit for each permission's position.
+pub fn access<K: Keeper, S: Secrets, P: Spawner, C: SiteDriver + Drop>(
+    locked: &Locked<K, S, P, C>,
+    grain: u32,
+    account: u32,
+) -> Option<u64> {
+    let node = Node::User(GrainId(grain), AccountId(account));
+    match locked.solved().access(node) {
+        Some(set) => Some(set.bits()),
+        None => None,
+    }
 }
 
 /// The verdict on a key.

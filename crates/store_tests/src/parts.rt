@@ -2,7 +2,7 @@
 
 use crate::answers::{put_answers, put_verdict};
 use crate::keepers::{first_call, mem_keeper};
-use crate::opening::{Closed, Held, Opened, end, holdings, open, open_new, sites};
+use crate::opening::{Closed, Held, Opened, access, end, holdings, open, open_new, sites};
 use crate::rows::{book_rows, compared, same_count, with_short};
 use cloud_keeper::{MemKeeper, Row};
 use grain_supervise::{FakeSpawner, Spawner};
@@ -40,6 +40,17 @@ fn put_keys(alloc: Global, text: &mut String, locked: &Opened<MemKeeper>) -> Res
     Ok(())
 }
 
+// Puts what each of the small book's accounts holds of its first grain.
+fn put_access(text: &mut String, locked: &Opened<MemKeeper>) -> Result<(), AllocError> {
+    for account in 1..5 {
+        match access(locked, 1, account) {
+            Some(bits) => writeln!(text, "account {account} holds {bits} of grain 1")?,
+            None => writeln!(text, "account {account} holds nothing of grain 1")?,
+        }
+    }
+    Ok(())
+}
+
 // The numbers of what a history holds, beside the rows that it was to hold.
 fn numbers(alloc: Global, held: &Held, rows: &[Row]) -> Result<String, AllocError> {
     let (entries, count) = (held.entries, held.rows.len());
@@ -66,6 +77,7 @@ fn book_text(
     let held = holdings(alloc, locked)?;
     let mut text = numbers(alloc, &held, rows)?;
     text.push_str(compared(alloc, held.rows.as_slice(), rows)?.as_str())?;
+    put_access(&mut text, locked)?;
     put_keys(alloc, &mut text, locked)?;
     put_answers(alloc, &mut text, locked, NOTHING_LIVE)?;
     Ok(text)
