@@ -1,8 +1,8 @@
-ghost use Rattle.std.specs.Prelude.{◌≡◌};
+ghost use Rattle.std.specs.Prelude.{◌≡◌, ◌+◌, ◌<◌, ◌≤◌};
 ghost use Rattle.conn_door.specs.Doors.{Doorway};
 
 use crate::socket::remove_socket;
-use conn_door::{Door, DoorFailed};
+use conn_door::{Door, DoorFailed, Returns};
 use host_base::{StdSink, StdSource};
 use std::io;
 use std::marker::Model;
@@ -16,6 +16,7 @@ pub struct UnixDoor {
     listener: Option<UnixListener>,
     given: u64,
     faults: u64,
+    returns: Returns,
 }
 
 impl Model for UnixDoor {
@@ -23,19 +24,20 @@ impl Model for UnixDoor {
 
     ghost Value = { Doorway };
 
-    ghost view = { λ s. record { faults = s.faults; given = s.given } };
+    ghost view = { λ s. record { faults = s.faults; given = s.given; back = s.returns.back; answered = s.returns.answered } };
 }
 
 impl UnixDoor {
     /// A door on a socket file at this path, which gave no connection yet. A socket file that stands there is removed first.
     pub fn bind<R: Files + Net>(rt: &R, path: &str) -> Self
-        ensures { result ≡ record { faults = 0; given = 0 } }
+        ensures { result ≡ record { faults = 0; given = 0; back = 0; answered = 0 } }
     {
         remove_socket(rt, path);
         UnixDoor {
             listener: UnixListener::bind(rt, path).ok(),
             given: 0,
             faults: 0,
+            returns: Returns::none(),
         }
     }
 
@@ -44,6 +46,20 @@ impl UnixDoor {
         ensures { result ≡ self.now.faults }
     {
         self.faults
+    }
+
+    /// A connection is given back, with so many requests answered on it, and closed.
+    pub fn give_back(
+        &mut self,
+        _input: StdSource<UnixStream>,
+        _output: StdSink<UnixStream>,
+        served: u64,
+    )
+        requires room { self.old.back < 4294967296 }
+        requires few { served ≤ 1000000 }
+        ensures { self.new ≡ record self.old { back = self.old.back + 1; answered = self.old.answered + served } }
+    {
+        self.returns.count(served);
     }
 }
 

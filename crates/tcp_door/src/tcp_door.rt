@@ -1,9 +1,9 @@
-ghost use Rattle.std.specs.Prelude.{◌≡◌, ◌↔◌, ◌+◌, ◌≤◌, IsTrue, IsSome, IfOk, OnOk, OnErr};
+ghost use Rattle.std.specs.Prelude.{◌≡◌, ◌↔◌, ◌+◌, ◌<◌, ◌≤◌, IsTrue, IsSome, IfOk, OnOk, OnErr};
 ghost use Rattle.host_base.specs.CallCounts.{next_count};
 ghost use Rattle.host_base.specs.Outside.{Rose};
 ghost use Rattle.conn_door.specs.Doors.{IsFreshInlet, IsFreshOutlet};
 
-use conn_door::{Door, DoorFailed};
+use conn_door::{Door, DoorFailed, Returns};
 use host_base::{StdSink, StdSource};
 use std::io;
 use std::marker::Model;
@@ -22,6 +22,7 @@ pub struct TcpDoor {
     bound: Option<Bound>,
     given: u64,
     faults: u64,
+    returns: Returns,
 }
 
 impl Model for TcpDoor {
@@ -30,7 +31,7 @@ impl Model for TcpDoor {
 
     ghost Value = { BoundDoor };
 
-    ghost view = { λ s. record { port = option_map (λ bound. bound.port) s.bound; faults = s.faults; given = s.given } };
+    ghost view = { λ s. record { port = option_map (λ bound. bound.port) s.bound; faults = s.faults; given = s.given; back = s.returns.back; answered = s.returns.answered } };
 }
 
 // Binds a port of the address 127.0.0.1, or one that is free where it is 0.
@@ -48,11 +49,14 @@ impl TcpDoor {
     pub fn bind<R: Net<Listener = TcpListener, Stream = TcpStream>>(rt: &R, port: u16) -> Self
         ensures faults { result.faults ≡ 0 }
         ensures given { result.given ≡ 0 }
+        ensures back { result.back ≡ 0 }
+        ensures answered { result.answered ≡ 0 }
     {
         TcpDoor {
             bound: bind(rt, port).ok(),
             given: 0,
             faults: 0,
+            returns: Returns::none(),
         }
     }
 
@@ -79,6 +83,20 @@ impl TcpDoor {
     {
         self.faults
     }
+
+    /// A connection is given back, with so many requests answered on it, and closed.
+    pub fn give_back(
+        &mut self,
+        _input: StdSource<TcpStream>,
+        _output: StdSink<TcpStream>,
+        served: u64,
+    )
+        requires room { self.old.back < 4294967296 }
+        requires few { served ≤ 1000000 }
+        ensures { self.new ≡ record self.old { back = self.old.back + 1; answered = self.old.answered + served } }
+    {
+        self.returns.count(served);
+    }
 }
 
 // The next connection, to read from and to write to.
@@ -93,13 +111,15 @@ impl Door for TcpDoor {
 
     type Output = StdSink<TcpStream>;
 
-    ghost doorway = { λ s. record { faults = s.faults; given = s.given } };
+    ghost doorway = { λ s. record { faults = s.faults; given = s.given; back = s.back; answered = s.answered } };
 
     fn accept(&mut self) -> Result<(StdSource<TcpStream>, StdSink<TcpStream>), DoorFailed>
         ensures counts { self.old.faults ≤ self.new.faults }
         ensures cause { OnErr result (Rose self.old.faults self.new.faults) }
         ensures given { OnOk result (self.new.given ≡ self.old.given + 1) }
         ensures kept { OnErr result (self.new.given ≡ self.old.given) }
+        ensures back { self.new.back ≡ self.old.back }
+        ensures answered { self.new.answered ≡ self.old.answered }
         ensures input { IfOk result (λ pair. IsFreshInlet pair.0) }
         ensures output { IfOk result (λ pair. IsFreshOutlet pair.1) }
 

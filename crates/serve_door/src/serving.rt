@@ -1,0 +1,63 @@
+//! Connections are served one after another.
+ghost use Rattle.std.specs.Prelude.{◌≡◌, ℕ, ◌+◌, ◌*◌, ◌≤◌, ◌⊎◌, List, Some, length, sum, IfOk, OnOk, OnErr, IsErrOf};
+ghost use Rattle.host_base.specs.Outside.{Rose};
+ghost use Rattle.share_graph.specs.declared.state.State.{State};
+ghost use Rattle.conn_door.specs.Doors.{Doorway};
+ghost use Rattle.hub_core.specs.Book.{Book};
+ghost use Rattle.serve_door.specs.Connections.{AreServed, ServesOne};
+
+use crate::serve_door::ServeDoor;
+use cloud_serve::serve_conn;
+use conn_door::DoorFailed;
+use grain_supervise::Link;
+use host_base::Memory;
+use hub_core::Desk;
+use std::alloc::Global;
+
+/// Why no further connection was served.
+#[derive(Clone, Copy, Debug, PartialEq, Eq)]
+pub enum Stop {
+    /// As many were served as were asked for.
+    All,
+    /// The door failed, which it counted.
+    DoorFailed,
+    /// Memory ran out between two connections.
+    Memory,
+}
+
+/// Why no further connection was served, and how many requests were answered on those that were.
+#[derive(Clone, Copy, Debug, PartialEq, Eq)]
+pub struct Stopped {
+    pub stop: Stop,
+    pub answered: u64,
+}
+
+// Serves the next connection, over a link of its own: how many requests were answered on it.
+fn serve_next<E: ServeDoor, D: Desk, L: Link + Drop>(
+    alloc: Global,
+    door: &mut E,
+    desk: &mut D,
+    link: &L,
+) -> Result<u64, Stop>
+    requires room { (E.doorway door.old).back < 4294967296 }
+    requires start { (state : State) → E.start ≡ Some state → (D.book desk.old).start ≡ state }
+    ensures serves { IfOk result (λ served. ServesOne (D.book desk.old) (D.book desk.new) served) }
+    ensures few { IfOk result (λ served. served ≤ 1000000) }
+    ensures begins { (D.book desk.new).start ≡ (D.book desk.old).start }
+    ensures back { IfOk result (λ served. E.doorway door.new ≡ record { faults = (E.doorway door.new).faults; given = (E.doorway door.old).given + 1; back = (E.doorway door.old).back + 1; answered = (E.doorway door.old).answered + served }) }
+    ensures counts { (E.doorway door.old).faults ≤ (E.doorway door.new).faults }
+    ensures unserved { OnErr result (desk.new ≡ desk.old) }
+    ensures ungiven { OnErr result (E.doorway door.new ≡ record (E.doorway door.old) { faults = (E.doorway door.new).faults }) }
+    ensures cause { IsErrOf result Stop.DoorFailed → Rose (E.doorway door.old).faults (E.doorway door.new).faults }
+    ensures ends { IsErrOf result Stop.All → ⊥ }
+{
+    let Ok(mut own) = link.another(alloc) else {
+        return Err(Stop::Memory);
+    };
+    let Ok((mut input, mut output)) = door.accept() else {
+        return Err(Stop::DoorFailed);
+    };
+    let end = serve_conn(alloc, &mut input, &mut output, desk, &mut own);
+    door.done(input, output, &end, desk, &own);
+    Ok(end.served)
+}
