@@ -1,28 +1,33 @@
-// The program: serves one connection over standard input and output from the small book, serves requests that it makes itself, judges a
-// file of rows, or is a grain on a socket.
+// The program: serves connections on a port from a file of rows, serves one connection over standard input and output from the small book, serves
+// requests that it makes itself, judges a file of rows, or is a grain on a socket.
 #![tactic(auto)]
 
-ghost use Rattle.std.specs.Prelude.{map};
+ghost use Rattle.std.specs.Prelude.{◌≡◌, map};
 ghost use Rattle.site_caps.specs.Registered.{IsRegistered};
 ghost use Rattle.admin_run.specs.Book.{HasBook};
-ghost use Rattle.admin_run.specs.Program.{BeginWithBook};
+ghost use Rattle.admin_run.specs.Serving.{BeginsAt};
+ghost use Rattle.admin_run.specs.Program.{AskSites, BeginWithBook, ServeAtDoor};
 
 use admin_run::{World, book_keeper, run};
 use cloud_keeper::Keeper;
 use club_site::{ClubDriver, club_offers, club_sites, club_text};
 use command_line::{Line, line_of};
-use conn_door::{Door, MemDoor};
-use grain_process::UnixDoor;
-use grain_supervise::{EchoLink, FakeSpawner};
-use host_base::{Fails, Memory, SeqSecrets, StdSink, StdSource};
+use conn_door::MemDoor;
+use grain_process::{ProcSpawner, UnixDoor, UnixLink};
+use grain_supervise::{EchoLink, FakeSpawner, Link, Spawner};
+use host_base::{Fails, Memory, Secrets, SeqSecrets, StdSink, StdSource};
 use host_clock::StillClock;
 use powerbox_match::Query;
+use rand::rngs::SysRng;
+use serve_door::ServeDoor;
 use site_caps::SiteDriver;
 use sql_keeper::SqlKeeper;
 use sqlite::Connection;
 use std::alloc::Global;
 use std::process::ExitCode;
-use std::{env, io};
+use std::{env, fs, io};
+use system_secrets::RngSecrets;
+use tcp_door::TcpDoor;
 
 // The status where memory runs out.
 const NO_MEMORY: u8 = 7;
@@ -42,9 +47,25 @@ fn words_of(rt: &HostRuntime) -> Result<Vec<String>, Memory> {
     }
 }
 
-// Runs the program with a keeper, a door and the drivers of its sites. The link, the secrets and the spawner are those in memory, so that
-// the same words and input give the same output.
-fn run_with<K: Keeper + Drop, E: Door + Drop, C: SiteDriver + Drop>(
+// Runs the program over standard input and output.
+fn run_here<L: Link + Drop, K: Keeper + Drop, S: Secrets + Drop, P: Spawner + Drop, E: ServeDoor + Drop, C: SiteDriver + Drop>(
+    rt: &HostRuntime,
+    words: &[String],
+    world: World<L, K, S, P, StillClock, E, C>,
+) -> u8
+    requires book { BeginWithBook words.now → HasBook (K.keeping world.keeper) }
+    requires registered { AskSites words.now → IsRegistered C.Law.tags (map C.tag_of world.sites.items) }
+    requires fresh { ServeAtDoor words.now → (E.doorway world.door).back ≡ 0 }
+    requires start { ServeAtDoor words.now → BeginsAt E.start (K.keeping world.keeper) (S.drawer world.secrets) }
+{
+    let mut input = StdSource::new(rt.reader());
+    let mut out = StdSink::new(io::writer(rt));
+    run(rt.alloc(), words, &mut input, &mut out, world).status
+}
+
+// Runs a line that serves no connections at a door, with a keeper, a door and the drivers of its sites. The link, the secrets and the spawner are those in
+// memory, so that the same words and input give the same output.
+fn run_with<K: Keeper + Drop, E: ServeDoor + Drop, C: SiteDriver + Drop>(
     rt: &HostRuntime,
     words: &[String],
     keeper: K,
@@ -53,10 +74,9 @@ fn run_with<K: Keeper + Drop, E: Door + Drop, C: SiteDriver + Drop>(
 ) -> u8
     requires book { BeginWithBook words.now → HasBook (K.keeping keeper) }
     requires registered { IsRegistered C.Law.tags (map C.tag_of sites.items) }
+    requires elsewhere { ServeAtDoor words.now → ⊥ }
 {
     let alloc = rt.alloc();
-    let mut input = StdSource::new(rt.reader());
-    let mut out = StdSink::new(io::writer(rt));
     let world = World {
         link: EchoLink::new(alloc, Fails::empty(alloc)),
         keeper,
@@ -66,17 +86,18 @@ fn run_with<K: Keeper + Drop, E: Door + Drop, C: SiteDriver + Drop>(
         door,
         sites,
     };
-    run(alloc, words, &mut input, &mut out, world).status
+    run_here(rt, words, world)
 }
 
-// Runs the program with the rows of the small book.
-fn run_with_book<E: Door + Drop, C: SiteDriver + Drop>(
+// Runs such a line with the rows of the small book.
+fn run_with_book<E: ServeDoor + Drop, C: SiteDriver + Drop>(
     rt: &HostRuntime,
     words: &[String],
     door: E,
     sites: Vec<C>,
 ) -> u8
-    requires { IsRegistered C.Law.tags (map C.tag_of sites.items) }
+    requires registered { IsRegistered C.Law.tags (map C.tag_of sites.items) }
+    requires elsewhere { ServeAtDoor words.now → ⊥ }
 {
     match book_keeper(rt.alloc(), Fails::empty(rt.alloc())) {
         Ok(keeper) => run_with(rt, words, keeper, door, sites),
@@ -84,7 +105,35 @@ fn run_with_book<E: Door + Drop, C: SiteDriver + Drop>(
     }
 }
 
+// Serves connections on a port from a file of rows. The runs of its grains have their sockets in a folder beside the file.
+fn run_serve<C: SiteDriver + Drop>(
+    rt: &HostRuntime,
+    words: &[String],
+    file: &str,
+    port: u16,
+    sites: Vec<C>,
+) -> Result<u8, Memory>
+    requires registered { IsRegistered C.Law.tags (map C.tag_of sites.items) }
+    requires elsewhere { BeginWithBook words.now → ⊥ }
+{
+    let alloc = rt.alloc();
+    let runs = format!(in alloc; "{file}.runs")?;
+    // Where it can't be made no run is started, which is answered to whoever asks for one.
+    let _ = fs::create_dir(rt, runs.as_str());
+    let world = World {
+        link: UnixLink::new(rt, runs.clone()?),
+        keeper: SqlKeeper::of(Connection::open(rt, file)),
+        secrets: RngSecrets::new(SysRng::new(rt)),
+        spawner: ProcSpawner::new(alloc, rt, runs),
+        clock: StillClock::new(0),
+        door: TcpDoor::bind(rt, port),
+        sites,
+    };
+    Ok(run_here(rt, words, world))
+}
+
 // Runs the program's line with what it needs.
+#[tactic(auto, using(admin_run::proofs::Begins::begins_otherwise, admin_run::proofs::Begins::serves_otherwise))]
 fn run_line<C: SiteDriver + Drop>(
     rt: &HostRuntime,
     words: &[String],
@@ -92,17 +141,23 @@ fn run_line<C: SiteDriver + Drop>(
 ) -> Result<u8, Memory>
     requires { IsRegistered C.Law.tags (map C.tag_of sites.items) }
 {
-    let no_door = MemDoor::new(Vec::new(rt.alloc()));
     match (line_of(rt.alloc(), words)?, words) {
+        (Line::Serve { port, .. }, [_, file, _, _]) => {
+            run_serve(rt, words, file.as_str(), port, sites)
+        }
         (Line::Check, [_, file]) => {
             let keeper = SqlKeeper::of(Connection::open(rt, file.as_str()));
-            Ok(run_with(rt, words, keeper, no_door, sites))
+            let door = MemDoor::new(rt.alloc(), Vec::new(rt.alloc()))?;
+            Ok(run_with(rt, words, keeper, door, sites))
         }
         (Line::Grain { .. }, [_, socket, _]) => {
             let door = UnixDoor::bind(rt, socket.as_str());
             Ok(run_with_book(rt, words, door, sites))
         }
-        _ => Ok(run_with_book(rt, words, no_door, sites)),
+        _ => {
+            let door = MemDoor::new(rt.alloc(), Vec::new(rt.alloc()))?;
+            Ok(run_with_book(rt, words, door, sites))
+        }
     }
 }
 

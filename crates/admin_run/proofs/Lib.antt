@@ -2,6 +2,10 @@ pub mod Begins
 pub mod BookRows
 pub mod Causes
 pub mod Completes
+pub mod Logins
 pub mod Made
 pub mod Played
+pub mod Opened
 pub mod Registered
+pub mod ServedRows
+pub mod Told

@@ -5,4 +5,5 @@ pub mod Making
 pub mod Outside
 pub mod Playing
 pub mod Program
+pub mod Serving
 pub mod Statuses

@@ -37,8 +37,8 @@ pub record TellsUsage (old new : Outside) (status : ℕ) : Type 0 where
   pub others : new ≡ record old { outlet = new.outlet }
   pub told : Tells old.outlet new.outlet usage_line 2 status
 
--- What causes a status: 4 the input or the door, 5 the output, 9 the keeper, whose count rose.
+-- What causes a status: 4 the input or the door, 5 the output, 9 the keeper or the secrets, whose count rose.
 pub record HasCause (old new : Outside) (status : ℕ) : Type 0 where
   pub taken : status ≡ 4 → Rose old.inlet.faults new.inlet.faults ⊎ Rose old.doorway.faults new.doorway.faults
   pub written : status ≡ 5 → Rose old.outlet.faults new.outlet.faults
-  pub stored : status ≡ 9 → Rose old.keeping.faults new.keeping.faults
+  pub stored : status ≡ 9 → Rose old.keeping.faults new.keeping.faults ⊎ Rose old.drawer.faults new.drawer.faults

@@ -9,6 +9,7 @@ use Rattle.admin_run.specs.Judging.{Checks}
 use Rattle.admin_run.specs.Making.{Makes}
 use Rattle.admin_run.specs.Outside.{Outside, DoesNothing, TellsUsage}
 use Rattle.admin_run.specs.Playing.{Plays, ServesGrain}
+use Rattle.admin_run.specs.Serving.{Serves}
 
 -- whether a line begins with the small book
 abbrev pub FromBook : Line → Type 0
@@ -19,15 +20,36 @@ FromBook line.Check = ⊥
 FromBook (line.Grain count) = ⊥
 FromBook line.Unknown = ⊥
 
--- What a line does, by the law of the sites. `serve` isn't built yet: its line gets the usage line, as words that are no line do.
+-- whether a line has connections served at the door
+abbrev pub AtDoor : Line → Type 0
+AtDoor line.Play = ⊥
+AtDoor (line.Gen count seed) = ⊥
+AtDoor (line.Serve port count) = Unit {0}
+AtDoor line.Check = ⊥
+AtDoor (line.Grain count) = ⊥
+AtDoor line.Unknown = ⊥
+
+-- What a line does, by the law of the sites. Words that are no line get the usage line.
 abbrev pub Does : Law → Line → Outside → Outside → ℕ → Type 0
 Does law line.Play old new status = Plays law old new status ⊎ DoesNothing old new status
 Does law (line.Gen count seed) old new status = Makes law count seed old new status
 Does law line.Check old new status = Checks old new status
 Does law (line.Grain count) old new status = ServesGrain count old new status
-Does law (line.Serve port count) old new status = TellsUsage old new status
+Does law (line.Serve port count) old new status = Serves law count old new status
 Does law line.Unknown old new status = TellsUsage old new status
+
+-- the words are a line of which this holds
+abbrev pub AreLine : (Line → Type 0) → List (String Global) → Type 0
+AreLine which words = (l : Line) × IsLine words l × which l
 
 -- the words begin with the small book
 abbrev pub BeginWithBook : List (String Global) → Type 0
-BeginWithBook words = (l : Line) × IsLine words l × FromBook l
+BeginWithBook words = AreLine FromBook words
+
+-- the words have connections served at the door
+abbrev pub ServeAtDoor : List (String Global) → Type 0
+ServeAtDoor words = AreLine AtDoor words
+
+-- the words ask sites
+abbrev pub AskSites : List (String Global) → Type 0
+AskSites words = BeginWithBook words ⊎ ServeAtDoor words

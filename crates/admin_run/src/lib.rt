@@ -1,11 +1,13 @@
 //! What the program does with its words, its input and its output.
 #![tactic(auto)]
 
+mod beginning;
 mod connection;
 mod judging;
 mod keeping;
 mod making;
 mod program;
+mod serving;
 mod statuses;
 mod telling;
 mod world;

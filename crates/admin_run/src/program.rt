@@ -1,5 +1,5 @@
 //! What the program does.
-ghost use Rattle.std.specs.Prelude.{◌≡◌, ◌≢◌, ◌⊎◌, map, IfSome};
+ghost use Rattle.std.specs.Prelude.{◌≡◌, ◌≢◌, ◌≤◌, ◌⊎◌, ℕ, map, IfSome};
 ghost use Rattle.std.specs.Option.{IsSome};
 ghost use Rattle.conn_door.specs.Doors.{Doorway};
 ghost use Rattle.host_base.specs.Outside.{Inlet, Rose};
@@ -10,11 +10,13 @@ ghost use Rattle.admin_run.specs.Book.{HasBook};
 ghost use Rattle.admin_run.specs.Outside.{DoesNothing, HasCause, TellsUsage};
 ghost use Rattle.admin_run.specs.Judging.{Checks};
 ghost use Rattle.admin_run.specs.Playing.{Plays, ServesGrain};
-ghost use Rattle.admin_run.specs.Program.{BeginWithBook, Does, FromBook};
+ghost use Rattle.admin_run.specs.Program.{AskSites, AtDoor, BeginWithBook, Does, FromBook, ServeAtDoor};
+ghost use Rattle.admin_run.specs.Serving.{BeginsAt};
 
 use crate::connection::serve_book;
 use crate::judging::judge;
 use crate::making::make;
+use crate::serving::serve;
 use crate::statuses::{status_of, status_of_end};
 use crate::telling::{USAGE, tell};
 use crate::world::{Back, Ended, Ran, World};
@@ -25,6 +27,7 @@ use grain_program::run_grain;
 use grain_supervise::{Link, Spawner};
 use host_base::{Memory, Secrets, Sink, Source};
 use host_clock::Clock;
+use serve_door::ServeDoor;
 use site_caps::SiteDriver;
 use std::alloc::Global;
 
@@ -128,12 +131,12 @@ fn usage<O: Sink, L: Link, K: Keeper, S: Secrets, P: Spawner, T>(
 fn perform<
     I: Source,
     O: Sink,
-    L: Link,
+    L: Link + Drop,
     K: Keeper,
     S: Secrets,
     P: Spawner,
     T,
-    E: Door,
+    E: ServeDoor,
     C: SiteDriver + Drop,
 >(
     alloc: Global,
@@ -145,7 +148,10 @@ fn perform<
     sites: Vec<C>,
 ) -> Ended<L, K, S, P, T>
     requires book { FromBook line → HasBook (K.keeping objects.keeper) }
-    requires registered { FromBook line → IsRegistered C.Law.tags (map C.tag_of sites.items) }
+    requires registered { FromBook line ⊎ AtDoor line → IsRegistered C.Law.tags (map C.tag_of sites.items) }
+    requires fresh { AtDoor line → (E.doorway door.old).back ≡ 0 }
+    requires few { (port count : ℕ) → line ≡ Line.Serve port count → count ≤ 1000000 }
+    requires start { AtDoor line → BeginsAt E.start (K.keeping objects.keeper) (S.drawer objects.secrets) }
     ensures does { Does (record { tags = C.Law.tags; may_offer = C.Law.may_offer; may_restore = C.Law.may_restore }) line
         (record { inlet = I.inlet input.old; outlet = O.outlet out.old; line = L.line objects.link; drawer = S.drawer objects.secrets; spawns = P.spawns objects.spawner; keeping = K.keeping objects.keeper; doorway = E.doorway door.old })
         (record { inlet = I.inlet input.new; outlet = O.outlet out.new; line = L.line result.back.link; drawer = S.drawer result.back.secrets; spawns = P.spawns result.back.spawner; keeping = K.keeping result.back.keeper; doorway = E.doorway door.new })
@@ -161,23 +167,24 @@ fn perform<
         Line::Gen { count, seed } => make(alloc, out, count, seed, objects, sites),
         Line::Check => check(alloc, out, objects),
         Line::Grain { count } => grain(alloc, out, door, count, objects),
-        Line::Serve { .. } => usage(out, objects),
+        Line::Serve { count, .. } => serve(alloc, out, door, count, objects, sites),
         Line::Unknown => usage(out, objects),
     }
 }
 
 /// All that the program does. `play` serves one connection from the small book, whose rows the keeper has to have, with a driver for each site; `gen COUNT SEED`
-/// serves so many requests of a seed in the same way, over memory, and prints their summary; `check FILE` says what the rows of the keeper state; `grain SOCKET COUNT`
+/// serves so many requests of a seed in the same way, over memory, and prints their summary; `serve FILE PORT COUNT` serves so many connections at its door from the
+/// rows of the keeper, with a driver for each site; `check FILE` says what the rows of the keeper state; `grain SOCKET COUNT`
 /// prints `ready` and answers so many connections at its door with what they were asked; any other words get the usage line.
 pub fn run<
     I: Source,
     O: Sink,
-    L: Link,
+    L: Link + Drop,
     K: Keeper,
     S: Secrets,
     P: Spawner,
     T: Clock,
-    E: Door,
+    E: ServeDoor,
     C: SiteDriver + Drop,
 >(
     alloc: Global,
@@ -187,7 +194,9 @@ pub fn run<
     world: World<L, K, S, P, T, E, C>,
 ) -> Ran<L, K, S, P, T, E>
     requires book { BeginWithBook words.now → HasBook (K.keeping world.keeper) }
-    requires registered { BeginWithBook words.now → IsRegistered C.Law.tags (map C.tag_of world.sites.items) }
+    requires registered { AskSites words.now → IsRegistered C.Law.tags (map C.tag_of world.sites.items) }
+    requires fresh { ServeAtDoor words.now → (E.doorway world.door).back ≡ 0 }
+    requires start { ServeAtDoor words.now → BeginsAt E.start (K.keeping world.keeper) (S.drawer world.secrets) }
 
     // What its words' line does, or nothing for want of memory.
     ensures does { (line : TheLine) → IsLine words.now line → IfSome result.back (λ back.

@@ -1,5 +1,5 @@
 //! Lines that the program prints.
-ghost use Rattle.std.specs.Prelude.{◌≡◌, ◌≢◌, ◌≤◌};
+ghost use Rattle.std.specs.Prelude.{◌≡◌, ◌≢◌, ◌≤◌, ◌++◌, codes};
 ghost use Rattle.host_base.specs.Outside.{Rose};
 ghost use Rattle.admin_run.specs.Outside.{Tells};
 
@@ -30,4 +30,30 @@ pub(crate) fn tell_line<O: Sink>(out: &mut O, line: Bytes, done: u8) -> u8
     ensures either { result ≢ 5 → result ≡ done }
 {
     tell(out, line.as_slice(), done)
+}
+
+// Prints one text and then another.
+fn tell_two<O: Sink>(out: &mut O, first: &[u8], second: &[u8], done: u8) -> u8
+    ensures tells { Tells (O.outlet out.old) (O.outlet out.new) (first.now ++ second.now) done result }
+    ensures counts { (O.outlet out.old).faults ≤ (O.outlet out.new).faults }
+    ensures cause { done ≢ 5 → result ≡ 5 → Rose (O.outlet out.old).faults (O.outlet out.new).faults }
+    ensures either { result ≢ 5 → result ≡ done }
+{
+    if tell(out, first, 0) != 0 {
+        return 5;
+    }
+    tell(out, second, done)
+}
+
+/// Prints words, a value and a line feed; the status is the given one, or 5 where they couldn't be printed. It takes no memory.
+pub(crate) fn tell_value<O: Sink>(out: &mut O, words: &[u8], value: &[u8], done: u8) -> u8
+    ensures tells { Tells (O.outlet out.old) (O.outlet out.new) ((words.now ++ value.now) ++ codes "\n") done result }
+    ensures counts { (O.outlet out.old).faults ≤ (O.outlet out.new).faults }
+    ensures cause { done ≢ 5 → result ≡ 5 → Rose (O.outlet out.old).faults (O.outlet out.new).faults }
+    ensures either { result ≢ 5 → result ≡ done }
+{
+    if tell_two(out, words, value, 0) != 0 {
+        return 5;
+    }
+    tell(out, b"\n", done)
 }

@@ -1,5 +1,12 @@
 use std::alloc::{AllocError, Global};
 
+/// A connection at the door: what a client sends on it, and what must come back.
+#[derive(Debug, Drop)]
+pub struct Stream {
+    pub sent: Vec<u8>,
+    pub answered: Vec<u8>,
+}
+
 /// A conversation: what is sent, what must come of it, and what the objects between do.
 #[derive(Debug, Drop)]
 pub struct Conversation {
@@ -9,6 +16,8 @@ pub struct Conversation {
     pub sent: Vec<u8>,
     /// What must come back.
     pub answered: Vec<u8>,
+    /// The connections that come in at the door, one after another.
+    pub streams: Vec<Stream>,
     /// What must have been asked of grains, one text after another, where that is told.
     pub asked: Option<Vec<u8>>,
     /// What the spawner must have been told, a line for each start and then for each stop, where that is told.
@@ -25,6 +34,8 @@ pub struct Conversation {
     pub spawner_fails: Vec<u64>,
     /// The commits to the keeper that fail, from 1.
     pub store_fails: Vec<u64>,
+    /// Whether the keeper has no rows at first, and not those of the small book.
+    pub empty: bool,
     /// How many rows the keeper must have at the end, where that is told.
     pub rows: Option<usize>,
     /// The secrets that are drawn, each 32 times this byte, where they aren't those in sequence.
@@ -47,6 +58,7 @@ impl Conversation {
             words,
             sent: Vec::new(alloc),
             answered: Vec::new(alloc),
+            streams: Vec::new(alloc),
             asked: None,
             told: None,
             grains: Vec::new(alloc),
@@ -57,6 +69,7 @@ impl Conversation {
             draw_fails: Vec::new(alloc),
             spawner_fails: Vec::new(alloc),
             store_fails: Vec::new(alloc),
+            empty: false,
             rows: None,
             secrets: None,
             status: 0,

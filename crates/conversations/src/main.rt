@@ -4,6 +4,7 @@
 #![tactic(auto)]
 
 mod conversation;
+mod door;
 mod notation;
 mod play;
 mod reading;

@@ -1,11 +1,18 @@
 //! Playing a conversation over memory, and what goes otherwise.
 
+ghost use Rattle.std.specs.Prelude.{IfOk};
+ghost use Rattle.admin_run.specs.Book.{HasBook};
+ghost use Rattle.admin_run.specs.Program.{BeginWithBook};
+
 use crate::conversation::Conversation;
+use crate::door::door_of;
 use admin_run::{Ran, World, book_keeper, run};
+use cloud_keeper::{Keeper, MemKeeper};
 use club_site::plain_sites;
+use command_line::{Line, line_of};
 use conn_door::MemDoor;
 use grain_supervise::{Ask, CannedLink, EchoLink, FakeSpawner, Link};
-use host_base::{Answer, ListSecrets, MemSink, MemSource, Secrets, SeqSecrets};
+use host_base::{Answer, ListSecrets, MemSink, MemSource, Memory, Secrets, SeqSecrets};
 use host_clock::StillClock;
 use plain_data::List;
 use std::alloc::{AllocError, Global};
@@ -17,6 +24,18 @@ pub enum Difference {
     #[error("the answer is equal up to byte {equal}, of {wanted}; {came} came")]
     Answered {
         equal: usize,
+        wanted: usize,
+        came: usize,
+    },
+    #[error("the answer on stream {stream} is equal up to byte {equal}, of {wanted}; {came} came")]
+    Streamed {
+        stream: usize,
+        equal: usize,
+        wanted: usize,
+        came: usize,
+    },
+    #[error("{came} streams were answered, not {wanted}")]
+    Streams {
         wanted: usize,
         came: usize,
     },
@@ -96,13 +115,41 @@ struct Part {
     status: u8,
 }
 
-/// What came of a part: what was written, what the spawner was told, how many rows the keeper has, and the status.
-#[derive(Debug, Drop)]
+/// What came of a part: what was written, the door with its connections, what the spawner was told, how many rows the keeper has, and the status.
+#[derive(Drop)]
 struct Came {
     out: MemSink,
+    door: MemDoor,
     told: Vec<u8>,
     rows: usize,
     status: u8,
+}
+
+// What came of the connections at the door that isn't as the conversation says.
+fn compare_streams(
+    conversation: &Conversation,
+    door: &MemDoor,
+    found: &mut Vec<Difference>,
+) -> Result<(), AllocError> {
+    let (streams, kept) = (conversation.streams.as_slice(), door.kept());
+    if streams.len() != kept.len() {
+        found.push(Difference::Streams {
+            wanted: streams.len(),
+            came: kept.len(),
+        })?;
+    }
+    for (place, (stream, pair)) in streams.iter().zip(kept.iter()).enumerate() {
+        let (wanted, written) = (stream.answered.as_slice(), pair.1.written());
+        if let Some(equal) = equal_up_to(wanted, written) {
+            found.push(Difference::Streamed {
+                stream: place,
+                equal,
+                wanted: wanted.len(),
+                came: written.len(),
+            })?;
+        }
+    }
+    Ok(())
 }
 
 // What came of a part that isn't as the conversation says.
@@ -123,6 +170,7 @@ fn compared(
             came: written.len(),
         })?;
     }
+    compare_streams(conversation, &came.door, &mut found)?;
     if let Some(wanted) = &conversation.told {
         if let Some(equal) = equal_up_to(wanted.as_slice(), came.told.as_slice()) {
             found.push(Difference::Told {
@@ -184,6 +232,25 @@ fn grain_answers(alloc: Global, conversation: &Conversation) -> Result<List<Answ
     Ok(answers)
 }
 
+// The keeper of a conversation.
+fn keeper_of(alloc: Global, conversation: &Conversation) -> Result<MemKeeper, AllocError>
+    ensures { IfOk result (λ keeper. BeginWithBook conversation.now.words.items → HasBook (⟦<MemKeeper as Keeper>⟧.keeping keeper)) }
+{
+    let fails = List::new(conversation.store_fails.clone()?);
+    let serves = match line_of(alloc, conversation.words.as_slice()) {
+        Ok(Line::Serve { .. }) => true,
+        Ok(_) => false,
+        Err(Memory) => return Err(AllocError),
+    };
+    if conversation.empty && serves {
+        return Ok(MemKeeper::new(Vec::new(alloc), fails));
+    }
+    match book_keeper(alloc, fails) {
+        Ok(keeper) => Ok(keeper),
+        Err(_) => Err(AllocError),
+    }
+}
+
 // Plays a part with a link and secrets: what came of it, and the link.
 fn played_with<L: Link + Drop, S: Secrets + Drop>(
     alloc: Global,
@@ -197,11 +264,8 @@ fn played_with<L: Link + Drop, S: Secrets + Drop>(
     let words = conversation.words.as_slice();
     let fails = List::new(conversation.spawner_fails.clone()?);
     let spawner = FakeSpawner::new(alloc, fails);
-    let door = MemDoor::new(Vec::new(alloc));
-    let fails = List::new(conversation.store_fails.clone()?);
-    let Ok(keeper) = book_keeper(alloc, fails) else {
-        return Err(AllocError);
-    };
+    let door = door_of(alloc, conversation.streams.as_slice())?;
+    let keeper = keeper_of(alloc, conversation)?;
     let Ok(sites) = plain_sites(alloc) else {
         return Err(AllocError);
     };
@@ -214,12 +278,13 @@ fn played_with<L: Link + Drop, S: Secrets + Drop>(
         door,
         sites,
     };
-    let Ran { status, back, .. } = run(alloc, words, &mut input, &mut out, world);
+    let Ran { status, door, back } = run(alloc, words, &mut input, &mut out, world);
     let Some(back) = back else {
         return Err(AllocError);
     };
     let came = Came {
         out,
+        door,
         told: told(alloc, &back.spawner)?,
         rows: back.keeper.rows().len(),
         status,

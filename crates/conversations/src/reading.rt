@@ -1,6 +1,6 @@
 //! How a file is read: line by line, each conversation from a line that begins with `=`.
 
-use crate::conversation::Conversation;
+use crate::conversation::{Conversation, Stream};
 use crate::notation::put_line;
 use std::alloc::{AllocError, Global};
 
@@ -50,6 +50,11 @@ fn read_setting(
     match name {
         "words" => conversation.words = words(alloc, value)?,
         "cuts" => conversation.cuts = true,
+        "empty" => conversation.empty = true,
+        "stream" => conversation.streams.push(Stream {
+            sent: Vec::new(alloc),
+            answered: Vec::new(alloc),
+        })?,
         "grain" => conversation.grains.push(Vec::new(alloc))?,
         "status" => match value.parse::<u8>() {
             Ok(status) => conversation.status = status,
@@ -86,17 +91,23 @@ fn read_setting(
     Ok(true)
 }
 
-// Reads a line of a conversation. It is false where it can't be read.
+// Reads a line of a conversation. What is sent and answered behind a line `stream` is of that connection. It is false where it can't be read.
 fn read_line(
     alloc: Global,
     conversation: &mut Conversation,
     line: &str,
 ) -> Result<bool, AllocError> {
     if let Some(text) = after(line, ">") {
-        return put_line(alloc, &mut conversation.sent, text);
+        return match conversation.streams.last_mut() {
+            Some(stream) => put_line(alloc, &mut stream.sent, text),
+            None => put_line(alloc, &mut conversation.sent, text),
+        };
     }
     if let Some(text) = after(line, "<") {
-        return put_line(alloc, &mut conversation.answered, text);
+        return match conversation.streams.last_mut() {
+            Some(stream) => put_line(alloc, &mut stream.answered, text),
+            None => put_line(alloc, &mut conversation.answered, text),
+        };
     }
     if let Some(text) = after(line, "?") {
         let mut asked = conversation.asked.take().unwrap_or(Vec::new(alloc));

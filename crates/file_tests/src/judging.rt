@@ -41,7 +41,7 @@ pub fn judge<K: Keeper + Drop>(alloc: Global, keeper: K) -> Result<(String, u8, 
         secrets: SeqSecrets::new(),
         spawner: FakeSpawner::new(alloc, Fails::empty(alloc)),
         clock: StillClock::new(0),
-        door: MemDoor::new(Vec::new(alloc)),
+        door: MemDoor::new(alloc, Vec::new(alloc))?,
         sites: plain_sites(alloc)?,
     };
     let Ran { status, back, .. } = run(alloc, words.as_slice(), &mut input, &mut out, world);

@@ -116,7 +116,7 @@ impl<K: Keeper, S: Secrets, P: Spawner, C: SiteDriver + Drop> Locked<K, S, P, C>
         spawner: P,
         sites: Registry<C>,
     ) -> Result<Self, NotOpened<K, S, P>>
-        ensures ok { IfOk result (IsOpenedOn (K.keeping keeper) secrets spawner sites) }
+        ensures ok { IfOk result (λ locked. IsOpenedOn (K.keeping keeper) (K.keeping locked.keeper) secrets spawner sites locked) }
         ensures err { IfErr result (λ closed. IsClosedOn (K.keeping keeper) (K.keeping closed.keeper) secrets closed.secrets spawner closed.spawner closed.fault) }
     {
         let mut keeper = keeper;

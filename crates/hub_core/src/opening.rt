@@ -1,6 +1,7 @@
 //! Opening a history.
 
-ghost use Rattle.std.specs.Prelude.{IfOk, IfErr};
+ghost use Rattle.std.specs.Prelude.{◌≤◌, IfOk, IfErr};
+ghost use Rattle.cloud_keeper.specs.Keeping.{Follows};
 ghost use Rattle.share_graph.specs.WellFormed.{IsWellFormed};
 ghost use Rattle.hub_core.specs.Opening.{AreLoaded, HasCause, opened};
 ghost use Rattle.hub_core.specs.Storing.{IsStored};
@@ -40,6 +41,8 @@ pub fn load_tables<K: Keeper>(alloc: Global, keeper: &mut K) -> Result<Tables, O
     ensures formed { IfOk result (λ t. IsWellFormed (opened t)) }
     ensures stored { IfOk result (IsStored (K.keeping keeper.new)) }
     ensures cause { IfErr result (HasCause (K.keeping keeper.old) (K.keeping keeper.new)) }
+    ensures counts { (K.keeping keeper.old).faults ≤ (K.keeping keeper.new).faults }
+    ensures kept { Follows (K.keeping keeper.old) (K.keeping keeper.new) (λ rows. rows) }
 {
     let rows = match keeper.load(alloc) {
         Ok(rows) => rows,

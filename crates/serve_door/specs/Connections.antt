@@ -1,8 +1,8 @@
 -- Connections that are served one after another by one desk.
-use Rattle.std.specs.Prelude.{◌≡◌, ℕ, List, [], ◌∷◌}
+use Rattle.std.specs.Prelude.{◌≡◌, ℕ, ◌+◌, List, [], ◌∷◌, length, sum}
 use Rattle.host_base.specs.Outside.{Inlet, Outlet}
 use Rattle.grain_supervise.specs.Line.{Line, fresh_line}
-use Rattle.conn_door.specs.Doors.{IsFreshInlet, IsFreshOutlet}
+use Rattle.conn_door.specs.Doors.{Doorway, IsFreshInlet, IsFreshOutlet}
 use Rattle.hub_core.specs.Book.{Book}
 use Rattle.cloud_serve.specs.declared.serve.End.{End}
 use Rattle.cloud_serve.specs.Served.{World, Served}
@@ -33,3 +33,10 @@ pub record ServesOne (old new : Book) (served : ℕ) : Type 0 where
 abbrev pub AreServed : Book → Book → List ℕ → Type 0
 AreServed old new [] = new ≡ old
 AreServed old new (served ∷ more) = (between : Book) × ServesOne old between served × AreServed between new more
+
+-- CONNECTIONS WERE TAKEN at a door, served one after another, and given back, with so many requests answered on all of them.
+pub record ServesMany (old new : Book) (door door' : Doorway) (answered : ℕ) : Type 0 where
+  pub numbers : List ℕ
+  pub connections : AreServed old new numbers
+  pub answered_is : answered ≡ sum numbers
+  pub doorway_is : door' ≡ record { faults = door'.faults; given = door.given + length numbers; back = door.back + length numbers; answered = door.answered + answered }

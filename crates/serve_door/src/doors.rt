@@ -1,6 +1,5 @@
 //! The doors in memory and over sockets take connections back.
-ghost use Rattle.std.specs.Prelude.{◌≡◌, ◌+◌, ◌<◌, None};
-ghost use Rattle.share_graph.specs.declared.state.State.{State};
+ghost use Rattle.std.specs.Prelude.{◌≡◌, ◌<◌, ◌≤◌, None};
 ghost use Rattle.conn_door.specs.Doors.{counted, kept_with};
 
 use crate::serve_door::ServeDoor;
@@ -25,6 +24,9 @@ impl ServeDoor for MemDoor {
         _desk: &D,
         _link: &L,
     )
+        requires room { self.old.returns.back < 4294967296 }
+        requires few { end.now.served ≤ 1000000 }
+
         // It keeps the connection, as long as there are fewer than its list had.
         ensures keeps { self.new ≡ record self.old { kept = kept_with self.old (input, output); returns = counted self.old.returns end.now.served } }
     {

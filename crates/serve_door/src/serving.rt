@@ -1,10 +1,10 @@
 //! Connections are served one after another.
-ghost use Rattle.std.specs.Prelude.{◌≡◌, ℕ, ◌+◌, ◌*◌, ◌≤◌, ◌⊎◌, List, Some, length, sum, IfOk, OnOk, OnErr, IsErrOf};
+ghost use Rattle.std.specs.Prelude.{◌≡◌, ◌+◌, ◌<◌, ◌≤◌, Some, IfOk, OnOk, OnErr, IsErrOf};
 ghost use Rattle.host_base.specs.Outside.{Rose};
 ghost use Rattle.share_graph.specs.declared.state.State.{State};
 ghost use Rattle.conn_door.specs.Doors.{Doorway};
 ghost use Rattle.hub_core.specs.Book.{Book};
-ghost use Rattle.serve_door.specs.Connections.{AreServed, ServesOne};
+ghost use Rattle.serve_door.specs.Connections.{ServesMany, ServesOne};
 
 use crate::serve_door::ServeDoor;
 use cloud_serve::serve_conn;
@@ -60,4 +60,33 @@ fn serve_next<E: ServeDoor, D: Desk, L: Link + Drop>(
     let end = serve_conn(alloc, &mut input, &mut output, desk, &mut own);
     door.done(input, output, &end, desk, &own);
     Ok(end.served)
+}
+
+/// Serves so many connections, one after another, each over a link of its own, and gives each back to the door.
+pub fn serve_all<E: ServeDoor, D: Desk, L: Link + Drop>(
+    alloc: Global,
+    door: &mut E,
+    desk: &mut D,
+    link: &L,
+    count: u32,
+) -> Stopped
+    requires room { (E.doorway door.old).back + count ≤ 4294967296 }
+    requires start { (state : State) → E.start ≡ Some state → (D.book desk.old).start ≡ state }
+    ensures served { ServesMany (D.book desk.old) (D.book desk.new) (E.doorway door.old) (E.doorway door.new) result.answered }
+    ensures begins { (D.book desk.new).start ≡ (D.book desk.old).start }
+    ensures all { result.stop ≡ Stop.All → (E.doorway door.new).back ≡ (E.doorway door.old).back + count }
+    ensures counts { (E.doorway door.old).faults ≤ (E.doorway door.new).faults }
+    ensures cause { result.stop ≡ Stop.DoorFailed → Rose (E.doorway door.old).faults (E.doorway door.new).faults }
+{
+    let mut answered = 0;
+    'connections: for _taken in 0..count {
+        match serve_next(alloc, door, desk, link) {
+            Ok(served) => answered += served,
+            Err(stop) => return Stopped { stop, answered },
+        }
+    }
+    Stopped {
+        stop: Stop::All,
+        answered,
+    }
 }

@@ -20,9 +20,9 @@ returns-in-Ok-clause-plays g c = λ doorway.
 pub returns-in-Ok-clause-taken : goal.returns-in-Ok-clause-taken
 returns-in-Ok-clause-taken g c = λ is.
     read_cause (g.I.Source.inlet c.args.input.now) (g.I.Source.inlet c.serve_book.new.input) (g.O.Sink.outlet c.args.out.now) (g.O.Sink.outlet c.serve_book.new.out) c.in-Ok.connection.end
-    (c.in-Ok.ensures.served (record { faults = 0; given = 0 })).headline.cause (sym c.status_of.ensures ∙ is)
+    (c.in-Ok.ensures.served (record { faults = 0; given = 0; back = 0; answered = 0 })).headline.cause (sym c.status_of.ensures ∙ is)
 
 pub returns-in-Ok-clause-written : goal.returns-in-Ok-clause-written
 returns-in-Ok-clause-written g c = λ is.
     write_cause (g.I.Source.inlet c.args.input.now) (g.I.Source.inlet c.serve_book.new.input) (g.O.Sink.outlet c.args.out.now) (g.O.Sink.outlet c.serve_book.new.out) c.in-Ok.connection.end
-    (c.in-Ok.ensures.served (record { faults = 0; given = 0 })).headline.cause (sym c.status_of.ensures ∙ is)
+    (c.in-Ok.ensures.served (record { faults = 0; given = 0; back = 0; answered = 0 })).headline.cause (sym c.status_of.ensures ∙ is)

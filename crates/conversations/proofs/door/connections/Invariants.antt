@@ -1,0 +1,6 @@
+use Rattle.std.proofs.Common.{All}
+use Rattle.conn_door.specs.Doors.{IsFreshPair}
+use Rattle.conversations.proofs.door.connections.Given as goal
+
+abbrev pub invariant-streams : goal.invariant-streams
+invariant-streams l = All IsFreshPair l.pairs.items

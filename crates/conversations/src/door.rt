@@ -1,0 +1,41 @@
+//! The connections at the door.
+ghost use Rattle.std.specs.Prelude.{◌≡◌, All, IfOk};
+ghost use Rattle.conn_door.specs.Doors.{IsFreshPair};
+
+use crate::conversation::Stream;
+use conn_door::MemDoor;
+use host_base::{Fails, MemSink, MemSource};
+use std::alloc::{AllocError, Global};
+
+// A connection on which this is sent.
+fn connection(alloc: Global, stream: &Stream) -> Result<(MemSource, MemSink), AllocError>
+    ensures { IfOk result IsFreshPair }
+{
+    let input = MemSource::new(stream.sent.clone()?, Fails::empty(alloc));
+    let output = MemSink::new(alloc, Fails::empty(alloc));
+    Ok((input, output))
+}
+
+// The connections on which these are sent.
+fn connections(
+    alloc: Global,
+    streams: &[Stream],
+) -> Result<Vec<(MemSource, MemSink)>, AllocError>
+    ensures { IfOk result (λ pairs. All IsFreshPair pairs.items) }
+{
+    let mut pairs = Vec::new(alloc);
+    'streams: for stream in streams {
+        pairs.push(connection(alloc, stream)?)?;
+    }
+    Ok(pairs)
+}
+
+/// A door at which these connections come in.
+pub fn door_of(alloc: Global, streams: &[Stream]) -> Result<MemDoor, AllocError>
+    ensures { IfOk result (λ door. door.returns.back ≡ 0) }
+{
+    match MemDoor::new(alloc, connections(alloc, streams)?) {
+        Ok(door) => Ok(door),
+        Err(_) => Err(AllocError),
+    }
+}
