@@ -48,11 +48,14 @@ fn words_of(rt: &HostRuntime) -> Result<Vec<String>, Memory> {
 }
 
 // Runs the program over standard input and output.
-fn run_here<L: Link + Drop, K: Keeper + Drop, S: Secrets + Drop, P: Spawner + Drop, E: ServeDoor + Drop, C: SiteDriver + Drop>(
-    rt: &HostRuntime,
-    words: &[String],
-    world: World<L, K, S, P, StillClock, E, C>,
-) -> u8
+fn run_here<
+    L: Link + Drop,
+    K: Keeper + Drop,
+    S: Secrets + Drop,
+    P: Spawner + Drop,
+    E: ServeDoor + Drop,
+    C: SiteDriver + Drop,
+>(rt: &HostRuntime, words: &[String], world: World<L, K, S, P, StillClock, E, C>) -> u8
     requires book { BeginWithBook words.now → HasBook (K.keeping world.keeper) }
     requires registered { AskSites words.now → IsRegistered C.Law.tags (map C.tag_of world.sites.items) }
     requires fresh { ServeAtDoor words.now → (E.doorway world.door).back ≡ 0 }
@@ -132,6 +135,27 @@ fn run_serve<C: SiteDriver + Drop>(
     Ok(run_here(rt, words, world))
 }
 
+// The path of a line that has one: its second word.
+fn path_of(words: &[String]) -> &str {
+    match words.get(1) {
+        Some(path) => path.as_str(),
+        None => "",
+    }
+}
+
+// Runs a line that needs neither a file nor a door.
+fn run_alone<C: SiteDriver + Drop>(
+    rt: &HostRuntime,
+    words: &[String],
+    sites: Vec<C>,
+) -> Result<u8, Memory>
+    requires registered { IsRegistered C.Law.tags (map C.tag_of sites.items) }
+    requires elsewhere { ServeAtDoor words.now → ⊥ }
+{
+    let door = MemDoor::new(rt.alloc(), Vec::new(rt.alloc()))?;
+    Ok(run_with_book(rt, words, door, sites))
+}
+
 // Runs the program's line with what it needs.
 #[tactic(auto, using(admin_run::proofs::Begins::begins_otherwise, admin_run::proofs::Begins::serves_otherwise))]
 fn run_line<C: SiteDriver + Drop>(
@@ -141,23 +165,20 @@ fn run_line<C: SiteDriver + Drop>(
 ) -> Result<u8, Memory>
     requires { IsRegistered C.Law.tags (map C.tag_of sites.items) }
 {
-    match (line_of(rt.alloc(), words)?, words) {
-        (Line::Serve { port, .. }, [_, file, _, _]) => {
-            run_serve(rt, words, file.as_str(), port, sites)
-        }
-        (Line::Check, [_, file]) => {
-            let keeper = SqlKeeper::of(Connection::open(rt, file.as_str()));
+    match line_of(rt.alloc(), words)? {
+        Line::Serve { port, .. } => run_serve(rt, words, path_of(words), port, sites),
+        Line::Check => {
+            let keeper = SqlKeeper::of(Connection::open(rt, path_of(words)));
             let door = MemDoor::new(rt.alloc(), Vec::new(rt.alloc()))?;
             Ok(run_with(rt, words, keeper, door, sites))
         }
-        (Line::Grain { .. }, [_, socket, _]) => {
-            let door = UnixDoor::bind(rt, socket.as_str());
+        Line::Grain { .. } => {
+            let door = UnixDoor::bind(rt, path_of(words));
             Ok(run_with_book(rt, words, door, sites))
         }
-        _ => {
-            let door = MemDoor::new(rt.alloc(), Vec::new(rt.alloc()))?;
-            Ok(run_with_book(rt, words, door, sites))
-        }
+        Line::Play => run_alone(rt, words, sites),
+        Line::Gen { .. } => run_alone(rt, words, sites),
+        Line::Unknown => run_alone(rt, words, sites),
     }
 }
 

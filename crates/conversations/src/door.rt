@@ -17,10 +17,7 @@ fn connection(alloc: Global, stream: &Stream) -> Result<(MemSource, MemSink), Al
 }
 
 // The connections on which these are sent.
-fn connections(
-    alloc: Global,
-    streams: &[Stream],
-) -> Result<Vec<(MemSource, MemSink)>, AllocError>
+fn connections(alloc: Global, streams: &[Stream]) -> Result<Vec<(MemSource, MemSink)>, AllocError>
     ensures { IfOk result (λ pairs. All IsFreshPair pairs.items) }
 {
     let mut pairs = Vec::new(alloc);
