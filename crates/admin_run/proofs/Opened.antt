@@ -1,5 +1,5 @@
 -- Rows that are opened, or aren't.
-use Rattle.std.proofs.Common.{◌≡◌, ◌∙◌, ◌⊎◌, ℕ, inl, inr, refl, ap, sym, subst}
+use Rattle.std.proofs.Common.{◌≡◌, ◌∙◌, ◌⊎◌, ℕ, List, Option, inl, inr, refl, ap, sym, subst}
 use Rattle.host_base.specs.Drawing.{Drawer}
 use Rattle.host_base.specs.Outside.{Inlet, Outlet, Rose}
 use Rattle.cloud_keeper.specs.Keeping.{Keeping}
@@ -12,9 +12,10 @@ use Rattle.hub_core.specs.Opening.{HasBadRow, HasCause, IsClosedOn}
 use Rattle.hub_core.specs.declared.opening.OpenFault.{OpenFault}
 use Rattle.hub_core.specs.declared.opening.OpenFault.TheVariants as open_fault
 use Rattle.row_tables.specs.declared.stored.BadRow.{BadRow}
-use Rattle.admin_run.specs.Outside.{Outside}
-use Rattle.admin_run.specs.Serving.{ServesFrom, StopsAtRows}
+use Rattle.admin_run.specs.Outside.{Outside, Tells}
+use Rattle.admin_run.specs.Serving.{Begins, GoesOn, OpensRows, ServesFrom, StopsAtRows, login_line}
 use Rattle.admin_run.specs.Statuses.{status_of_closed}
+use Rattle.admin_run.proofs.Logins.{first_begun}
 
 -- what causes the status of rows that aren't opened
 closed_cause : (old new : Keeping) (fault : OpenFault) → HasCause old new fault
@@ -43,3 +44,20 @@ module _ {S P : Type 0} (drawer_of : S → Drawer) (spawns_of : P → Spawns) (i
       → ServesFrom law tables count (outside keeping secrets' spawner') new status → ServesFrom law tables count (outside keeping secrets spawner) new status
   from_opened law tables count keeping new secrets secrets' spawner spawner' status secrets_are spawner_is served =
       subst (λ (x : S). ServesFrom law tables count (outside keeping x spawner) new status) secrets_are (subst (λ (x : P). ServesFrom law tables count (outside keeping secrets' x) new status) spawner_is served)
+
+-- it began, and the login was printed or couldn't be
+pub goes_on : (law : Law) (count : ℕ) (old new : Outside) (status : ℕ) (keeping : Keeping) (drawer : Drawer) (outlet : Outlet) (login : Option (List ℕ)) (told : ℕ) → Begins old.keeping keeping old.drawer drawer login
+    → Tells old.outlet outlet (login_line login) 0 told
+    → ((told ≡ 5) × (status ≡ 5) × (new ≡ record old { keeping = keeping; drawer = drawer; outlet = outlet })) ⊎ ((told ≡ 0) × OpensRows law count (record old { keeping = keeping; drawer = drawer; outlet = outlet }) new status)
+    → GoesOn law count old new status
+goes_on law count old new status keeping drawer outlet login told begun tells goes = record {
+  keeping = keeping;
+  drawer = drawer;
+  outlet = outlet;
+  login = login;
+  begun = begun;
+  first = λ token. first_begun old.keeping keeping old.drawer drawer login token begun;
+  told = told;
+  tells = tells;
+  goes = goes;
+}

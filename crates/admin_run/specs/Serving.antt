@@ -10,7 +10,7 @@ use Rattle.share_graph.specs.declared.event.Event.{Event}
 use Rattle.share_graph.specs.declared.state.State.{State}
 use Rattle.share_graph.specs.declared.state.Tables.{Tables}
 use Rattle.share_graph.specs.History.{replay}
-use Rattle.first_account.specs.Drawn.{IsTokenOfNext}
+use Rattle.first_account.specs.Drawn.{DrewOneAtMost, IsTokenOfNext}
 use Rattle.first_account.specs.First.{HasNoRows, HasJust, first_row, first_tables}
 use Rattle.desk_orders.specs.Sites.{Law}
 use Rattle.hub_core.specs.Opening.{AreLoaded, HasBadRow, opened}
@@ -44,10 +44,12 @@ login_line (Some token) = (codes "login " ++ token) ++ codes "\n"
 abbrev pub served_line : ℕ → List ℕ
 served_line answered = (codes "served " ++ decimal answered) ++ codes "\n"
 
--- IT CAN'T BEGIN: the keeper failed or the secrets did, which was counted, or memory ran out. The keeper's rows stay as they were.
+-- IT CAN'T BEGIN: the keeper failed or the secrets did, which was counted, or memory ran out. The keeper's rows stay as they were, and one secret was drawn at the
+-- most.
 pub record Fails (keeping keeping' : Keeping) (drawer drawer' : Drawer) (status : ℕ) : Type 0 where
   pub cause : ((status ≡ 9) × (Rose keeping.faults keeping'.faults ⊎ Rose drawer.faults drawer'.faults)) ⊎ (status ≡ 7)
   pub kept : Follows keeping keeping' (λ rows. rows)
+  pub drawn : DrewOneAtMost drawer.coming drawer'.coming
 
 -- Nothing is printed or served, since it can't begin.
 pub record StopsEarly (old new : Outside) (status : ℕ) : Type 0 where

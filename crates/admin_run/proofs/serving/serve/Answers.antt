@@ -1,5 +1,5 @@
 use Rattle.std.proofs.Common.{inl, inr, refl}
-use Rattle.admin_run.proofs.Logins.{first_begun}
+use Rattle.admin_run.proofs.Opened.{goes_on}
 use Rattle.admin_run.proofs.Told.{is_five}
 use Rattle.admin_run.proofs.serving.serve.Goals as goal
 
@@ -10,28 +10,8 @@ serve_rows-requires-clause-start g c = λ state is tables loaded.
 pub returns-then-told-ne0-clause-serves : goal.returns-then-told-ne0-clause-serves
 returns-then-told-ne0-clause-serves g c = λ inlet.
     let five = is_five c.announce-told.result c.announce-told.ensures.either c.if-told-ne0.true in
-    inr (record {
-      keeping = g.K.Keeper.keeping c.begin.new.keeper;
-      drawer = g.S.Secrets.drawer c.begin.new.secrets;
-      outlet = g.O.Sink.outlet c.announce-told.new.out;
-      login = c.in-Ok.login;
-      begun = c.in-Ok.ensures.begins;
-      first = λ token. first_begun (g.K.Keeper.keeping c.args.objects.keeper) (g.K.Keeper.keeping c.begin.new.keeper) (g.S.Secrets.drawer c.args.objects.secrets) (g.S.Secrets.drawer c.begin.new.secrets) c.in-Ok.login token c.in-Ok.ensures.begins;
-      told = c.announce-told.result;
-      tells = c.announce-told.ensures.tells;
-      goes = inl (five, five, refl);
-    })
+    inr (goes_on _ _ _ _ _ (g.K.Keeper.keeping c.begin.new.keeper) (g.S.Secrets.drawer c.begin.new.secrets) (g.O.Sink.outlet c.announce-told.new.out) c.in-Ok.login c.announce-told.result c.in-Ok.ensures.begins c.announce-told.ensures.tells (inl (five, five, refl)))
 
 pub returns-clause-serves : goal.returns-clause-serves
 returns-clause-serves g c = λ inlet.
-    inr (record {
-      keeping = g.K.Keeper.keeping c.begin.new.keeper;
-      drawer = g.S.Secrets.drawer c.begin.new.secrets;
-      outlet = g.O.Sink.outlet c.announce-told.new.out;
-      login = c.in-Ok.login;
-      begun = c.in-Ok.ensures.begins;
-      first = λ token. first_begun (g.K.Keeper.keeping c.args.objects.keeper) (g.K.Keeper.keeping c.begin.new.keeper) (g.S.Secrets.drawer c.args.objects.secrets) (g.S.Secrets.drawer c.begin.new.secrets) c.in-Ok.login token c.in-Ok.ensures.begins;
-      told = c.announce-told.result;
-      tells = c.announce-told.ensures.tells;
-      goes = inr (c.if-told-ne0.false, c.serve_rows.ensures.opens inlet);
-    })
+    inr (goes_on _ _ _ _ _ (g.K.Keeper.keeping c.begin.new.keeper) (g.S.Secrets.drawer c.begin.new.secrets) (g.O.Sink.outlet c.announce-told.new.out) c.in-Ok.login c.announce-told.result c.in-Ok.ensures.begins c.announce-told.ensures.tells (inr (c.if-told-ne0.false, c.serve_rows.ensures.opens inlet)))
