@@ -1,0 +1,4 @@
+pub mod Narrowed
+pub mod Indexed
+pub mod Removed
+pub mod Marking

@@ -1,0 +1,4 @@
+pub mod Clues
+pub mod Index
+pub mod Narrow
+pub mod Marks

@@ -1,0 +1,55 @@
+ghost use Rattle.std.specs.Prelude.{◌≡◌, fold};
+ghost use Rattle.row_index.specs.Clues.{mixed, text_clue, number_clue};
+
+// The prime of the hash of Fowler, Noll and Vo for 64 bits.
+const SPREAD: u64 = 1_099_511_628_211;
+
+// A clue with one number more in it.
+fn mixed(clue: u64, number: u64) -> u64
+    ensures { result ≡ mixed clue number }
+{
+    clue.wrapping_mul(SPREAD).wrapping_add(number)
+}
+
+/// The clue of a text. Equal texts have equal clues, and seldom have others the same.
+pub fn text_clue(text: &[u8]) -> u64
+    ensures { result ≡ text_clue text.now }
+{
+    text.iter()
+        .fold(0, |clue, byte| mixed(clue, u64::from(*byte)))
+}
+
+/// The clue of two numbers, for a kind of keys. Equal ones have equal clues, and seldom have others the same.
+pub fn number_clue(kind: u64, first: u64, second: u64) -> u64
+    ensures { result ≡ number_clue kind first second }
+{
+    mixed(mixed(kind, first), second)
+}
+
+/// The clues of a row: one for each of its keys.
+#[derive(Clone, Copy, Debug, PartialEq, Eq)]
+pub struct Clues {
+    pub first: Option<u64>,
+    pub second: Option<u64>,
+    pub third: Option<u64>,
+}
+
+/// A row that is found by its keys, and counted by its mark.
+pub trait Keyed {
+    ghost use Rattle.std.specs.Prelude.{◌≡◌, ℕ, Option};
+    ghost use Rattle.row_index.specs.declared.clues.Clues.{Clues};
+
+    // Its clues. Equal rows have equal ones.
+    ghost clues_of: { Self → Clues };
+
+    // Its mark, if it has one.
+    ghost mark_of: { Self → Option ℕ };
+
+    /// The clues of its keys.
+    fn clues(&self) -> Clues
+        ensures { result ≡ clues_of self.now };
+
+    /// Its mark, if it has one.
+    fn mark(&self) -> Option<u64>
+        ensures { result ≡ mark_of self.now };
+}
