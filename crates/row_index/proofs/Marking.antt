@@ -1,10 +1,10 @@
 -- The places of marks, as rows are covered, added and changed.
-use Rattle.std.proofs.Common.{◌≡◌, ◌<◌, ◌≤◌, ◌+◌, ◌-◌, ◌++◌, ℕ, zero, suc, Bool, true, false, nat_eq, not, List, [], ◌∷◌, Option, Some, None, inl, inr, is_some, length, append-nil, if◌then◌else◌, slice_get, slice_set, drop, count_by, refl, sym, ap, ◌∙◌, subst, arith}
+use Rattle.std.proofs.Common.{◌≡◌, ◌<◌, ◌≤◌, ◌+◌, ◌++◌, ℕ, zero, suc, Bool, true, false, nat_eq, not, List, [], ◌∷◌, Option, Some, None, inl, inr, is_some, length, append-nil, if◌then◌else◌, slice_get, slice_set, drop, count_by, refl, sym, ap, ◌∙◌, subst, arith}
 use Rattle.std.proofs.lemmas.Bool.{eqb-true, eq-eqb, cases_lt}
 use Rattle.std.proofs.lemmas.List.Sums.{sum_by-append}
 use Rattle.std.specs.List.{filter}
 use Rattle.row_index.specs.declared.marks.Marks.{Marks}
-use Rattle.row_index.specs.Marks.{places_at, KeepsMarks, NotesPlace, NotesMark, ForgetsPlace, has_mark, cons_if, add_if, marked, counted, AreMarksOf, NoneHasMark, IsFirstMarked}
+use Rattle.row_index.specs.Marks.{places_at, NotesPlace, NotesMark, ForgetsPlace, has_mark, cons_if, add_if, marked, counted, AreMarksOf, NoneHasMark, IsFirstMarked}
 
 cons_append : (b : Bool) (n : ℕ) (xs ys : List ℕ) → cons_if b n (xs ++ ys) ≡ cons_if b n xs ++ ys
 cons_append true n xs ys = refl
@@ -69,9 +69,6 @@ module _ {X : Type 0} (mark_of : X → Option ℕ) where
       places = λ m. with_place mark m is notes (nat_eq mark m) refl;
       count = count ∙ ap (λ n. n + 1) are.count ∙ (let e = more (Some mark) is in omega (arith, e));
     }
-
-  pub kept_by : (rows : List X) (k : ℕ) (before after : Marks) → AreMarksOf mark_of rows k before → KeepsMarks before after → AreMarksOf mark_of rows k after
-  kept_by rows k before after are keeps = record { places = λ m. keeps.places m ∙ are.places m; count = keeps.count ∙ are.count }
 
   marked_stays : (m n k : ℕ) (rows others : List X) → k ≤ length rows → marked mark_of m n k (rows ++ others) ≡ marked mark_of m n k rows
   marked_stays m n zero rows others within = refl

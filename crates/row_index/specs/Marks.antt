@@ -1,5 +1,5 @@
 -- The places of rows by a mark that they have.
-use Rattle.std.specs.Prelude.{◌≡◌, ◌<◌, ◌+◌, ◌-◌, length, slice_get, ◌++◌, ◌==◌, ℕ, zero, suc, nat_eq, is_some, true, List, [], ◌∷◌, Option, Some, None, if◌then◌else◌, not, Bool, false}
+use Rattle.std.specs.Prelude.{◌≡◌, ◌<◌, ◌+◌, ◌-◌, length, slice_get, ◌++◌, ℕ, zero, suc, nat_eq, is_some, true, List, [], ◌∷◌, Option, Some, None, not, Bool, false}
 use Rattle.std.specs.Global.{Vec}
 use Rattle.std.specs.List.{filter}
 use Rattle.std.specs.HashMap.{get}

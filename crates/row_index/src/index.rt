@@ -120,6 +120,7 @@ impl Index {
     pub fn cover<T: Keyed>(&mut self, rows: &[T]) -> Result<(), AllocError>
         requires { IsIndexOf T.clues_of rows.now T.mark_of self.old }
         ensures index { IsIndexOf T.clues_of rows.now T.mark_of self.new }
+        ensures grows { self.old.covered ≤ self.new.covered }
         ensures all { OnOk result (self.new.covered ≡ length rows.now) }
     {
         while self.covered < rows.len() {

@@ -1,6 +1,5 @@
-use Rattle.std.proofs.Common.{◌≡◌, ◌<◌, Some, false, true, length, slice_get, refl, sym, ap, ◌∙◌}
+use Rattle.std.proofs.Common.{length, refl, sym, ◌∙◌}
 use Rattle.std.proofs.lemmas.Option.{slice_get_read}
-use Rattle.row_index.specs.Marks.{IsFirstMarked}
 use Rattle.row_index.proofs.Marking.{found_first, found_none, none_next}
 use Rattle.row_index.proofs.index.Index.first_of.Goals as goal
 
