@@ -3,12 +3,12 @@ use Rattle.std.proofs.Common.{◌≡◌, ◌∙◌, ℕ, List, Some, slice_get, 
 use Rattle.share_graph.specs.declared.rows.Account.{Account}
 use Rattle.share_graph.specs.declared.state.State.{State}
 use Rattle.share_graph.specs.Forms.{IsOne}
-use Rattle.share_graph.specs.Keys.{IsOneOf}
+use Rattle.share_graph.specs.Keys.{HasHandle, IsOneOf}
 use Rattle.share_graph.specs.WellFormed.{IsWellFormed}
 use Rattle.share_graph.proofs.Contained.{place_of}
 use Rattle.state_step.proofs.Sound.{sound_of}
 use Rattle.desk_base.specs.Steps.{Refuses, refusing}
-use Rattle.account_desk.specs.Rows.{HasHandle, IsTaken}
+use Rattle.account_desk.specs.Rows.{IsTaken}
 
 same_account : (s : State) → IsWellFormed s → (handle : List ℕ) (x y : Account) → IsOneOf s.tables.accounts (HasHandle handle) x → IsOneOf s.tables.accounts (HasHandle handle) y → x ≡ y
 same_account s formed handle x y one other =

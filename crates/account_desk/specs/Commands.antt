@@ -10,12 +10,12 @@ use Rattle.share_graph.specs.declared.refusal.Refusal.TheVariants.{LastAdmin, No
 use Rattle.share_graph.specs.declared.state.State.{State}
 use Rattle.share_graph.specs.declared.state.Tables.{Tables}
 use Rattle.share_graph.specs.Forms.{when◌then◌else◌, unless◌then◌else◌, must◌or◌then◌}
-use Rattle.share_graph.specs.Keys.{IsNoneOf}
+use Rattle.share_graph.specs.Keys.{HasHandle, IsNoneOf}
 use Rattle.desk_base.specs.Limits.{adds}
 use Rattle.desk_base.specs.Made.{nothing_made, made_account, made_app, made_grain}
 use Rattle.desk_base.specs.Steps.{Step, Refuses, Keeps, Makes, Plain, Drawn, refusing}
 use Rattle.desk_base.specs.Wording.{by_account, by_admin, known_account, known_app, known_grain}
-use Rattle.account_desk.specs.Rows.{new_account, new_app, new_grain, HasHandle, IsTaken, LeavesNoAdmin}
+use Rattle.account_desk.specs.Rows.{new_account, new_app, new_grain, IsTaken, LeavesNoAdmin}
 
 -- what is added, and what the reply shows
 abbrev pub account_step : Tables → List ℕ → List ℕ → Step

@@ -12,7 +12,7 @@ use Rattle.share_graph.specs.declared.rows.App.{App}
 use Rattle.share_graph.specs.declared.rows.Grain.{Grain}
 use Rattle.share_graph.specs.declared.state.Tables.{Tables}
 use Rattle.share_graph.specs.History.{tables_after}
-use Rattle.share_graph.specs.Keys.{IsOneOf, IsNoneOf}
+use Rattle.share_graph.specs.Keys.{HasHandle, IsOneOf, IsNoneOf}
 use Rattle.desk_base.specs.Made.{next}
 
 -- a new account is enabled, and no admin
@@ -24,10 +24,6 @@ new_app t manifest = record { num = record { 0 = next t.apps }; manifest = manif
 
 abbrev pub new_grain : Tables → AppId → AccountId → List ℕ → Grain
 new_grain t app owner title = record { num = record { 0 = next t.grains }; app = app; owner = owner; title = title; trashed = false }
-
--- the account has the handle
-abbrev pub HasHandle : List ℕ → Account → Type 0
-HasHandle handle account = account.handle ≡ handle
 
 -- the refusal that names the account which has the handle
 abbrev pub IsTaken : Tables → List ℕ → Refusal → Type 0

@@ -1,37 +1,21 @@
 ghost use Rattle.std.specs.Prelude.{◌≡◌, ◌↔◌, IsTrue, MatchOption, MatchResult, IfOk, true};
 ghost use Rattle.share_graph.specs.Forms.{IsOne};
 ghost use Rattle.share_graph.specs.Fresh.{is_handle};
-ghost use Rattle.share_graph.specs.Keys.{IsOneOf, IsNoneOf};
+ghost use Rattle.share_graph.specs.Keys.{HasHandle, IsNoneOf};
 ghost use Rattle.share_graph.specs.WellFormed.{IsWellFormed};
 ghost use Rattle.desk_base.specs.Fitting.{RowFits};
 ghost use Rattle.desk_base.specs.Outcomes.{Checks, IsReady, IsCarriedAt};
 ghost use Rattle.account_desk.specs.Commands.{AddAccount, account_step};
-ghost use Rattle.account_desk.specs.Rows.{HasHandle, IsTaken};
+ghost use Rattle.account_desk.specs.Rows.{IsTaken};
 
 use desk_base::{NOTHING, Stop, caller_admin, has_account_room};
 use host_base::{AccountId, Digest, Memory};
 use least_access::Solved;
 use plain_data::Name;
 use share_graph::{
-    Account, Caller, DeskFault, Event, Made, Outcome, Readiness, Refusal, State, Tables, clash,
+    Account, Caller, DeskFault, Event, Made, Outcome, Readiness, Refusal, State, Tables, by_handle,
+    clash,
 };
-
-fn has_handle(account: &Account, handle: &Name) -> bool
-    ensures { IsTrue result ↔ HasHandle handle.now account.now }
-{
-    account.handle.as_str() == handle.as_str()
-}
-
-// The account that has a handle.
-fn by_handle<'a>(tables: &'a Tables, handle: &Name) -> Option<&'a Account>
-    ensures { MatchOption result (IsNoneOf tables.now.accounts (HasHandle handle.now)) (λ account. IsOneOf tables.now.accounts (HasHandle handle.now) account.now) }
-{
-    tables
-        .accounts
-        .as_slice()
-        .iter()
-        .find(|account| has_handle(account, handle))
-}
 
 // Whether no account has the handle.
 fn is_free_handle(tables: &Tables, handle: &Name) -> Result<(), Refusal>

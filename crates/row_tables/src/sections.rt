@@ -8,6 +8,7 @@ use crate::stored::{BadRow, LoadFault};
 use cloud_keeper::Row;
 use row_codec::{Stored, read_body};
 use row_formats::{ReadError, RowFault};
+use row_index::Keyed;
 use share_graph::Rows;
 use std::alloc::Global;
 
@@ -35,7 +36,7 @@ fn row_of<T: Stored + Drop>(
 }
 
 /// Reads the rows of a kind from an index on, and gives the index behind them, too.
-pub(crate) fn section_of<T: Stored + Drop>(
+pub(crate) fn section_of<T: Stored + Keyed + Drop>(
     alloc: Global,
     rows: &[Row],
     from: usize,

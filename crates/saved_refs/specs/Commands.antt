@@ -25,7 +25,7 @@ use Rattle.share_graph.specs.declared.state.Tables.{Tables}
 use Rattle.share_graph.specs.Callers as callers
 use Rattle.share_graph.specs.Fitting.{SetFits}
 use Rattle.share_graph.specs.Forms.{when◌then◌else◌, unless◌then◌else◌, must◌or◌then◌, found◌or◌then◌, none, some◌of◌or◌then◌}
-use Rattle.share_graph.specs.Keys.{HasReference, IsHandleOf}
+use Rattle.share_graph.specs.Keys.{HasReference, IsHandleOf, IsHandleTo}
 use Rattle.share_graph.specs.Rows.{IsGrain}
 use Rattle.desk_base.specs.Limits.{adds}
 use Rattle.desk_base.specs.Made.{nothing_made}
@@ -33,7 +33,7 @@ use Rattle.desk_base.specs.Steps.{Step, Refuses, Keeps, Makes, Plain, Drawn, den
 use Rattle.desk_base.specs.Wording.{secret_of, by_account, known_grain}
 use Rattle.share_desk.specs.Rows.{new_grant, made_grant}
 use Rattle.share_desk.specs.Wording.{access◌of◌then◌, role◌on◌of◌then◌, keeps◌of◌showing◌else◌}
-use Rattle.saved_refs.specs.Rows.{no_role, admin_needs, claimed_grant, claimed_handle, made_claim, new_saved, made_saved, new_handle, shown_handle, IsClaimOf, IsOfAnother, IsClaimed, IsMatching, IsHandleTo, with_maker}
+use Rattle.saved_refs.specs.Rows.{no_role, admin_needs, claimed_grant, claimed_handle, made_claim, new_saved, made_saved, new_handle, shown_handle, IsClaimOf, IsOfAnother, IsClaimed, IsMatching, with_maker}
 
 -- the run that calls: Denied(UnknownKey), Denied(GrainTrashed) of its grain, Denied(GrainStopped) where it is stopped
 abbrev pub by_run : State → Caller → (Run → Step → Type 0) → Step → Type 0

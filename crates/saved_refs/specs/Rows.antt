@@ -27,7 +27,7 @@ use Rattle.share_graph.specs.declared.sessions.Handle.{Handle}
 use Rattle.share_graph.specs.declared.state.State.{State}
 use Rattle.share_graph.specs.declared.state.Tables.{Tables}
 use Rattle.share_graph.specs.Fitting.{ForApp}
-use Rattle.share_graph.specs.Keys.{IsOneOf, HasToken}
+use Rattle.share_graph.specs.Keys.{IsOneOf, IsGivenFrom, HasToken}
 use Rattle.share_graph.specs.Ways.{IsRootMaker}
 use Rattle.desk_base.specs.Made.{next, nothing_made}
 use Rattle.desk_base.specs.Steps.{Step}
@@ -91,15 +91,11 @@ IsOfAnother to n r = (h : GrainId) × (to ≡ target.Claim h) × (h ≡ n → �
 
 -- some grant was given from the grant
 abbrev pub IsClaimed : Tables → GrantId → Type 0
-IsClaimed t g = (grant : Grant) × IsOneOf t.grants (λ (other : Grant). other.giver ≡ giver.Grant g) grant
+IsClaimed t g = (grant : Grant) × IsOneOf t.grants (IsGivenFrom g) grant
 
 -- what the grain's application offers matches the query
 abbrev pub IsMatching : Tables → GrainId → List DescriptorData → Type 0
 IsMatching t n query = ForApp t n (λ app. IsTrue (is_some (match_of query app.manifest.match_requests)))
-
--- the handle is the run's, and to the grant
-abbrev pub IsHandleTo : RunId → GrantId → Handle → Type 0
-IsHandleTo r g handle = (handle.run ≡ r) × (handle.grant ≡ g)
 
 -- the root maker of a grant that is there, which is one account
 abbrev pub with_maker : Tables → GrantId → (AccountId → Step → Type 0) → Step → Type 0

@@ -22,7 +22,7 @@ use session_desk::has_entry;
 use share_desk::has_grant_room;
 use share_graph::{
     Caller, DeskFault, Event, Giver, Grant, Handle, Made, Need, Node, Outcome, Refusal, State,
-    Tables, Target, app_of, by_grant_token, root_maker,
+    Tables, Target, app_of, by_grant_token, given_from, root_maker,
 };
 use std::alloc::Global;
 
@@ -43,21 +43,14 @@ fn own_claim<'a>(state: &'a State, token: &Digest, holder: GrainId) -> Result<&'
     Ok(grant)
 }
 
-fn is_from(grant: &Grant, num: GrantId) -> bool
-    ensures { IsTrue result ↔ (grant.now.giver ≡ Giver.Grant num) }
-{
-    grant.giver == Giver::Grant(num)
-}
-
 // Whether some grant was given from a grant.
 fn is_claimed(tables: &Tables, num: GrantId) -> bool
     ensures { IsTrue result ↔ IsClaimed tables.now num }
 {
-    tables
-        .grants
-        .as_slice()
-        .iter()
-        .any(|grant| is_from(grant, num))
+    match given_from(&tables.grants, num) {
+        None => false,
+        Some(_) => true,
+    }
 }
 
 // Whether a set fits the application of a grain.

@@ -12,7 +12,7 @@ ghost use Rattle.saved_refs.specs.Calling.{IsReferenceOf, IsNoReferenceOf};
 ghost use Rattle.saved_refs.specs.Commands.{Restore, DropSaved, drop_step};
 ghost use Rattle.saved_refs.specs.Rows.{shown_handle};
 
-use crate::handles::{first_handle, next_handle};
+use crate::handles::next_handle;
 use crate::runs::caller_run;
 use desk_base::{NOTHING, Stop};
 use host_base::{Denial, Digest, GrainId, SavedId};
@@ -20,7 +20,7 @@ use least_access::Solved;
 use session_desk::has_entry;
 use share_graph::{
     Caller, DeskFault, Event, Handle, Made, Node, Outcome, Refusal, Saved, State, Tables,
-    by_saved_token,
+    by_saved_token, handle_to,
 };
 
 // The saved reference of a token, which is the grain's own.
@@ -57,7 +57,7 @@ fn check_restore(
         return Err(Stop::Refused(Refusal::Denied(Denial::Dropped(saved.num))));
     }
     has_entry(&state.tables, solved, Node::Grant(saved.grant))?;
-    if let Some(handle) = first_handle(&state.handles, run.num, saved.grant) {
+    if let Some(handle) = handle_to(&state.handles, run.num, saved.grant) {
         return Err(Stop::Same(Made {
             handle: Some(handle.num),
             ..NOTHING

@@ -17,13 +17,13 @@ use Rattle.share_graph.specs.declared.refusal.Refusal.TheVariants.{NotGiver, Bad
 use Rattle.share_graph.specs.declared.state.State.{State}
 use Rattle.share_graph.specs.declared.state.Tables.{Tables}
 use Rattle.share_graph.specs.Forms.{when◌then◌else◌, unless◌then◌else◌, some◌of◌or◌then◌}
-use Rattle.share_graph.specs.Keys.{IsBearerOf}
+use Rattle.share_graph.specs.Keys.{IsBearerOf, IsShareFrom}
 use Rattle.desk_base.specs.Limits.{adds}
 use Rattle.desk_base.specs.Made.{nothing_made}
 use Rattle.desk_base.specs.Steps.{Step, Refuses, Keeps, Makes, Plain, Drawn, denies}
 use Rattle.desk_base.specs.Wording.{by_account, known_account, known_grain}
 use Rattle.session_desk.specs.Calling.{by_bearer}
-use Rattle.share_desk.specs.Rows.{new_grant, made_grant, shown_grant, all_access, IsShareFrom, MayRevoke}
+use Rattle.share_desk.specs.Rows.{new_grant, made_grant, shown_grant, all_access, MayRevoke}
 use Rattle.share_desk.specs.Wording.{known_grant, access◌of◌then◌, role◌on◌of◌then◌, needs◌of◌then◌, keeps◌of◌showing◌else◌}
 
 -- what is added, and what the reply shows

@@ -36,12 +36,6 @@ made_grant t = shown_grant (next t.grants)
 abbrev pub all_access : Assignment
 all_access = record { base = base.AllAccess; add = no_permissions; remove = no_permissions }
 
--- the grant was given from grant g to the account, and isn't revoked
-pub record IsShareFrom (g : GrantId) (a : AccountId) (grant : Grant) : Type 0 where
-  pub from : grant.giver ≡ giver.Grant g
-  pub to : grant.target ≡ target.User a
-  pub live : grant.revoked ≡ false
-
 -- the account owns the grain
 abbrev pub IsOwnerOf : Tables → GrainId → AccountId → Type 0
 IsOwnerOf t n a = (grain : Grain) × IsGrain t n grain × (grain.owner ≡ a)

@@ -8,7 +8,7 @@ ghost use Rattle.least_access.specs.Solved.{IsSolutionOf};
 ghost use Rattle.desk_base.specs.Fitting.{RowFits};
 ghost use Rattle.desk_base.specs.Outcomes.{Checks, IsCarried};
 ghost use Rattle.share_desk.specs.Commands.{Redeem, redeem_step};
-ghost use Rattle.share_desk.specs.Rows.{IsShareFrom, all_access as the_all_access};
+ghost use Rattle.share_desk.specs.Rows.{all_access as the_all_access};
 
 use crate::room::has_grant_room;
 use desk_base::{NOTHING, Stop, caller_account};
@@ -18,26 +18,9 @@ use perm_roles::{Assignment, Base, PermSet};
 use session_desk::has_entry;
 use share_graph::{
     Caller, DeskFault, Event, Giver, Grant, Made, Needs, Node, Outcome, Refusal, Rows, State,
-    Target, by_bearer_token,
+    Target, by_bearer_token, share_from,
 };
 use std::alloc::Global;
-
-// Whether a grant was given from that grant to the account, and isn't revoked.
-fn is_share_from(grant: &Grant, from: GrantId, to: AccountId) -> bool
-    ensures { IsTrue result ↔ IsShareFrom from to grant.now }
-{
-    grant.giver == Giver::Grant(from) && grant.target == Target::User(to) && !grant.revoked
-}
-
-// The first unrevoked share from a grant to an account.
-fn first_share(grants: &Rows<Grant>, from: GrantId, to: AccountId) -> Option<&Grant>
-    ensures { MatchOption result (IsNoneOf grants.now (IsShareFrom from to)) (λ share. IsFirstOf grants.now (IsShareFrom from to) share.now) }
-{
-    grants
-        .as_slice()
-        .iter()
-        .find(|grant| is_share_from(grant, from, to))
-}
 
 fn all_access() -> Assignment
     ensures { result ≡ the_all_access }
@@ -76,7 +59,7 @@ fn check_redeem(
         return Err(Stop::Refused(Refusal::BadParent(link.num)));
     }
     has_entry(&state.tables, solved, Node::Grant(link.num))?;
-    if let Some(share) = first_share(&state.tables.grants, link.num, account.num) {
+    if let Some(share) = share_from(&state.tables.grants, link.num, account.num) {
         return Err(Stop::Same(Made {
             grant: Some(share.num.0),
             ..NOTHING

@@ -14,7 +14,7 @@ one_of rows P x first = record {
   is = first.is;
 }
 
-one_more : {X : Type 0} (P : X → Type 0) (z : X) (rows : List X) (x : X) → (P z → ⊥) → IsFirstOf rows P x → IsFirstOf (z ∷ rows) P x
+pub one_more : {X : Type 0} (P : X → Type 0) (z : X) (rows : List X) (x : X) → (P z → ⊥) → IsFirstOf rows P x → IsFirstOf (z ∷ rows) P x
 one_more P z rows x unlike first = record {
   before = z ∷ first.before;
   after = first.after;

@@ -19,3 +19,7 @@ pub mod Outside
 pub mod Roomy
 pub mod ChangedRow
 pub mod ClosedFirst
+pub mod Keeping
+pub mod AllSame
+pub mod Narrowing
+pub mod OpenMarks

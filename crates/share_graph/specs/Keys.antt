@@ -1,7 +1,10 @@
 use Rattle.std.specs.Prelude.{◌≡◌, ◌++◌, ◌∷◌, ℕ, Contains, List, Some, false}
 use Rattle.host_base.specs.declared.digest.Digest.{Digest}
+use Rattle.host_base.specs.declared.ids.AccountId.{AccountId}
 use Rattle.host_base.specs.declared.ids.GrainId.{GrainId}
+use Rattle.host_base.specs.declared.ids.GrantId.{GrantId}
 use Rattle.host_base.specs.declared.ids.RunId.{RunId}
+use Rattle.share_graph.specs.declared.grants.Giver.TheVariants as giver
 use Rattle.share_graph.specs.declared.grants.Grant.{Grant}
 use Rattle.share_graph.specs.declared.grants.Target.{Target}
 use Rattle.share_graph.specs.declared.grants.Target.TheVariants as target
@@ -38,6 +41,10 @@ HasToken d grant = grant.digest ≡ Some d
 abbrev pub HasReference : Digest → Saved → Type 0
 HasReference d saved = saved.digest ≡ d
 
+-- the account has the handle
+abbrev pub HasHandle : List ℕ → Account → Type 0
+HasHandle handle account = account.handle ≡ handle
+
 -- the digest is that of the session's key, of the run's token
 abbrev pub HasKey : Digest → Session → Type 0
 HasKey d session = session.digest ≡ d
@@ -52,6 +59,20 @@ IsLiveRun n run = (run.grain ≡ n) × (run.stopped ≡ false)
 -- the handle is the run's, of that number
 abbrev pub IsHandleOf : RunId → ℕ → Handle → Type 0
 IsHandleOf r num handle = (handle.run ≡ r) × (handle.num ≡ num)
+
+-- the handle is the run's, and to the grant
+abbrev pub IsHandleTo : RunId → GrantId → Handle → Type 0
+IsHandleTo r g handle = (handle.run ≡ r) × (handle.grant ≡ g)
+
+-- the grant was given from grant g
+abbrev pub IsGivenFrom : GrantId → Grant → Type 0
+IsGivenFrom g grant = grant.giver ≡ giver.Grant g
+
+-- the grant was given from grant g to the account, and isn't revoked
+pub record IsShareFrom (g : GrantId) (a : AccountId) (grant : Grant) : Type 0 where
+  pub from : grant.giver ≡ giver.Grant g
+  pub to : grant.target ≡ target.User a
+  pub live : grant.revoked ≡ false
 
 -- the target is whoever bears the grant's token
 abbrev pub IsBearer : Target → Type 0

@@ -23,3 +23,4 @@ pub mod Region
 pub mod Rooms
 pub mod Setting
 pub mod Opening
+pub mod Clues

@@ -1,6 +1,9 @@
--- Room in a list that grows to twice its length where that is a power of two.
-use Rattle.std.specs.Prelude.{◌≡◌, ◌<◌, ◌≤◌, ◌+◌, ◌*◌, ◌^◌, ℕ, Option, Some, None, [], vec_capacity}
+-- Rows with an index, and room in a list that grows to twice its length where that is a power of two.
+use Rattle.std.specs.Prelude.{◌≡◌, ◌<◌, ◌≤◌, ◌+◌, ◌*◌, ◌^◌, ℕ, Option, Some, None, [], vec_len, vec_capacity}
 use Rattle.std.specs.Global.{Vec}
+use Rattle.row_index.specs.declared.clues.Clues.{Clues}
+use Rattle.row_index.specs.declared.index.Index.{Index}
+use Rattle.row_index.specs.Index.{IsIndexOf}
 
 -- the number lies between two neighbouring powers of two
 abbrev pub IsBetweenPowers : ℕ → Type 0
@@ -14,3 +17,8 @@ HasRoom n capacity = (n ≤ capacity) × ((k : ℕ) → 2 ^ k < n → 2 * 2 ^ k 
 abbrev pub IsRoomBeside : {T : Type 0} → ℕ → Option (Vec T) → Type 0
 IsRoomBeside n None = IsBetweenPowers n
 IsRoomBeside n (Some vec) = (vec.items ≡ []) × HasRoom (n + 1) (vec_capacity vec)
+
+-- a list that has room, and the index of its rows
+pub record IsRowsOf {T : Type 0} (clues_of : T → Clues) (mark_of : T → Option ℕ) (items : Vec T) (index : Index) : Type 0 where
+  pub room : HasRoom (vec_len items) (vec_capacity items)
+  pub index_of : IsIndexOf clues_of items.items mark_of index

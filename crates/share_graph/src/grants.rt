@@ -2,6 +2,7 @@ use crate::facts::Node;
 use host_base::{AccountId, Digest, GrainId, GrantId};
 use perm_roles::{Assignment, PermSet};
 use plain_data::List;
+use std::alloc::AllocError;
 
 /// What a grant was given from: an account, another grant, or the site itself.
 #[derive(Clone, Copy, Debug, PartialEq, Eq)]
@@ -35,7 +36,7 @@ pub enum Need {
 pub type Needs = List<Need>;
 
 /// A grant on a grain: what its giver passes on, to whom, and under which needs. A token is known by its digest.
-#[derive(Clone, Drop)]
+#[derive(Drop)]
 pub struct Grant {
     pub num: GrantId,
     pub grain: GrainId,
@@ -45,4 +46,23 @@ pub struct Grant {
     pub needs: Needs,
     pub digest: Option<Digest>,
     pub revoked: bool,
+}
+
+impl Clone for Grant {
+    ghost use Rattle.std.specs.Prelude.{◌≡◌};
+
+    ghost is_clone = { λ grant copy. copy ≡ grant };
+
+    fn clone(&self) -> Result<Grant, AllocError> {
+        Ok(Grant {
+            num: self.num,
+            grain: self.grain,
+            giver: self.giver,
+            target: self.target,
+            assignment: self.assignment,
+            needs: self.needs.clone()?,
+            digest: self.digest,
+            revoked: self.revoked,
+        })
+    }
 }

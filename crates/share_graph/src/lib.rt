@@ -8,7 +8,9 @@ mod event;
 mod facts;
 mod fault;
 mod finders;
+mod given;
 mod grants;
+mod keyed;
 mod keys;
 mod known;
 mod nodes;
@@ -27,10 +29,12 @@ pub use event::Event;
 pub use facts::{Fact, Node};
 pub use fault::{GraphFault, Kind};
 pub use finders::{account, app, grain, grant, run, saved, session};
+pub use given::{given_from, share_from};
 pub use grants::{Giver, Grant, Need, Needs, Target};
 pub use keys::{
-    by_bearer_token, by_grant_token, by_login, by_run_token, by_saved_token, by_session_key,
-    handle, live_run,
+    by_bearer_token, by_grant_token, by_handle, by_login, by_run_token, by_saved_token,
+    by_session_key, handle, handle_before, handle_to, live_run, login_before, reference_before,
+    token_before,
 };
 pub use known::{has_account, has_grain, has_grant, is_own_node};
 pub use nodes::{node_of, source_of};
@@ -38,6 +42,5 @@ pub use refusal::Refusal;
 pub use row_list::{Room, Rows};
 pub use rows::{Account, App, Grain, Saved};
 pub use sessions::{Handle, Root, Run, Session};
-pub use setters::is_open_of;
 pub use state::{State, Tables, copy_of};
 pub use ways::{Origin, origin_of, root_maker, shown_as};

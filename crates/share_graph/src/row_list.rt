@@ -1,27 +1,30 @@
-ghost use Rattle.std.specs.Prelude.{◌≡◌, ◌∷◌, ◌++◌, [], ◌≤◌, ◌+◌, length, IsTrue, IfOk, OnOk, OnErr, vec_len, vec_capacity};
+ghost use Rattle.std.specs.Prelude.{◌≡◌, ◌∷◌, ◌++◌, [], ◌≤◌, ◌+◌, length, take, count_by, is_some, IsTrue, MatchOption, IfOk, OnOk, OnErr, vec_len, vec_capacity};
+ghost use Rattle.row_index.specs.Marks.{has_mark, NoneHasMark, IsFirstMarked};
+ghost use Rattle.row_index.specs.Narrow.{Narrows, seen};
 ghost use Rattle.share_graph.specs.Rooms.{IsBetweenPowers, HasRoom};
 
+use row_index::{Candidates, Index, Keyed};
 use std::alloc::{AllocError, Global};
 use std::marker::Model;
 
 /// The rows of one kind, in the order in which they were added, which contracts see as a list. Room for one more is taken
-/// beforehand, by `room`, so that adding it takes no memory.
-#[derive(Debug, Drop)]
-pub struct Rows<T> {
+/// beforehand, by `room`, so that adding it needs no memory. They are found by their keys through an index.
+#[derive(Drop)]
+pub struct Rows<T: Keyed> {
     // Its capacity is at least twice each power of two below its length.
     pub(crate) items: Vec<T>,
+    pub(crate) index: Index,
 }
 
-impl<T> Model for Rows<T> {
+impl<T: Keyed> Model for Rows<T> {
     ghost use Rattle.std.specs.Prelude as prelude;
-    ghost use Rattle.std.specs.Prelude.{vec_len, vec_capacity};
-    ghost use Rattle.share_graph.specs.Rooms.{HasRoom};
+    ghost use Rattle.share_graph.specs.Rooms.{IsRowsOf};
 
     ghost Value = { prelude.List T };
 
     ghost view = { λ rows. rows.items.items };
 
-    ghost invariant = { λ rows. HasRoom (vec_len rows.items) (vec_capacity rows.items) };
+    ghost invariant = { λ rows. IsRowsOf T.clues_of T.mark_of rows.items rows.index };
 }
 
 /// Room for one row more beside so many rows, which is the number that contracts see.
@@ -67,13 +70,14 @@ fn grown<T>(alloc: Global, length: usize) -> Result<Vec<T>, AllocError>
     Vec::with_capacity(alloc, room)
 }
 
-impl<T> Rows<T> {
+impl<T: Keyed> Rows<T> {
     /// No rows.
     pub fn empty(alloc: Global) -> Self
         ensures { result ≡ [] }
     {
         Rows {
             items: Vec::new(alloc),
+            index: Index::empty(alloc),
         }
     }
 
@@ -82,6 +86,49 @@ impl<T> Rows<T> {
         ensures { result.now ≡ self.now }
     {
         self.items.as_slice()
+    }
+
+    /// The rows that may have a clue, in their order.
+    pub fn candidates(&self, clue: u64) -> Candidates<'_, T>
+        ensures { Narrows T.clues_of clue self.now (seen result) }
+    {
+        self.candidates_before(self.items.len(), clue)
+    }
+
+    /// The rows before a place that may have a clue, in their order.
+    pub fn candidates_before(&self, place: usize, clue: u64) -> Candidates<'_, T>
+        ensures { Narrows T.clues_of clue (take place self.now) (seen result) }
+    {
+        let place = place.min(self.items.len());
+        self.index.candidates(self.items.as_slice(), place, clue)
+    }
+
+    // How many rows have a mark.
+    pub(crate) fn marked(&self) -> usize
+        ensures { result ≡ count_by (λ row. is_some (T.mark_of row)) self.now }
+    {
+        self.index.count(self.items.as_slice())
+    }
+
+    // How many rows have this mark.
+    pub(crate) fn marked_as(&self, mark: u64) -> usize
+        ensures { result ≡ count_by (λ row. has_mark mark (T.mark_of row)) self.now }
+    {
+        self.index.count_of(self.items.as_slice(), mark)
+    }
+
+    // The place of the first row that has this mark.
+    pub(crate) fn first_marked(&self, mark: u64) -> Option<usize>
+        ensures { MatchOption result (NoneHasMark T.mark_of mark self.now (length self.now)) (IsFirstMarked T.mark_of mark self.now) }
+    {
+        self.index.first_of(self.items.as_slice(), mark)
+    }
+
+    // Has the index cover all rows, or as many as there is memory for: what it doesn't cover is looked through.
+    fn cover(&mut self)
+        ensures { self.new ≡ self.old }
+    {
+        self.index.cover(self.items.as_slice()).ok();
     }
 
     /// Room for one row more.
@@ -117,16 +164,27 @@ fn grow<T: Drop>(items: &mut Vec<T>, mut grown: Vec<T>)
     *items = grown;
 }
 
-impl<T: Drop> Rows<T> {
+// Adds an item to a list where there is room for it.
+fn add<T: Drop>(items: &mut Vec<T>, item: T, room: Room<T>)
+    requires room { room ≡ vec_len items.old }
+    requires has_room { HasRoom (vec_len items.old) (vec_capacity items.old) }
+    ensures items { items.new.items ≡ items.old.items ++ item ∷ [] }
+    ensures has_room { HasRoom (vec_len items.new) (vec_capacity items.new) }
+{
+    if let Some(grown) = room.grown {
+        grow(items, grown);
+    }
+    items.push_reserved(item);
+}
+
+impl<T: Keyed + Drop> Rows<T> {
     /// Adds a row at the end, where there is room for it.
     pub fn put(&mut self, row: T, room: Room<T>)
         requires { room ≡ length self.old }
         ensures { self.new ≡ self.old ++ row ∷ [] }
     {
-        if let Some(grown) = room.grown {
-            grow(&mut self.items, grown);
-        }
-        self.items.push_reserved(row);
+        add(&mut self.items, row, room);
+        self.cover();
     }
 
     /// Adds a row at the end. Want of memory leaves the rows as they were.
@@ -140,7 +198,7 @@ impl<T: Drop> Rows<T> {
     }
 }
 
-impl<T: Clone + Drop> Clone for Rows<T> {
+impl<T: Keyed + Clone + Drop> Clone for Rows<T> {
     ghost use Rattle.std.specs.List.{AllZip};
 
     ghost is_clone = { λ rows copy. AllZip T.is_clone rows copy };
@@ -151,6 +209,9 @@ impl<T: Clone + Drop> Clone for Rows<T> {
         if items.append(&mut copies).is_err() {
             unreachable!();
         }
-        Ok(Rows { items })
+        let index = Index::empty(*items.allocator());
+        let mut copy = Rows { items, index };
+        copy.cover();
+        Ok(copy)
     }
 }

@@ -1,35 +1,15 @@
-ghost use Rattle.std.specs.Prelude.{◌≡◌, ◌<◌, ◌+◌, ◌⊎◌, length, MatchOption};
-ghost use Rattle.share_graph.specs.Changing.{change_row};
+ghost use Rattle.std.specs.Prelude.{◌≡◌, ◌<◌, ◌+◌, ◌==◌, ◌⊎◌, length, count_by, not, MatchOption};
+ghost use Rattle.share_graph.specs.Changing.{change, change_row};
 ghost use Rattle.share_graph.specs.History.{is_open_of, close_first};
-ghost use Rattle.share_graph.specs.Opening.{NoneIsOpen, IsFirstOpen};
 ghost use Rattle.share_graph.specs.Setting.{with_admin, with_enabled, with_trashed, revoked, dropped, stopped, closed};
 
 use crate::grants::Grant;
+use crate::keyed::root_mark;
 use crate::row_list::Rows;
 use crate::rows::{Account, Grain, Saved};
-use crate::sessions::{Root, Run, Session};
+use crate::sessions::{Handle, Root, Run, Session};
 use host_base::{AccountId, GrainId, GrantId, RunId, SavedId, SessionId};
-
-/// Whether a session is open, and has this root.
-pub fn is_open_of(root: Root, session: &Session) -> bool
-    ensures { result ≡ is_open_of root session.now }
-{
-    !session.closed && root == session.root
-}
-
-// The place, from 0, of the first open session of a root.
-fn first_open(root: Root, sessions: &[Session]) -> Option<usize>
-    ensures { MatchOption result (NoneIsOpen root sessions.now) (IsFirstOpen root sessions.now) }
-{
-    let mut place = 0;
-    while place < sessions.len() {
-        if is_open_of(root, &sessions[place]) {
-            return Some(place);
-        }
-        place += 1;
-    }
-    None
-}
+use row_index::Keyed;
 
 // The place, from 0, of the row of a number, from 1.
 fn place_of(num: u64, length: usize) -> Option<usize>
@@ -112,13 +92,42 @@ impl Rows<Run> {
 }
 
 impl Rows<Session> {
+    /// How many sessions are open.
+    pub fn open_count(&self) -> usize
+        ensures { result ≡ count_by (λ session. not session.closed) self.now }
+    {
+        self.marked()
+    }
+
+    /// How many sessions of a root are open.
+    pub fn open_of(&self, root: Root) -> usize
+        ensures { result ≡ count_by (is_open_of root) self.now }
+    {
+        self.marked_as(root_mark(root))
+    }
+
+    // Closes the session of a place.
+    fn close_at(&mut self, place: usize)
+        requires { place < length self.old }
+        ensures { self.new ≡ change closed self.old place }
+    {
+        let session = self.items[place];
+        self.items[place] = Session {
+            closed: true,
+            ..session
+        };
+        if let Some(mark) = session.mark() {
+            self.index.lose(mark, place);
+        }
+    }
+
     /// Closes the session of a number. Where it isn't there nothing changes.
     #[tactic(auto, using(crate::proofs::ChangedRow::sets_nothing))]
     pub fn close(&mut self, num: SessionId)
         ensures { self.new ≡ change_row closed self.old num.0 }
     {
         if let Some(place) = place_of(u64::from(num.0), self.items.len()) {
-            self.items[place].closed = true;
+            self.close_at(place);
         }
     }
 
@@ -126,8 +135,17 @@ impl Rows<Session> {
     pub fn close_first(&mut self, root: Root)
         ensures { self.new ≡ close_first root self.old }
     {
-        if let Some(place) = first_open(root, self.items.as_slice()) {
-            self.items[place].closed = true;
+        if let Some(place) = self.first_marked(root_mark(root)) {
+            self.close_at(place);
         }
+    }
+}
+
+impl Rows<Handle> {
+    /// How many handles a run has.
+    pub fn count_of(&self, run: RunId) -> usize
+        ensures { result ≡ count_by (λ handle. handle.run.0 == run.0) self.now }
+    {
+        self.marked_as(run.0)
     }
 }

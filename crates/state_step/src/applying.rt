@@ -1,4 +1,4 @@
-ghost use Rattle.std.specs.Prelude.{◌≡◌, ◌∷◌, ◌++◌, [], length, List, count_by, IfOk, OnErr};
+ghost use Rattle.std.specs.Prelude.{◌≡◌, ◌∷◌, ◌++◌, [], length, List, IfOk, OnErr};
 ghost use Rattle.share_graph.specs.declared.event.Event.{Event};
 ghost use Rattle.share_graph.specs.declared.state.State.{State};
 ghost use Rattle.share_graph.specs.History as history;
@@ -10,20 +10,10 @@ ghost use Rattle.state_step.specs.Losing.{RevokesExactly, ShutsOut, LeavesTheRes
 use crate::preparing::prepare;
 use crate::staged::Staged;
 use host_base::Memory;
-use share_graph::{Event, Room, Root, Rows, Session, State, is_open_of};
+use share_graph::{Event, Room, Rows, Session, State};
 
 /// How many open sessions a root may have.
 pub const ROOT_SESSIONS: usize = 32;
-
-// How many sessions of a root are open.
-fn open_of(root: Root, sessions: &[Session]) -> usize
-    ensures { result ≡ count_by (history.is_open_of root) sessions.now }
-{
-    sessions
-        .iter()
-        .filter(|session| is_open_of(root, session))
-        .count()
-}
 
 // Opens a session. Where its root then has more than 32 open ones, the first of them is closed.
 fn open(sessions: &mut Rows<Session>, session: Session, room: Room<Session>)
@@ -32,12 +22,12 @@ fn open(sessions: &mut Rows<Session>, session: Session, room: Room<Session>)
 {
     let root = session.root;
     sessions.put(session, room);
-    if open_of(root, sessions.as_slice()) > ROOT_SESSIONS {
+    if sessions.open_of(root) > ROOT_SESSIONS {
         sessions.close_first(root);
     }
 }
 
-/// Performs an event for which all room was taken in the state as it is. It takes no memory.
+/// Performs an event for which all room was taken in the state as it is. It cannot fail: where an index wants memory, it covers fewer rows.
 pub fn apply(state: &mut State, staged: Staged)
     requires { HasRoomFor state.old staged }
     ensures { state.new ≡ history.after state.old (event_of staged) }

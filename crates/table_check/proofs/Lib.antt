@@ -4,3 +4,4 @@ pub mod FirstFaults
 pub mod LiveRuns
 pub mod Digests
 pub mod Tells
+pub mod Absent

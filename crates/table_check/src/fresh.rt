@@ -2,64 +2,69 @@ ghost use Rattle.std.specs.Prelude.{◌≡◌, ◌≢◌, ◌↔◌, IsTrue, All
 ghost use Rattle.std.specs.List.{list_all};
 ghost use Rattle.share_graph.specs.Fresh.{NoLogin, NoToken, NoReference, IsFreshLogin, IsNewToken, IsFreshToken, IsFreshReference, IsFreshHandle, is_small_letter, is_handle_byte, is_handle};
 
-use crate::places::rows_before;
 use host_base::Digest;
 use plain_data::Name;
-use share_graph::{Account, Grant, Saved, Tables};
+use share_graph::{
+    Account, Grant, Rows, Saved, Tables, by_grant_token, by_login, handle_before, login_before,
+    reference_before, token_before,
+};
 
-fn is_other_login(account: &Account, digest: &Digest) -> bool
-    ensures { IsTrue result ↔ (account.now.login ≢ digest.now) }
+fn no_login(accounts: &Rows<Account>, place: usize, digest: &Digest) -> bool
+    ensures { IsTrue result ↔ NoLogin (take place accounts.now) digest.now }
 {
-    account.login != *digest
+    match login_before(accounts, place, digest) {
+        None => true,
+        Some(_) => false,
+    }
 }
 
-fn is_other_token(grant: &Grant, digest: &Digest) -> bool
-    ensures { IsTrue result ↔ (grant.now.digest ≢ Some digest.now) }
+fn no_login_at_all(tables: &Tables, digest: &Digest) -> bool
+    ensures { IsTrue result ↔ NoLogin tables.now.accounts digest.now }
 {
-    grant.digest != Some(*digest)
+    match by_login(tables, digest) {
+        None => true,
+        Some(_) => false,
+    }
 }
 
-fn is_other_reference(saved: &Saved, digest: &Digest) -> bool
-    ensures { IsTrue result ↔ (saved.now.digest ≢ digest.now) }
+fn no_token(grants: &Rows<Grant>, place: usize, digest: &Digest) -> bool
+    ensures { IsTrue result ↔ NoToken (take place grants.now) digest.now }
 {
-    saved.digest != *digest
+    match token_before(grants, place, digest) {
+        None => true,
+        Some(_) => false,
+    }
 }
 
-fn no_login(accounts: &[Account], digest: &Digest) -> bool
-    ensures { IsTrue result ↔ NoLogin accounts.now digest.now }
+fn no_token_at_all(tables: &Tables, digest: &Digest) -> bool
+    ensures { IsTrue result ↔ NoToken tables.now.grants digest.now }
 {
-    accounts
-        .iter()
-        .all(|account| is_other_login(account, digest))
+    match by_grant_token(tables, digest) {
+        None => true,
+        Some(_) => false,
+    }
 }
 
-fn no_token(grants: &[Grant], digest: &Digest) -> bool
-    ensures { IsTrue result ↔ NoToken grants.now digest.now }
+fn no_reference(saved: &Rows<Saved>, place: usize, digest: &Digest) -> bool
+    ensures { IsTrue result ↔ NoReference (take place saved.now) digest.now }
 {
-    grants.iter().all(|grant| is_other_token(grant, digest))
-}
-
-fn no_reference(saved: &[Saved], digest: &Digest) -> bool
-    ensures { IsTrue result ↔ NoReference saved.now digest.now }
-{
-    saved.iter().all(|row| is_other_reference(row, digest))
+    match reference_before(saved, place, digest) {
+        None => true,
+        Some(_) => false,
+    }
 }
 
 /// Whether no account before the one at a place has its login.
 pub(crate) fn is_fresh_login(tables: &Tables, place: usize, account: &Account) -> bool
     ensures { IsTrue result ↔ IsFreshLogin tables.now place account.now }
 {
-    no_login(
-        rows_before(tables.accounts.as_slice(), place),
-        &account.login,
-    )
+    no_login(&tables.accounts, place, &account.login)
 }
 
 fn is_new_token(tables: &Tables, place: usize, digest: &Digest) -> bool
     ensures { IsTrue result ↔ IsNewToken tables.now place digest.now }
 {
-    no_login(tables.accounts.as_slice(), digest)
-        && no_token(rows_before(tables.grants.as_slice(), place), digest)
+    no_login_at_all(tables, digest) && no_token(&tables.grants, place, digest)
 }
 
 /// Whether no row before the grant at a place has its digest.
@@ -76,33 +81,19 @@ pub(crate) fn is_fresh_token(tables: &Tables, place: usize, grant: &Grant) -> bo
 pub(crate) fn is_fresh_reference(tables: &Tables, place: usize, saved: &Saved) -> bool
     ensures { IsTrue result ↔ IsFreshReference tables.now place saved.now }
 {
-    no_login(tables.accounts.as_slice(), &saved.digest)
-        && no_token(tables.grants.as_slice(), &saved.digest)
-        && no_reference(rows_before(tables.saved.as_slice(), place), &saved.digest)
-}
-
-fn is_other_handle(account: &Account, handle: &Name) -> bool
-    ensures { IsTrue result ↔ (account.now.handle ≢ handle.now) }
-{
-    account.handle.as_str() != handle.as_str()
-}
-
-fn no_handle(accounts: &[Account], handle: &Name) -> bool
-    ensures { IsTrue result ↔ All (λ other. other.handle ≢ handle.now) accounts.now }
-{
-    accounts
-        .iter()
-        .all(|account| is_other_handle(account, handle))
+    no_login_at_all(tables, &saved.digest)
+        && no_token_at_all(tables, &saved.digest)
+        && no_reference(&tables.saved, place, &saved.digest)
 }
 
 /// Whether no account before the one at a place has its handle.
 pub(crate) fn is_fresh_handle(tables: &Tables, place: usize, account: &Account) -> bool
     ensures { IsTrue result ↔ IsFreshHandle tables.now place account.now }
 {
-    no_handle(
-        rows_before(tables.accounts.as_slice(), place),
-        &account.handle,
-    )
+    match handle_before(&tables.accounts, place, &account.handle) {
+        None => true,
+        Some(_) => false,
+    }
 }
 
 fn letter(byte: u8) -> bool

@@ -25,13 +25,13 @@ returns-in_err-has_entry c =
     stopped (Redeem c.args.state.now c.args.caller.now c.args.token.now) (λ (found : Redemption). redeem_step c.args.state.now.tables found.grain found.link found.user) c.from_residual-in_err-has_entry.result c.in_err-has_entry.field-0.0 c.from_residual-in_err-has_entry.ensures.1
     (inr (_, c.in_ok-account.ensures.one, inr (c.in_ok-account.ensures.enabled, inr (_, c.in-Some.ensures, inr (search rules, inl (lacking c.args.state.now.tables (node.Grant c.in-Some.link.now.num) c.in_err-has_entry.field-0.0 c.in_err-has_entry.ensures))))))
 
-pub returns-in-Some-first_share : goal.returns-in-Some-first_share
-returns-in-Some-first_share c = inr (_, c.in_ok-account.ensures.one, inr (c.in_ok-account.ensures.enabled, inr (_, c.in-Some.ensures, inr (search rules, inr (c.in_ok-has_entry.ensures, inl (_, refl, c.in-Some-first_share.ensures))))))
+pub returns-in-Some-share_from : goal.returns-in-Some-share_from
+returns-in-Some-share_from c = inr (_, c.in_ok-account.ensures.one, inr (c.in_ok-account.ensures.enabled, inr (_, c.in-Some.ensures, inr (search rules, inr (c.in_ok-has_entry.ensures, inl (_, refl, c.in-Some-share_from.ensures))))))
 
 pub returns-in_err-has_grant_room : goal.returns-in_err-has_grant_room
 returns-in_err-has_grant_room c =
     stopped (Redeem c.args.state.now c.args.caller.now c.args.token.now) (λ (found : Redemption). redeem_step c.args.state.now.tables found.grain found.link found.user) c.from_residual-in_err-has_grant_room.result c.in_err-has_grant_room.field-0.0 c.from_residual-in_err-has_grant_room.ensures.1
-    (inr (_, c.in_ok-account.ensures.one, inr (c.in_ok-account.ensures.enabled, inr (_, c.in-Some.ensures, inr (search rules, inr (c.in_ok-has_entry.ensures, inr (c.in_default-first_share.ensures, inl (_, refl, c.in_err-has_grant_room.ensures))))))))
+    (inr (_, c.in_ok-account.ensures.one, inr (c.in_ok-account.ensures.enabled, inr (_, c.in-Some.ensures, inr (search rules, inr (c.in_ok-has_entry.ensures, inr (c.in_default-share_from.ensures, inl (_, refl, c.in_err-has_grant_room.ensures))))))))
 
 pub returns : goal.returns
-returns c = inr (_, c.in_ok-account.ensures.one, inr (c.in_ok-account.ensures.enabled, inr (_, c.in-Some.ensures, inr (search rules, inr (c.in_ok-has_entry.ensures, inr (c.in_default-first_share.ensures, inr (refl, c.in_ok-has_grant_room.ensures)))))))
+returns c = inr (_, c.in_ok-account.ensures.one, inr (c.in_ok-account.ensures.enabled, inr (_, c.in-Some.ensures, inr (search rules, inr (c.in_ok-has_entry.ensures, inr (c.in_default-share_from.ensures, inr (refl, c.in_ok-has_grant_room.ensures)))))))

@@ -1,12 +1,8 @@
-use Rattle.std.proofs.Common.{rules}
-use borrow.Author.Tests.{tests}
-use Rattle.std.proofs.lemmas.Iterator.{first_from_find, YieldsList-from_slice}
-use Rattle.share_graph.specs.Keys.{HasLogin}
-use Rattle.share_graph.proofs.FirstOf.{from_search}
+use Rattle.std.proofs.Common.{MatchOption, length, take, subst, ap, ◌∙◌}
+use Rattle.share_graph.specs.Keys.{IsFirstOf, IsNoneOf, HasLogin}
+use Rattle.share_graph.proofs.Narrowing.{take_all}
 use Rattle.share_graph.proofs.keys.first_login.Goals as goal
 
 pub returns : goal.returns
-returns c =
-    from_search (HasLogin c.args.digest.now) (λ row. row.now) c.args.accounts.now _
-    (first_from_find _ _ _ (HasLogin c.args.digest.now) (λ row. HasLogin c.args.digest.now row → ⊥) c.find.ensures.ran (YieldsList-from_slice c.args.accounts.now cc)
-    (λ x q k. search (rules, tests)) (λ x q k. search (rules, tests)))
+returns c = subst (λ rows. MatchOption c.login_before.result (IsNoneOf rows (HasLogin c.args.digest.now)) (λ row. IsFirstOf rows (HasLogin c.args.digest.now) row.now))
+    (take_all c.as_slice.result.now c.args.accounts.now c.as_slice.ensures) c.login_before.ensures

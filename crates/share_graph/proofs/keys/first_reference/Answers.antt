@@ -1,12 +1,8 @@
-use Rattle.std.proofs.Common.{rules}
-use borrow.Author.Tests.{tests}
-use Rattle.std.proofs.lemmas.Iterator.{first_from_find, YieldsList-from_slice}
-use Rattle.share_graph.specs.Keys.{HasReference}
-use Rattle.share_graph.proofs.FirstOf.{from_search}
+use Rattle.std.proofs.Common.{MatchOption, length, take, subst, ap, ◌∙◌}
+use Rattle.share_graph.specs.Keys.{IsFirstOf, IsNoneOf, HasReference}
+use Rattle.share_graph.proofs.Narrowing.{take_all}
 use Rattle.share_graph.proofs.keys.first_reference.Goals as goal
 
 pub returns : goal.returns
-returns c =
-    from_search (HasReference c.args.digest.now) (λ row. row.now) c.args.references.now _
-    (first_from_find _ _ _ (HasReference c.args.digest.now) (λ row. HasReference c.args.digest.now row → ⊥) c.find.ensures.ran (YieldsList-from_slice c.args.references.now cc)
-    (λ x q k. search (rules, tests)) (λ x q k. search (rules, tests)))
+returns c = subst (λ rows. MatchOption c.reference_before.result (IsNoneOf rows (HasReference c.args.digest.now)) (λ row. IsFirstOf rows (HasReference c.args.digest.now) row.now))
+    (take_all c.as_slice.result.now c.args.references.now c.as_slice.ensures) c.reference_before.ensures

@@ -1,12 +1,8 @@
-use Rattle.std.proofs.Common.{rules}
-use borrow.Author.Tests.{tests}
-use Rattle.std.proofs.lemmas.Iterator.{first_from_find, YieldsList-from_slice}
-use Rattle.share_graph.specs.Keys.{HasToken}
-use Rattle.share_graph.proofs.FirstOf.{from_search}
+use Rattle.std.proofs.Common.{MatchOption, length, take, subst, ap, ◌∙◌}
+use Rattle.share_graph.specs.Keys.{IsFirstOf, IsNoneOf, HasToken}
+use Rattle.share_graph.proofs.Narrowing.{take_all}
 use Rattle.share_graph.proofs.keys.first_token.Goals as goal
 
 pub returns : goal.returns
-returns c =
-    from_search (HasToken c.args.digest.now) (λ row. row.now) c.args.grants.now _
-    (first_from_find _ _ _ (HasToken c.args.digest.now) (λ row. HasToken c.args.digest.now row → ⊥) c.find.ensures.ran (YieldsList-from_slice c.args.grants.now cc)
-    (λ x q k. search (rules, tests)) (λ x q k. search (rules, tests)))
+returns c = subst (λ rows. MatchOption c.token_before.result (IsNoneOf rows (HasToken c.args.digest.now)) (λ row. IsFirstOf rows (HasToken c.args.digest.now) row.now))
+    (take_all c.as_slice.result.now c.args.grants.now c.as_slice.ensures) c.token_before.ensures

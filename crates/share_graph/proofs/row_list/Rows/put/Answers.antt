@@ -1,18 +1,11 @@
-use Rattle.std.proofs.Common.{◌≡◌, ◌+◌, ◌≤◌, Some, vec_len, vec_capacity, rules, subst}
-use Rattle.share_graph.specs.Rooms.{IsBetweenPowers, HasRoom, IsRoomBeside}
-use Rattle.share_graph.proofs.Roomy.{roomy_next, roomy_more}
+use Rattle.std.proofs.Common.{subst, sym}
+use Rattle.row_index.specs.Index.{IsIndexOf}
+use Rattle.row_index.proofs.Indexed.{index_stays}
 use Rattle.share_graph.proofs.row_list.Rows.put.Goals as goal
-use Rattle.share_graph.proofs.row_list.Rows.put.Goals.{in-Some, in_default}
 
 pub invariant_of-self : goal.invariant_of-self
-invariant_of-self g c = elim c.match-room.branch [
-  | in-Some w ↦
-      let beside : c.room.inside.beside ≡ vec_len c.self.inside.items = Prim.grind (rules, c.room.view_is, c.requires, c.self.view_is) in
-      let grown : IsRoomBeside c.room.inside.beside (Some w.in-Some.grown) = subst (IsRoomBeside c.room.inside.beside) w.in-Some.is c.room.invariant in
-      let more : HasRoom (c.room.inside.beside + 1) (vec_capacity w.grow.new.items) = roomy_more _ _ _ grown.1 (subst (λ vec. vec_capacity vec ≤ vec_capacity w.grow.new.items) w.in-Some.grown-is w.grow.ensures.capacity) in
-      rw (c.push_reserved.ensures.len, c.push_reserved.ensures.capacity, w.self-inside-is, w.grow.ensures.len, ← beside) more
-  | in_default w ↦
-      let beside : c.room.inside.beside ≡ vec_len c.self.inside.items = Prim.grind (rules, c.room.view_is, c.requires, c.self.view_is) in
-      let between : IsBetweenPowers (vec_len c.self.inside.items) = subst IsBetweenPowers beside (subst (IsRoomBeside c.room.inside.beside) w.in_default.is c.room.invariant) in
-      rw (c.push_reserved.ensures.len, c.push_reserved.ensures.capacity, w.self-inside-is) (roomy_next _ _ between c.self.invariant)
-]
+invariant_of-self g c = record {
+  room = c.add.ensures.has_room;
+  index_of = subst (λ rows. IsIndexOf g.T.Keyed.clues_of rows g.T.Keyed.mark_of c.self.inside.index) (sym c.add.ensures.items)
+      (index_stays g.T.Keyed.clues_of g.T.Keyed.mark_of _ _ _ c.self.invariant.index_of);
+}

@@ -1,14 +1,14 @@
-use Rattle.std.proofs.Common.{subst}
-use Rattle.share_graph.specs.Opening.{NoneIsOpen, IsFirstOpen}
+use Rattle.std.proofs.Common.{length, subst, ◌∙◌}
+use Rattle.row_index.specs.Marks.{NoneHasMark, IsFirstMarked}
+use Rattle.share_graph.specs.Clues.{session_mark}
+use Rattle.share_graph.proofs.OpenMarks.{first_is_open, none_is_open}
 use Rattle.share_graph.proofs.ClosedFirst.{closes_first, closes_none}
 use Rattle.share_graph.proofs.setters.Rows+Session.close_first.Goals as goal
 
 pub returns-in-Some : goal.returns-in-Some
-returns-in-Some c =
-    let first : IsFirstOpen c.args.root c.self.inside.items.items c.in-Some.place = subst (λ xs. IsFirstOpen c.args.root xs c.in-Some.place) c.as_slice.ensures.value c.in-Some.ensures in
-    rw (← c.self.view_is) (closes_first _ _ _ c.index_mut.result.now first c.index_mut.ensures.value)
+returns-in-Some c = c.close_at.ensures ∙ closes_first c.args.root c.args.self.now c.in-Some.place
+    (first_is_open c.args.root c.args.self.now c.in-Some.place (subst (λ m. IsFirstMarked session_mark m c.args.self.now c.in-Some.place) c.root_mark.ensures c.in-Some.ensures))
 
 pub returns-in_default : goal.returns-in_default
-returns-in_default c =
-    let none : NoneIsOpen c.args.root c.self.inside.items.items = subst (NoneIsOpen c.args.root) c.as_slice.ensures.value c.in_default.ensures in
-    rw (← c.self.view_is) (closes_none _ _ none)
+returns-in_default c = closes_none c.args.root c.args.self.now
+    (none_is_open c.args.root c.args.self.now (subst (λ m. NoneHasMark session_mark m c.args.self.now (length c.args.self.now)) c.root_mark.ensures c.in_default.ensures))

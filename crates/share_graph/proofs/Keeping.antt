@@ -1,0 +1,59 @@
+-- Rows keep their room and their index where one of them is changed so that it has no further clue.
+use Rattle.std.proofs.Common.{if◌then◌else◌, ◌≡◌, ◌<◌, ℕ, true, Option, Some, None, inl, inr, slice_index_or, vec_len, length, refl, arith}
+use Rattle.std.specs.Global.{Vec}
+use Rattle.std.specs.Vec.{with_item}
+use Rattle.host_base.specs.declared.ids.GrainId.{GrainId}
+use Rattle.row_index.specs.declared.clues.Clues.{Clues}
+use Rattle.row_index.specs.declared.index.Index.{Index}
+use Rattle.row_index.specs.Index.{HasClue}
+use Rattle.row_index.specs.Marks.{ForgetsPlace}
+use Rattle.row_index.proofs.Indexed.{index_keeps, index_loses}
+use Rattle.share_graph.specs.declared.grants.Giver.{Giver}
+use Rattle.share_graph.specs.declared.grants.Giver.TheVariants as giver
+use Rattle.share_graph.specs.declared.grants.Grant.{Grant}
+use Rattle.share_graph.specs.declared.grants.Target.{Target}
+use Rattle.share_graph.specs.declared.grants.Target.TheVariants as target
+use Rattle.share_graph.specs.declared.sessions.Run.{Run}
+use Rattle.share_graph.specs.Clues.{share_of, grant_clues, run_clues, live_clue}
+use Rattle.share_graph.specs.Keys.{IsLiveRun}
+use Rattle.share_graph.specs.Rooms.{IsRowsOf}
+use Rattle.share_graph.specs.Setting.{revoked, stopped}
+
+pub rows_keep : {X : Type 0} (clues_of : X → Clues) (mark_of : X → Option ℕ) (f : X → X) (items : Vec X) (index : Index) (i : ℕ) (row : X)
+    → ((c : ℕ) → HasClue (clues_of (f row)) c → HasClue (clues_of row) c)
+    → mark_of (f row) ≡ mark_of row → i < vec_len items → row ≡ slice_index_or items.items i row → IsRowsOf clues_of mark_of items index → IsRowsOf clues_of mark_of (with_item items i (f row)) index
+rows_keep clues_of mark_of f items index i row fewer same within read is = record {
+  room = is.room;
+  index_of = index_keeps clues_of mark_of f items.items index i row fewer (omega (arith, within, items.ok.0)) read is.index_of same;
+}
+
+pub rows_lose : {X : Type 0} (clues_of : X → Clues) (mark_of : X → Option ℕ) (f : X → X) (items : Vec X) (index after : Index) (i : ℕ) (row : X) (mark : ℕ)
+    → ((c : ℕ) → HasClue (clues_of (f row)) c → HasClue (clues_of row) c) → mark_of row ≡ Some mark → mark_of (f row) ≡ None
+    → after.slots ≡ index.slots → after.covered ≡ index.covered → ForgetsPlace index.marks after.marks mark i
+    → i < length items.items → row ≡ slice_index_or items.items i row → IsRowsOf clues_of mark_of items index → IsRowsOf clues_of mark_of (with_item items i (f row)) after
+rows_lose clues_of mark_of f items index after i row mark fewer had none slots covered forgets within read is = record {
+  room = is.room;
+  index_of = index_loses clues_of mark_of f items.items index i row fewer within read is.index_of mark after had none slots covered forgets;
+}
+
+pub stopped_fewer : (run : Run) (c : ℕ) → HasClue (run_clues (stopped run)) c → HasClue (run_clues run) c
+stopped_fewer run c (inl token) = inl token
+stopped_fewer run c (inr (inl live)) = cc
+stopped_fewer run c (inr (inr third)) = inr (inr third)
+
+no_share : (from : Giver) (to : Target) → share_of from to true ≡ None
+no_share (giver.Grant g) (target.User a) = refl
+no_share (giver.Grant g) (target.Bearer for_sharing) = refl
+no_share (giver.Grant g) (target.Claim n) = refl
+no_share (giver.Grant g) (target.Grain n) = refl
+no_share (giver.Account a) to = refl
+no_share (giver.Site by tag item) to = refl
+
+pub revoked_fewer : (grant : Grant) (c : ℕ) → HasClue (grant_clues (revoked grant)) c → HasClue (grant_clues grant) c
+revoked_fewer grant c (inl token) = inl token
+revoked_fewer grant c (inr (inl share)) = (let none = no_share grant.giver grant.target in cc)
+revoked_fewer grant c (inr (inr given)) = inr (inr given)
+
+-- a live run of the grain has the clue of one
+pub live_clue_of : (run : Run) (n : GrainId) → IsLiveRun n run → (run_clues run).second ≡ Some (live_clue n)
+live_clue_of run n (of, live) = λ i. if live i then None else Some (live_clue (of i))
