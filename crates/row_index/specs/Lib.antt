@@ -2,3 +2,4 @@ pub mod Clues
 pub mod Index
 pub mod Narrow
 pub mod Marks
+pub mod Ways

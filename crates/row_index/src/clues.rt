@@ -1,6 +1,8 @@
 ghost use Rattle.std.specs.Prelude.{◌≡◌, fold};
 ghost use Rattle.row_index.specs.Clues.{mixed, text_clue, number_clue};
 
+use crate::ways::Link;
+
 // The prime of the hash of Fowler, Noll and Vo for 64 bits.
 const SPREAD: u64 = 1_099_511_628_211;
 
@@ -34,16 +36,20 @@ pub struct Clues {
     pub third: Option<u64>,
 }
 
-/// A row that is found by its keys, and counted by its mark.
+/// A row that is found by its keys, counted by its mark, and followed by its link.
 pub trait Keyed {
     ghost use Rattle.std.specs.Prelude.{◌≡◌, ℕ, Option};
     ghost use Rattle.row_index.specs.declared.clues.Clues.{Clues};
+    ghost use Rattle.row_index.specs.declared.ways.Link.{Link};
 
     // Its clues. Equal rows have equal ones.
     ghost clues_of: { Self → Clues };
 
     // Its mark, if it has one.
     ghost mark_of: { Self → Option ℕ };
+
+    // How it stands among the others.
+    ghost link_of: { Self → Link };
 
     /// The clues of its keys.
     fn clues(&self) -> Clues
@@ -52,4 +58,8 @@ pub trait Keyed {
     /// Its mark, if it has one.
     fn mark(&self) -> Option<u64>
         ensures { result ≡ mark_of self.now };
+
+    /// Under which row it stands, and whether it is flagged.
+    fn link(&self) -> Link
+        ensures { result ≡ link_of self.now };
 }

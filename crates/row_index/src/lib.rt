@@ -5,8 +5,10 @@ mod candidates;
 mod clues;
 mod index;
 mod marks;
+mod ways;
 
 pub use candidates::Candidates;
 pub use clues::{Clues, Keyed, number_clue, text_clue};
 pub use index::{Index, Slot};
 pub use marks::Marks;
+pub use ways::{Link, Way, Ways};

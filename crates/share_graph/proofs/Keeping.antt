@@ -5,9 +5,12 @@ use Rattle.std.specs.Vec.{with_item}
 use Rattle.host_base.specs.declared.ids.GrainId.{GrainId}
 use Rattle.row_index.specs.declared.clues.Clues.{Clues}
 use Rattle.row_index.specs.declared.index.Index.{Index}
+use Rattle.row_index.specs.declared.ways.Link.{Link}
+use Rattle.row_index.specs.declared.ways.Ways.{Ways}
 use Rattle.row_index.specs.Index.{HasClue}
 use Rattle.row_index.specs.Marks.{ForgetsPlace}
 use Rattle.row_index.proofs.Indexed.{index_keeps, index_loses}
+use Rattle.row_index.proofs.Leading.{ways_keep}
 use Rattle.share_graph.specs.declared.grants.Giver.{Giver}
 use Rattle.share_graph.specs.declared.grants.Giver.TheVariants as giver
 use Rattle.share_graph.specs.declared.grants.Grant.{Grant}
@@ -19,22 +22,23 @@ use Rattle.share_graph.specs.Keys.{IsLiveRun}
 use Rattle.share_graph.specs.Rooms.{IsRowsOf}
 use Rattle.share_graph.specs.Setting.{revoked, stopped}
 
-pub rows_keep : {X : Type 0} (clues_of : X → Clues) (mark_of : X → Option ℕ) (f : X → X) (items : Vec X) (index : Index) (i : ℕ) (row : X)
-    → ((c : ℕ) → HasClue (clues_of (f row)) c → HasClue (clues_of row) c)
-    → mark_of (f row) ≡ mark_of row → i < vec_len items → row ≡ slice_index_or items.items i row → IsRowsOf clues_of mark_of items index → IsRowsOf clues_of mark_of (with_item items i (f row)) index
-rows_keep clues_of mark_of f items index i row fewer same within read is = record {
-  room = is.room;
-  index_of = index_keeps clues_of mark_of f items.items index i row fewer (omega (arith, within, items.ok.0)) read is.index_of same;
-}
+module _ {X : Type 0} (clues_of : X → Clues) (mark_of : X → Option ℕ) (link_of : X → Link) (f : X → X) (items : Vec X) (index : Index) (ways : Ways) (i : ℕ) (row : X)
+    (fewer : (c : ℕ) → HasClue (clues_of (f row)) c → HasClue (clues_of row) c) (stands : link_of (f row) ≡ link_of row) where
+  pub rows_keep : mark_of (f row) ≡ mark_of row → i < vec_len items → row ≡ slice_index_or items.items i row → IsRowsOf clues_of mark_of link_of items index ways
+      → IsRowsOf clues_of mark_of link_of (with_item items i (f row)) index ways
+  rows_keep same within read is = record {
+    room = is.room;
+    index_of = index_keeps clues_of mark_of f items.items index i row fewer (omega (arith, within, items.ok.0)) read is.index_of same;
+    ways_of = ways_keep link_of f items.items ways i row stands (omega (arith, within, items.ok.0)) read is.ways_of;
+  }
 
-pub rows_lose : {X : Type 0} (clues_of : X → Clues) (mark_of : X → Option ℕ) (f : X → X) (items : Vec X) (index after : Index) (i : ℕ) (row : X) (mark : ℕ)
-    → ((c : ℕ) → HasClue (clues_of (f row)) c → HasClue (clues_of row) c) → mark_of row ≡ Some mark → mark_of (f row) ≡ None
-    → after.slots ≡ index.slots → after.covered ≡ index.covered → ForgetsPlace index.marks after.marks mark i
-    → i < length items.items → row ≡ slice_index_or items.items i row → IsRowsOf clues_of mark_of items index → IsRowsOf clues_of mark_of (with_item items i (f row)) after
-rows_lose clues_of mark_of f items index after i row mark fewer had none slots covered forgets within read is = record {
-  room = is.room;
-  index_of = index_loses clues_of mark_of f items.items index i row fewer within read is.index_of mark after had none slots covered forgets;
-}
+  pub rows_lose : (after : Index) (mark : ℕ) → mark_of row ≡ Some mark → mark_of (f row) ≡ None → after.slots ≡ index.slots → after.covered ≡ index.covered → ForgetsPlace index.marks after.marks mark i
+      → i < length items.items → row ≡ slice_index_or items.items i row → IsRowsOf clues_of mark_of link_of items index ways → IsRowsOf clues_of mark_of link_of (with_item items i (f row)) after ways
+  rows_lose after mark had none slots covered forgets within read is = record {
+    room = is.room;
+    index_of = index_loses clues_of mark_of f items.items index i row fewer within read is.index_of mark after had none slots covered forgets;
+    ways_of = ways_keep link_of f items.items ways i row stands within read is.ways_of;
+  }
 
 pub stopped_fewer : (run : Run) (c : ℕ) → HasClue (run_clues (stopped run)) c → HasClue (run_clues run) c
 stopped_fewer run c (inl token) = inl token

@@ -23,3 +23,4 @@ pub mod Keeping
 pub mod AllSame
 pub mod Narrowing
 pub mod OpenMarks
+pub mod Leads

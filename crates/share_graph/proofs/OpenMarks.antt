@@ -1,5 +1,5 @@
 -- The mark of open sessions of a root is on those that are open and have that root.
-use Rattle.std.proofs.Common.{◌≡◌, ◌*◌, ◌+◌, ◌<◌, ◌&&◌, ℕ, nat_eq, not, Bool, true, false, List, Option, Some, None, if◌then◌else◌, count_by, is_some, length, slice_get, refl, sym, ap, ◌∙◌, inl, inr, arith}
+use Rattle.std.proofs.Common.{◌≡◌, ◌*◌, ◌+◌, ◌&&◌, ℕ, nat_eq, not, Bool, true, false, List, Some, None, if◌then◌else◌, is_some, length, refl, sym, ◌∙◌, arith}
 use Rattle.std.proofs.lemmas.Bool.{eqb-true, eq-eqb}
 use Rattle.std.proofs.lemmas.Option.{slice_get_within}
 use Rattle.row_index.specs.Marks.{has_mark, NoneHasMark, IsFirstMarked}
@@ -8,7 +8,7 @@ use Rattle.share_graph.specs.declared.sessions.Root.TheVariants as root
 use Rattle.share_graph.specs.declared.sessions.Session.{Session}
 use Rattle.share_graph.specs.Clues.{root_mark, session_mark}
 use Rattle.share_graph.specs.History.{is_open_of, is_same_root}
-use Rattle.share_graph.specs.Opening.{NoneIsOpen, NoneIsOpenBefore, IsFirstOpen}
+use Rattle.share_graph.specs.Opening.{NoneIsOpen, IsFirstOpen}
 
 -- two tests of numbers agree where each follows from the other
 agree : (a b : Bool) → (a ≡ true → b ≡ true) → (b ≡ true → a ≡ true) → a ≡ b

@@ -9,11 +9,12 @@ use Rattle.share_graph.specs.declared.grants.Grant.{Grant}
 use Rattle.share_graph.specs.declared.state.Tables.{Tables}
 use Rattle.share_graph.specs.declared.ways.Origin.{Origin}
 use Rattle.share_graph.specs.declared.ways.Origin.TheVariants as origin
+use Rattle.share_graph.specs.Clues.{is_for_sharing}
 use Rattle.share_graph.specs.Rows.{IsGrant}
 use Rattle.share_graph.specs.Known.{HasGrant, KnowsGiver}
 use Rattle.share_graph.specs.Parents.{GiverIsEarlier}
 use Rattle.share_graph.specs.Coherent.{IsCoherent}
-use Rattle.share_graph.specs.Ways.{from_account, from_site, from_grant, is_for_sharing, IsOrigin, IsWayTo}
+use Rattle.share_graph.specs.Ways.{from_account, from_site, from_grant, IsOrigin, IsWayTo}
 
 -- A parent has a smaller number.
 pub parent_is_earlier : (t : Tables) → IsCoherent t → (g p : GrantId) (grant : Grant) → IsGrant t g grant → grant.giver ≡ giver.Grant p → p.0 < g.0

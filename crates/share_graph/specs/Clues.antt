@@ -1,5 +1,5 @@
--- The clues of rows: one for each key that they are looked up by.
-use Rattle.std.specs.Prelude.{◌*◌, ◌+◌, ℕ, Bool, Option, Some, None, option_map, if◌then◌else◌}
+-- The clues of rows: one for each key that they are looked up by. As what they count, and under which row they stand.
+use Rattle.std.specs.Prelude.{◌*◌, ◌+◌, ℕ, Bool, false, Option, Some, None, option_map, if◌then◌else◌}
 use Rattle.host_base.specs.declared.digest.Digest.{Digest}
 use Rattle.host_base.specs.declared.ids.AccountId.{AccountId}
 use Rattle.host_base.specs.declared.ids.GrainId.{GrainId}
@@ -7,6 +7,7 @@ use Rattle.host_base.specs.declared.ids.GrantId.{GrantId}
 use Rattle.host_base.specs.declared.ids.RunId.{RunId}
 use Rattle.row_index.specs.Clues.{text_clue, number_clue}
 use Rattle.row_index.specs.declared.clues.Clues.{Clues}
+use Rattle.row_index.specs.declared.ways.Link.{Link}
 use Rattle.share_graph.specs.declared.grants.Giver.{Giver}
 use Rattle.share_graph.specs.declared.grants.Giver.TheVariants as giver
 use Rattle.share_graph.specs.declared.grants.Grant.{Grant}
@@ -91,3 +92,23 @@ session_mark session = if session.closed then None else Some (root_mark session.
 
 abbrev pub handle_mark : Handle → Option ℕ
 handle_mark handle = Some handle.run.0
+
+-- a row that stands under none
+abbrev pub no_link : Link
+no_link = record { parent = None; flagged = false }
+
+-- a grant stands under the grant that gave it
+abbrev pub parent_of : Giver → Option ℕ
+parent_of (giver.Account a) = None
+parent_of (giver.Grant g) = Some g.0
+parent_of (giver.Site by tag item) = None
+
+-- the grant is a bearer's, marked for sharing
+abbrev pub is_for_sharing : Target → Bool
+is_for_sharing (target.Bearer for_sharing) = for_sharing
+is_for_sharing (target.User a) = false
+is_for_sharing (target.Claim h) = false
+is_for_sharing (target.Grain h) = false
+
+abbrev pub grant_link : Grant → Link
+grant_link grant = record { parent = parent_of grant.giver; flagged = is_for_sharing grant.target }

@@ -1,9 +1,12 @@
 -- Rows with an index, and room in a list that grows to twice its length where that is a power of two.
-use Rattle.std.specs.Prelude.{◌≡◌, ◌<◌, ◌≤◌, ◌+◌, ◌*◌, ◌^◌, ℕ, Option, Some, None, [], vec_len, vec_capacity}
+use Rattle.std.specs.Prelude.{◌≡◌, ◌<◌, ◌≤◌, ◌+◌, ◌*◌, ◌^◌, ℕ, Option, Some, None, [], map, vec_len, vec_capacity}
 use Rattle.std.specs.Global.{Vec}
 use Rattle.row_index.specs.declared.clues.Clues.{Clues}
 use Rattle.row_index.specs.declared.index.Index.{Index}
+use Rattle.row_index.specs.declared.ways.Link.{Link}
+use Rattle.row_index.specs.declared.ways.Ways.{Ways}
 use Rattle.row_index.specs.Index.{IsIndexOf}
+use Rattle.row_index.specs.Ways.{AreWaysOf}
 
 -- the number lies between two neighbouring powers of two
 abbrev pub IsBetweenPowers : ℕ → Type 0
@@ -18,7 +21,8 @@ abbrev pub IsRoomBeside : {T : Type 0} → ℕ → Option (Vec T) → Type 0
 IsRoomBeside n None = IsBetweenPowers n
 IsRoomBeside n (Some vec) = (vec.items ≡ []) × HasRoom (n + 1) (vec_capacity vec)
 
--- a list that has room, and the index of its rows
-pub record IsRowsOf {T : Type 0} (clues_of : T → Clues) (mark_of : T → Option ℕ) (items : Vec T) (index : Index) : Type 0 where
+-- a list that has room, the index of its rows, and where their ways lead
+pub record IsRowsOf {T : Type 0} (clues_of : T → Clues) (mark_of : T → Option ℕ) (link_of : T → Link) (items : Vec T) (index : Index) (ways : Ways) : Type 0 where
   pub room : HasRoom (vec_len items) (vec_capacity items)
   pub index_of : IsIndexOf clues_of items.items mark_of index
+  pub ways_of : AreWaysOf (map link_of items.items) ways

@@ -2,14 +2,14 @@ use Rattle.std.specs.Prelude.{◌≡◌, ℕ, Bool, true, false, List, [], ◌�
 use Rattle.std.specs.List.{list_any}
 use Rattle.host_base.specs.declared.ids.AccountId.{AccountId}
 use Rattle.host_base.specs.declared.ids.GrantId.{GrantId}
+use Rattle.share_graph.specs.declared.grants.Giver.{Giver}
 use Rattle.share_graph.specs.declared.grants.Giver.TheVariants as giver
 use Rattle.share_graph.specs.declared.grants.Grant.{Grant}
-use Rattle.share_graph.specs.declared.grants.Target.{Target}
-use Rattle.share_graph.specs.declared.grants.Target.TheVariants as target
 use Rattle.share_graph.specs.declared.state.Tables.{Tables}
 use Rattle.share_graph.specs.declared.ways.Origin.{Origin}
 use Rattle.share_graph.specs.declared.ways.Origin.TheVariants as origin
-use Rattle.share_graph.specs.Rows.{IsGrant}
+use Rattle.share_graph.specs.Clues.{is_for_sharing, parent_of}
+use Rattle.share_graph.specs.Rows.{IsGrant, row}
 
 -- The way of a grant is the grant, its giver's grant, and so on to the first giver that is no grant. There the way ends: at an
 -- account, or at the site, by whom it gave.
@@ -19,13 +19,6 @@ pub data IsWay (t : Tables) : GrantId → List Grant → Origin → Type 0 where
       → IsWay t g (grant ∷ []) (origin.Site by tag item)
   from_grant : {g p : GrantId} {grant : Grant} {way : List Grant} {end : Origin} → IsGrant t g grant → grant.giver ≡ giver.Grant p → IsWay t p way end
       → IsWay t g (grant ∷ way) end
-
--- the grant is a bearer's, marked for sharing
-abbrev pub is_for_sharing : Target → Bool
-is_for_sharing (target.Bearer for_sharing) = for_sharing
-is_for_sharing (target.User a) = false
-is_for_sharing (target.Claim h) = false
-is_for_sharing (target.Grain h) = false
 
 -- whether some grant on a way is marked for sharing
 abbrev pub is_shared_on : List Grant → Bool
@@ -54,3 +47,19 @@ pub record IsWayTo (t : Tables) (g : GrantId) (end : Origin) (shared : Bool) : T
 abbrev pub IsShownAs : Tables → GrantId → Option AccountId → Type 0
 IsShownAs t g None = (end : Origin) × IsWayTo t g end true
 IsShownAs t g (Some a) = (end : Origin) × IsWayTo t g end false × (a ≡ maker_of end)
+
+-- a way that ends with this giver ends there
+abbrev pub IsEndOf : Giver → Origin → Type 0
+IsEndOf (giver.Account a) end = end ≡ origin.Account a
+IsEndOf (giver.Site by tag item) end = end ≡ origin.Site by tag item
+IsEndOf (giver.Grant p) end = ⊥
+
+-- the ways end there that lead to the grant of the number
+pub record EndsAt (t : Tables) (root : ℕ) (end : Origin) : Type 0 where
+  pub grant : Grant
+  pub is_row : row t.grants root ≡ Some grant
+  pub is_end : IsEndOf grant.giver end
+
+-- the grant of the number is there, and given by no grant
+abbrev pub IsRoot : Tables → ℕ → Type 0
+IsRoot t root = (grant : Grant) × (row t.grants root ≡ Some grant) × (parent_of grant.giver ≡ None)

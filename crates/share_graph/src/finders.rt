@@ -9,7 +9,7 @@ use crate::state::{State, Tables};
 use host_base::{AccountId, AppId, GrainId, GrantId, RunId, SavedId, SessionId};
 
 // Row `num` of a list, counted from 1.
-fn row_at<T>(rows: &[T], num: u64) -> Option<&T>
+pub(crate) fn row_at<T>(rows: &[T], num: u64) -> Option<&T>
     ensures { option_copied result ≡ row rows.now num }
 {
     if num == 0 {

@@ -7,7 +7,7 @@ use crate::grants::{Giver, Grant, Target};
 use crate::rows::{Account, App, Grain, Saved};
 use crate::sessions::{Handle, Root, Run, Session};
 use host_base::{AccountId, Digest, GrainId, GrantId, RunId};
-use row_index::{Clues, Keyed, number_clue, text_clue};
+use row_index::{Clues, Keyed, Link, number_clue, text_clue};
 
 // What two numbers of a key are.
 const LIVE_RUN: u64 = 1;
@@ -77,10 +77,22 @@ fn no_clues() -> Clues
     }
 }
 
+// A row that stands under none.
+fn no_link() -> Link
+    ensures { result ≡ the.no_link }
+{
+    Link {
+        parent: None,
+        flagged: false,
+    }
+}
+
 impl Keyed for Account {
     ghost clues_of = { the.account_clues };
 
     ghost mark_of = { λ row. None };
+
+    ghost link_of = { λ row. the.no_link };
 
     fn clues(&self) -> Clues {
         Clues {
@@ -93,6 +105,10 @@ impl Keyed for Account {
     fn mark(&self) -> Option<u64> {
         None
     }
+
+    fn link(&self) -> Link {
+        no_link()
+    }
 }
 
 impl Keyed for App {
@@ -100,12 +116,18 @@ impl Keyed for App {
 
     ghost mark_of = { λ row. None };
 
+    ghost link_of = { λ row. the.no_link };
+
     fn clues(&self) -> Clues {
         no_clues()
     }
 
     fn mark(&self) -> Option<u64> {
         None
+    }
+
+    fn link(&self) -> Link {
+        no_link()
     }
 }
 
@@ -114,6 +136,8 @@ impl Keyed for Grain {
 
     ghost mark_of = { λ row. None };
 
+    ghost link_of = { λ row. the.no_link };
+
     fn clues(&self) -> Clues {
         no_clues()
     }
@@ -121,12 +145,18 @@ impl Keyed for Grain {
     fn mark(&self) -> Option<u64> {
         None
     }
+
+    fn link(&self) -> Link {
+        no_link()
+    }
 }
 
 impl Keyed for Grant {
     ghost clues_of = { the.grant_clues };
 
     ghost mark_of = { λ row. None };
+
+    ghost link_of = { the.grant_link };
 
     fn clues(&self) -> Clues {
         Clues {
@@ -138,6 +168,13 @@ impl Keyed for Grant {
 
     fn mark(&self) -> Option<u64> {
         None
+    }
+
+    fn link(&self) -> Link {
+        Link {
+            parent: parent_of(self.giver),
+            flagged: is_for_sharing(self.target),
+        }
     }
 }
 
@@ -160,10 +197,32 @@ fn given_of(giver: Giver) -> Option<u64>
     }
 }
 
+// The number of the grant that gave.
+fn parent_of(giver: Giver) -> Option<u64>
+    ensures { result ≡ the.parent_of giver }
+{
+    match giver {
+        Giver::Grant(from) => Some(u64::from(from.0)),
+        _ => None,
+    }
+}
+
+// Whether it is a bearer's, marked for sharing.
+pub(crate) fn is_for_sharing(target: Target) -> bool
+    ensures { result ≡ the.is_for_sharing target }
+{
+    match target {
+        Target::Bearer { for_sharing } => for_sharing,
+        _ => false,
+    }
+}
+
 impl Keyed for Saved {
     ghost clues_of = { the.saved_clues };
 
     ghost mark_of = { λ row. None };
+
+    ghost link_of = { λ row. the.no_link };
 
     fn clues(&self) -> Clues {
         Clues {
@@ -176,12 +235,18 @@ impl Keyed for Saved {
     fn mark(&self) -> Option<u64> {
         None
     }
+
+    fn link(&self) -> Link {
+        no_link()
+    }
 }
 
 impl Keyed for Session {
     ghost clues_of = { the.session_clues };
 
     ghost mark_of = { the.session_mark };
+
+    ghost link_of = { λ row. the.no_link };
 
     fn clues(&self) -> Clues {
         Clues {
@@ -198,12 +263,18 @@ impl Keyed for Session {
             Some(root_mark(self.root))
         }
     }
+
+    fn link(&self) -> Link {
+        no_link()
+    }
 }
 
 impl Keyed for Run {
     ghost clues_of = { the.run_clues };
 
     ghost mark_of = { λ row. None };
+
+    ghost link_of = { λ row. the.no_link };
 
     fn clues(&self) -> Clues {
         Clues {
@@ -220,12 +291,18 @@ impl Keyed for Run {
     fn mark(&self) -> Option<u64> {
         None
     }
+
+    fn link(&self) -> Link {
+        no_link()
+    }
 }
 
 impl Keyed for Handle {
     ghost clues_of = { the.handle_clues };
 
     ghost mark_of = { the.handle_mark };
+
+    ghost link_of = { λ row. the.no_link };
 
     fn clues(&self) -> Clues {
         Clues {
@@ -237,5 +314,9 @@ impl Keyed for Handle {
 
     fn mark(&self) -> Option<u64> {
         Some(self.run.0)
+    }
+
+    fn link(&self) -> Link {
+        no_link()
     }
 }

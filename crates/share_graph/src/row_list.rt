@@ -1,9 +1,10 @@
-ghost use Rattle.std.specs.Prelude.{◌≡◌, ◌∷◌, ◌++◌, [], ◌≤◌, ◌+◌, length, take, count_by, is_some, IsTrue, MatchOption, IfOk, OnOk, OnErr, vec_len, vec_capacity};
+ghost use Rattle.std.specs.Prelude.{◌≡◌, ◌∷◌, ◌++◌, [], ◌≤◌, ◌+◌, length, map, take, count_by, is_some, IsTrue, MatchOption, IfSome, IfOk, OnOk, OnErr, vec_len, vec_capacity};
 ghost use Rattle.row_index.specs.Marks.{has_mark, NoneHasMark, IsFirstMarked};
 ghost use Rattle.row_index.specs.Narrow.{Narrows, seen};
+ghost use Rattle.row_index.specs.Ways.{Leads};
 ghost use Rattle.share_graph.specs.Rooms.{IsBetweenPowers, HasRoom};
 
-use row_index::{Candidates, Index, Keyed};
+use row_index::{Candidates, Index, Keyed, Way, Ways};
 use std::alloc::{AllocError, Global};
 use std::marker::Model;
 
@@ -14,6 +15,7 @@ pub struct Rows<T: Keyed> {
     // Its capacity is at least twice each power of two below its length.
     pub(crate) items: Vec<T>,
     pub(crate) index: Index,
+    ways: Ways,
 }
 
 impl<T: Keyed> Model for Rows<T> {
@@ -24,7 +26,7 @@ impl<T: Keyed> Model for Rows<T> {
 
     ghost view = { λ rows. rows.items.items };
 
-    ghost invariant = { λ rows. IsRowsOf T.clues_of T.mark_of rows.items rows.index };
+    ghost invariant = { λ rows. IsRowsOf T.clues_of T.mark_of T.link_of rows.items rows.index rows.ways };
 }
 
 /// Room for one row more beside so many rows, which is the number that contracts see.
@@ -75,9 +77,19 @@ impl<T: Keyed> Rows<T> {
     pub fn empty(alloc: Global) -> Self
         ensures { result ≡ [] }
     {
+        Self::uncovered(Vec::new(alloc))
+    }
+
+    // Rows of which nothing is covered yet.
+    fn uncovered(items: Vec<T>) -> Self
+        requires { HasRoom (vec_len items) (vec_capacity items) }
+        ensures { result ≡ items.items }
+    {
+        let alloc = *items.allocator();
         Rows {
-            items: Vec::new(alloc),
+            items,
             index: Index::empty(alloc),
+            ways: Ways::empty(alloc),
         }
     }
 
@@ -124,11 +136,19 @@ impl<T: Keyed> Rows<T> {
         self.index.first_of(self.items.as_slice(), mark)
     }
 
-    // Has the index cover all rows, or as many as there is memory for: what it doesn't cover is looked through.
+    /// Where the way of the row of a number leads, from 1, where that is known.
+    pub fn way(&self, num: u64) -> Option<Way>
+        ensures { IfSome result (λ way. Leads (map T.link_of self.now) num way.root way.flagged) }
+    {
+        self.ways.way(self.items.as_slice(), num)
+    }
+
+    // Covers all rows, or as many as there is memory for: what isn't covered is looked through.
     fn cover(&mut self)
         ensures { self.new ≡ self.old }
     {
         self.index.cover(self.items.as_slice()).ok();
+        self.ways.cover(self.items.as_slice()).ok();
     }
 
     /// Room for one row more.
@@ -209,8 +229,7 @@ impl<T: Keyed + Clone + Drop> Clone for Rows<T> {
         if items.append(&mut copies).is_err() {
             unreachable!();
         }
-        let index = Index::empty(*items.allocator());
-        let mut copy = Rows { items, index };
+        let mut copy = Rows::uncovered(items);
         copy.cover();
         Ok(copy)
     }

@@ -2,23 +2,13 @@ ghost use Rattle.std.specs.Prelude.{◌≡◌};
 ghost use Rattle.share_graph.specs.Checked.{IsChecked};
 ghost use Rattle.share_graph.specs.Forms.{IsOne};
 ghost use Rattle.share_graph.specs.Known.{HasGrant};
-ghost use Rattle.share_graph.specs.Ways.{is_for_sharing, maker_of, IsOrigin, IsRootMaker, IsShownAs, IsWayTo};
+ghost use Rattle.share_graph.specs.Ways.{maker_of, EndsAt, IsOrigin, IsRoot, IsRootMaker, IsShownAs, IsWayTo};
 
-use crate::finders::grant as find_grant;
-use crate::grants::{Giver, Target};
+use crate::finders::{grant as find_grant, row_at};
+use crate::grants::Giver;
+use crate::keyed::is_for_sharing;
 use crate::state::Tables;
 use host_base::{AccountId, GrantId};
-
-fn is_for_sharing(target: Target) -> bool
-    ensures { result ≡ is_for_sharing target }
-{
-    match target {
-        Target::Bearer { for_sharing } => for_sharing,
-        Target::User(_) => false,
-        Target::Claim(_) => false,
-        Target::Grain(_) => false,
-    }
-}
 
 /// Where the way of a grant ends: at the account that gave first, or at the site, by whom it gave.
 #[derive(Clone, Copy, Debug, PartialEq, Eq)]
@@ -36,6 +26,21 @@ impl Origin {
             Origin::Account(account) => account,
             Origin::Site { by, .. } => by,
         }
+    }
+}
+
+// Where the ways end that lead to the grant of a number.
+fn end_of(tables: &Tables, root: u64) -> Origin
+    requires { IsRoot tables.now root }
+    ensures { EndsAt tables.now root result }
+{
+    let Some(grant) = row_at(tables.grants.as_slice(), root) else {
+        unreachable!();
+    };
+    match grant.giver {
+        Giver::Account(account) => Origin::Account(account),
+        Giver::Site { by, tag, item } => Origin::Site { by, tag, item },
+        Giver::Grant(_) => unreachable!(),
     }
 }
 
@@ -57,7 +62,12 @@ fn way_end(tables: &Tables, num: GrantId) -> (Origin, bool)
                     Giver::Site { by, tag, item } => {
                         return (Origin::Site { by, tag, item }, shared);
                     }
-                    Giver::Grant(parent) => at = parent,
+                    Giver::Grant(parent) => {
+                        if let Some(way) = tables.grants.way(u64::from(parent.0)) {
+                            return (end_of(tables, way.root), shared | way.flagged);
+                        }
+                        at = parent;
+                    }
                 }
             }
         }

@@ -1,4 +1,4 @@
-use Rattle.std.proofs.Common.{MatchOption, length, take, subst}
+use Rattle.std.proofs.Common.{MatchOption, subst}
 use Rattle.share_graph.specs.Keys.{IsFirstOf, IsNoneOf, HasHandle}
 use Rattle.share_graph.proofs.FirstOf.{found_one}
 use Rattle.share_graph.proofs.Narrowing.{take_all}

@@ -1,4 +1,4 @@
-use Rattle.std.proofs.Common.{MatchOption, length, take, subst, ap, ◌∙◌}
+use Rattle.std.proofs.Common.{MatchOption, subst}
 use Rattle.share_graph.specs.Keys.{IsFirstOf, IsNoneOf, HasLogin}
 use Rattle.share_graph.proofs.Narrowing.{take_all}
 use Rattle.share_graph.proofs.keys.first_login.Goals as goal

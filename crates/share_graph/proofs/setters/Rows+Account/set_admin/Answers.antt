@@ -1,7 +1,7 @@
 use Rattle.std.proofs.Common.{None, refl, ◌<◌, subst}
 use Rattle.share_graph.specs.Setting.{with_admin}
 use Rattle.share_graph.proofs.ChangedRow.{sets_row}
-use Rattle.share_graph.specs.Clues.{account_clues}
+use Rattle.share_graph.specs.Clues.{account_clues, no_link}
 use Rattle.share_graph.proofs.Keeping.{rows_keep}
 use Rattle.share_graph.proofs.setters.Rows+Account.set_admin.Goals as goal
 
@@ -9,4 +9,4 @@ pub returns-in-Some : goal.returns-in-Some
 returns-in-Some c = rw (← c.self.view_is, ← c.from.ensures) (sets_row (with_admin c.args.on) _ _ _ c.index_mut.result.now c.in-Some.ensures.0 c.index_mut.ensures.value)
 
 pub invariant_of-self : goal.invariant_of-self
-invariant_of-self c = rows_keep account_clues (λ row. None) (with_admin c.args.on) c.self.inside.items c.self.inside.index c.in-Some.place c.index_mut.result.now (λ n has. has) refl (subst (λ n. c.in-Some.place < n) c.len.ensures c.in-Some.ensures.1) c.index_mut.ensures.value c.self.invariant
+invariant_of-self c = rows_keep account_clues (λ row. None) (λ row. no_link) (with_admin c.args.on) c.self.inside.items c.self.inside.index c.self.inside.ways c.in-Some.place c.index_mut.result.now (λ n has. has) refl refl (subst (λ n. c.in-Some.place < n) c.len.ensures c.in-Some.ensures.1) c.index_mut.ensures.value c.self.invariant

@@ -1,7 +1,7 @@
 use Rattle.std.proofs.Common.{None, refl, ◌<◌, subst}
 use Rattle.share_graph.specs.Setting.{stopped}
 use Rattle.share_graph.proofs.ChangedRow.{sets_row}
-use Rattle.share_graph.specs.Clues.{run_clues}
+use Rattle.share_graph.specs.Clues.{run_clues, no_link}
 use Rattle.share_graph.proofs.Keeping.{rows_keep, stopped_fewer}
 use Rattle.share_graph.proofs.setters.Rows+Run.stop.Goals as goal
 
@@ -9,4 +9,4 @@ pub returns-in-Some : goal.returns-in-Some
 returns-in-Some c = rw (← c.self.view_is) (sets_row stopped _ _ _ c.index_mut.result.now c.in-Some.ensures.0 c.index_mut.ensures.value)
 
 pub invariant_of-self : goal.invariant_of-self
-invariant_of-self c = rows_keep run_clues (λ row. None) stopped c.self.inside.items c.self.inside.index c.in-Some.place c.index_mut.result.now (stopped_fewer c.index_mut.result.now) refl (subst (λ n. c.in-Some.place < n) c.len.ensures c.in-Some.ensures.1) c.index_mut.ensures.value c.self.invariant
+invariant_of-self c = rows_keep run_clues (λ row. None) (λ row. no_link) stopped c.self.inside.items c.self.inside.index c.self.inside.ways c.in-Some.place c.index_mut.result.now (stopped_fewer c.index_mut.result.now) refl refl (subst (λ n. c.in-Some.place < n) c.len.ensures c.in-Some.ensures.1) c.index_mut.ensures.value c.self.invariant

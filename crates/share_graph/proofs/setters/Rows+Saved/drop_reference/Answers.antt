@@ -1,7 +1,7 @@
 use Rattle.std.proofs.Common.{None, refl, ◌<◌, subst}
 use Rattle.share_graph.specs.Setting.{dropped}
 use Rattle.share_graph.proofs.ChangedRow.{sets_row}
-use Rattle.share_graph.specs.Clues.{saved_clues}
+use Rattle.share_graph.specs.Clues.{saved_clues, no_link}
 use Rattle.share_graph.proofs.Keeping.{rows_keep}
 use Rattle.share_graph.proofs.setters.Rows+Saved.drop_reference.Goals as goal
 
@@ -9,4 +9,4 @@ pub returns-in-Some : goal.returns-in-Some
 returns-in-Some c = rw (← c.self.view_is, ← c.from.ensures) (sets_row dropped _ _ _ c.index_mut.result.now c.in-Some.ensures.0 c.index_mut.ensures.value)
 
 pub invariant_of-self : goal.invariant_of-self
-invariant_of-self c = rows_keep saved_clues (λ row. None) dropped c.self.inside.items c.self.inside.index c.in-Some.place c.index_mut.result.now (λ n has. has) refl (subst (λ n. c.in-Some.place < n) c.len.ensures c.in-Some.ensures.1) c.index_mut.ensures.value c.self.invariant
+invariant_of-self c = rows_keep saved_clues (λ row. None) (λ row. no_link) dropped c.self.inside.items c.self.inside.index c.self.inside.ways c.in-Some.place c.index_mut.result.now (λ n has. has) refl refl (subst (λ n. c.in-Some.place < n) c.len.ensures c.in-Some.ensures.1) c.index_mut.ensures.value c.self.invariant

@@ -1,4 +1,4 @@
-use Rattle.std.proofs.Common.{count_by, ap, ◌∙◌}
+use Rattle.std.proofs.Common.{count_by, ◌∙◌}
 use Rattle.share_graph.proofs.OpenMarks.{is_open}
 use Rattle.share_graph.proofs.setters.Rows+Session.open_count.Goals as goal
 
