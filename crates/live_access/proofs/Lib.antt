@@ -4,3 +4,4 @@ pub mod Touched
 pub mod NewRow
 pub mod Law
 pub mod Settled
+pub mod Stays

@@ -1,5 +1,5 @@
 -- What is ready for an event meets all that solving its region again asks for, and what taking it back leaves.
-use Rattle.std.proofs.Common.{◌≡◌, List, Contains, refl, sym, subst}
+use Rattle.std.proofs.Common.{◌≡◌, List, [], Contains, inl, inr, refl, sym, subst}
 use Rattle.std.specs.Prelude.{AllPairs, ◌≢◌}
 use Rattle.host_base.specs.declared.ids.GrantId.{GrantId}
 use Rattle.share_graph.specs.declared.event.Event.{Event}
@@ -9,16 +9,19 @@ use Rattle.share_graph.specs.declared.state.Tables.{Tables}
 use Rattle.share_graph.specs.Coherent.{IsCoherent}
 use Rattle.share_graph.specs.History.{after}
 use Rattle.share_graph.specs.Nodes.{node_of}
+use Rattle.share_graph.specs.Region.{GivesOutside, Reached, seed, along, to_site}
 use Rattle.share_graph.proofs.Coherence.{coherent}
 use Rattle.least_access.specs.Solved.{Table, IsSolutionOf}
 use Rattle.region_work.specs.Fed.{fed_in}
 use Rattle.region_work.specs.Prepared.{HasGrants, IsPrepared, IsFresh}
 use Rattle.region_work.specs.Working.{IsIndexOf}
+use Rattle.region_work.proofs.Sums.{contains_none}
 use Rattle.region_access.specs.Adding.{HasSameEdges}
 use Rattle.region_access.specs.Arriving.{GoesTo, IsArrivalsOf, IsArrivalsAt}
 use Rattle.region_access.specs.Indexed.{IsIndexBy}
 use Rattle.region_access.specs.Indexes.{Entries, AreIndexesOf, HaveSame}
-use Rattle.region_access.specs.Room.{HasSameFacts}
+use Rattle.region_access.specs.declared.room.Room.{Room}
+use Rattle.region_access.specs.Room.{HasSameFacts, IsRoom}
 use Rattle.region_access.specs.Ties.{HangsOn, tied_in}
 use Rattle.region_access.proofs.Indexed.{index_same}
 use Rattle.region_access.proofs.After.{indexes_after}
@@ -36,6 +39,43 @@ pub record CanSettle (u : Tables) (kept : Kept) (region : Region) : Type 0 where
   pub prepared : IsPrepared u region.room.nodes.items kept.table
   pub fresh : IsFresh region.room.nodes.items region.room.waiting
 
+same_facts : (t : Tables) (old new : Table) → HasSameFacts old new → IsSolutionOf t old → IsSolutionOf t new
+same_facts t old new same solved at fact = (λ h. (solved at fact).0 ((same at fact).0 h), λ d. (same at fact).1 ((solved at fact).1 d))
+
+-- nothing is reached from nothing
+none_reached : (t : Tables) (at : Node) → Reached t (Contains []) at → ⊥
+none_reached t at (seed none) = contains_none at none
+none_reached t at (along {from = from} r g grant is feeds) = none_reached t from r
+none_reached t at (to_site {from = from} r g grant is none feeds) = none_reached t from r
+
+-- tables that stay give what they give
+gives_same : (Inside : Node → Type 0) (t : Tables) → GivesOutside Inside t t
+gives_same Inside t = record {
+  owned = λ n grain app out o. o;
+  passed = λ g grant fact out p. p;
+  asked = λ g grant q out is c now. now;
+  asked_of_site = λ g grant q out is none c now. now;
+  opened = λ g grant out none o. o;
+}
+
+-- where an event changes nothing, no node waits to be solved again
+unchanged : (t u : Tables) (seeds : List Node) (old new : Table) (room : Room) → seeds ≡ [] → IsCoherent u → IsSolutionOf u old → IsRoom t seeds old new room → IsPrepared u room.nodes.items new
+unchanged t u seeds old new room no_seeds coherent solved is =
+    let empty : (at : Node) → Contains room.nodes.items at → ⊥ = λ at inside. none_reached t at (subst (λ (from : List Node). Reached t (Contains from) at) no_seeds ((is.region.exact at).0 inside)) in
+    record {
+      tables = u;
+      start = is.start;
+      solved = same_facts u old is.start is.same solved;
+      clears = is.clears;
+      touches = record {
+        coherent = coherent;
+        closed = λ from g grant row feeds inside. absurd (empty from inside);
+        closed_after = λ from g grant row feeds inside. absurd (empty from inside);
+        there = gives_same (Contains room.nodes.items) u;
+        back = gives_same (Contains room.nodes.items) u;
+      };
+    }
+
 can_settle_after : (s : State) (e : Event) (kept : Kept) (region : Region) → IsReadyFor s e kept region → CanSettle (after s e).tables kept region
 can_settle_after s e kept region ready =
     let u : Tables = (after s e).tables in
@@ -44,8 +84,12 @@ can_settle_after s e kept region ready =
       coherent = coherent u ready.fits.formed.tables;
       indexes = indexes_after region.added s.tables u ready.start.indexes kept.indexes adds ready.solved.indexes ready.has_new;
       grants = ready.grants;
-      prepared = room_prepared s.tables u ready.seeds ready.start.table kept.table region.room ready.room ready.solved.solution
-          (event_touches s e ready.seeds region.room.nodes.items ready.formed ready.fits ready.exact ready.room.region);
+      prepared = elim ready.exact [
+        | inl exact ↦
+            room_prepared s.tables u ready.seeds ready.start.table kept.table region.room ready.room ready.solved.solution
+            (event_touches s e ready.seeds region.room.nodes.items ready.formed ready.fits exact ready.room.region)
+        | inr (no_seeds, stays) ↦ unchanged s.tables u ready.seeds ready.start.table kept.table region.room no_seeds (coherent u ready.fits.formed.tables) stays ready.room
+      ];
       fresh = ready.room.fresh;
     }
 
@@ -63,9 +107,6 @@ collected u nodes into grants arrivals at g = (
 )
 
 -- ---- the same facts and the same edges
-
-same_facts : (t : Tables) (old new : Table) → HasSameFacts old new → IsSolutionOf t old → IsSolutionOf t new
-same_facts t old new same solved at fact = (λ h. (solved at fact).0 ((same at fact).0 h), λ d. (same at fact).1 ((solved at fact).1 d))
 
 same_index : (t : Tables) (old new : Node → List GrantId) → HasSameEdges old new → IsIndexOf t old → IsIndexOf t new
 same_index t old new same index = record {

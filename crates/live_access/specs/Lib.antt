@@ -1,3 +1,4 @@
 pub mod Kept
 pub mod Adding
 pub mod Ready
+pub mod Staying

@@ -4,6 +4,7 @@
 mod adding;
 mod region;
 mod solution;
+mod staying;
 
 pub use region::Region;
 pub use solution::{Solution, solve};

@@ -1,6 +1,6 @@
 //! The solution of tables, kept along the history of events.
 
-ghost use Rattle.std.specs.Prelude.{◌≡◌, ◌↔◌, ◌<◌, ◌≤◌, ◌+◌, IfOk, OnErr, length};
+ghost use Rattle.std.specs.Prelude.{◌≡◌, ◌↔◌, ◌<◌, ◌≤◌, ◌+◌, IsTrue, IfOk, OnErr, length};
 ghost use Rattle.share_graph.specs.declared.event.Event.{Event};
 ghost use Rattle.share_graph.specs.declared.facts.Fact.{Fact};
 ghost use Rattle.share_graph.specs.declared.facts.Node.{Node};
@@ -10,18 +10,19 @@ ghost use Rattle.share_graph.specs.EventFits.{EventFits};
 ghost use Rattle.share_graph.specs.History.{after};
 ghost use Rattle.share_graph.specs.Trees.{HasTree};
 ghost use Rattle.share_graph.specs.WellFormed.{IsWithinLimits, IsWellFormed};
-ghost use Rattle.least_access.specs.Solved.{HeldAt};
+ghost use Rattle.least_access.specs.Solved.{HeldAt, IsSolutionOf};
 ghost use Rattle.region_work.specs.Starting.{needs_by, most_tests};
 ghost use Rattle.live_access.specs.Kept.{IsSolvedFor};
-ghost use Rattle.live_access.specs.Ready.{IsReadyFor};
+ghost use Rattle.live_access.specs.Ready.{AreSeedsFor, IsReadyFor};
 
 use crate::adding::added_by;
 use crate::region::Region;
+use crate::staying::{adds_nothing, takes_nothing};
 use host_base::Memory;
 use least_access::Solved;
 use region_access::{Indexes, arrivals_of, collect, edges_of, seeds_of, solve_anew, ties_of};
 use region_work::{Counted, Probe, Steps, solve_region};
-use share_graph::{Event, State, Tables};
+use share_graph::{Event, Node, State, Tables};
 use std::alloc::Global;
 use std::marker::{Brand, Model};
 use std::sync::ledger::{Blank, Ledger};
@@ -79,6 +80,37 @@ impl Solution {
         self.solved
     }
 
+    // Whether every node holds after an event what it held, as far as a few rows tell.
+    fn stays(&self, state: &State, event: &Event) -> bool
+        requires formed { IsWellFormed state.now }
+        requires fits { EventFits state.now event.now }
+        requires solved { IsSolvedFor state.now.tables self.now }
+        ensures { IsTrue result → IsSolutionOf (after state.now event.now).tables self.now.table }
+    {
+        let table = &self.solved.table;
+        match event {
+            Event::GrantAdded(grant) => adds_nothing(&state.tables, table, grant),
+            Event::Claimed(grant, _) => adds_nothing(&state.tables, table, grant),
+            Event::GrantRevoked(num) => {
+                takes_nothing(&state.tables, table, &self.indexes.arrivals, *num)
+            }
+            _ => false,
+        }
+    }
+
+    // The seeds of the region of an event: none where every node holds what it held.
+    fn seeds(&self, alloc: Global, state: &State, event: &Event) -> Result<Vec<Node>, Memory>
+        requires formed { IsWellFormed state.now }
+        requires fits { EventFits state.now event.now }
+        requires solved { IsSolvedFor state.now.tables self.now }
+        ensures { IfOk result (λ seeds. AreSeedsFor state.now event.now self.now.table seeds.items) }
+    {
+        if self.stays(state, event) {
+            return Ok(Vec::new(alloc));
+        }
+        seeds_of(alloc, &state.tables, &self.indexes.ties, event)
+    }
+
     // Makes ready for an event, over a count that nobody reads.
     fn make_ready<L: Ledger>(
         &mut self,
@@ -96,7 +128,7 @@ impl Solution {
         ensures ok { IfOk result (IsReadyFor state.now event.now self.new) }
         ensures err { OnErr result (IsSolvedFor state.now.tables self.new) }
     {
-        let seeds = seeds_of(alloc, &state.tables, &self.indexes.ties, event)?;
+        let seeds = self.seeds(alloc, state, event)?;
         let added = added_by(alloc, event)?;
         let probe = Counted {
             tables: &state.tables,
@@ -138,8 +170,9 @@ impl Solution {
         self.settle_by(&mut probe, region);
     }
 
-    /// Makes ready for an event: finds its region, takes all room that solving it again wants, clears it, and adds a new grant
-    /// to the indexes. Want of memory leaves the solution what it was.
+    /// Makes ready for an event: finds its region, takes all room that solving it again wants, clears it, and adds a new grant to the
+    /// indexes. The region is empty where a few rows tell that every node will hold what it holds. Want of memory leaves the solution
+    /// what it was.
     pub fn prepare(&mut self, alloc: Global, state: &State, event: &Event) -> Result<Region, Memory>
         requires formed { IsWellFormed state.now }
         requires fits { EventFits state.now event.now }

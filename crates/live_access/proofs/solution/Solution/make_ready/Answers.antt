@@ -10,6 +10,7 @@ use Rattle.region_access.specs.Indexes.{entries_of}
 use Rattle.region_access.specs.Room.{IsRoom}
 use Rattle.live_access.specs.contracts.solution.Solution.{the_view}
 use Rattle.live_access.specs.Kept.{Kept, IsSolvedFor}
+use Rattle.live_access.specs.Ready.{AreSeedsFor}
 use Rattle.live_access.proofs.Law.{event_adds, event_is_new}
 use Rattle.live_access.proofs.Settled.{collected, same_solved}
 use Rattle.live_access.proofs.solution.Solution.make_ready.Goals as goal
@@ -48,7 +49,7 @@ returns-in-Ok-clause-ok g c =
       start = _;
       solved = solved;
       seeds = c.in_ok-seeds.seeds.items;
-      exact = c.in_ok-seeds.ensures;
+      exact = subst (λ (kept : Kept). AreSeedsFor c.args.state.now c.args.event.now kept.table c.in_ok-seeds.seeds.items) (sym (ap the_view c.self-inside.view_is ∙ c.self.view_is)) c.in_ok-seeds.ensures;
       room = subst (λ (seeds : List Node). IsRoom t seeds c.self-inside.inside.0.0.table.entries c.prepare.new.table.entries c.in_ok-room.room) c.as_slice.ensures.value c.in_ok-room.ensures.ok;
       added = c.in_ok-added.ensures;
       has_new = c.in_ok-room.ensures.added;
