@@ -28,10 +28,18 @@ use std::marker::{Brand, Model};
 use std::sync::ledger::{Blank, Ledger};
 
 /// What each node holds, with the indexes by which the region of a change is found in its own size.
-#[derive(Drop)]
 pub struct Solution {
     solved: Solved,
     indexes: Indexes,
+}
+
+impl Drop for Solution {
+    fn drop(self) {
+        let Solution {
+            solved: _,
+            indexes: _,
+        } = self;
+    }
 }
 
 impl Model for Solution {
@@ -77,7 +85,8 @@ impl Solution {
     pub fn into_solved(self) -> Solved
         ensures { result ≡ self.table }
     {
-        self.solved
+        let Solution { solved, indexes: _ } = self;
+        solved
     }
 
     // Whether every node holds after an event what it held, as far as a few rows tell.

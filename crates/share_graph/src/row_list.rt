@@ -10,12 +10,22 @@ use std::marker::Model;
 
 /// The rows of one kind, in the order in which they were added, which contracts see as a list. Room for one more is taken
 /// beforehand, by `room`, so that adding it needs no memory. They are found by their keys through an index.
-#[derive(Drop)]
 pub struct Rows<T: Keyed> {
     // Its capacity is at least twice each power of two below its length.
     pub(crate) items: Vec<T>,
     pub(crate) index: Index,
     ways: Ways,
+}
+
+// Written by hand, so that whoever lets rows go makes one call.
+impl<T: Keyed + Drop> Drop for Rows<T> {
+    fn drop(self) {
+        let Rows {
+            items: _,
+            index: _,
+            ways: _,
+        } = self;
+    }
 }
 
 impl<T: Keyed> Model for Rows<T> {

@@ -7,7 +7,7 @@ use crate::sessions::{Handle, Run, Session};
 use host_base::Memory;
 
 /// What the server keeps over a restart. Each list is in the order of its rows' numbers, from 1.
-#[derive(Clone, Drop)]
+#[derive(Clone)]
 pub struct Tables {
     pub accounts: Rows<Account>,
     pub apps: Rows<App>,
@@ -17,12 +17,36 @@ pub struct Tables {
 }
 
 /// The tables, and what lives between a start and a stop of the server. Handles are in the order in which they were made.
-#[derive(Clone, Drop)]
+#[derive(Clone)]
 pub struct State {
     pub tables: Tables,
     pub sessions: Rows<Session>,
     pub runs: Rows<Run>,
     pub handles: Rows<Handle>,
+}
+
+// Written by hand, as that of `Rows` is: a proof then has one call wherever tables are let go.
+impl Drop for Tables {
+    fn drop(self) {
+        let Tables {
+            accounts: _,
+            apps: _,
+            grains: _,
+            grants: _,
+            saved: _,
+        } = self;
+    }
+}
+
+impl Drop for State {
+    fn drop(self) {
+        let State {
+            tables: _,
+            sessions: _,
+            runs: _,
+            handles: _,
+        } = self;
+    }
 }
 
 /// A copy of a state.
