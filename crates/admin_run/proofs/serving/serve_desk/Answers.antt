@@ -15,3 +15,6 @@ returns-clause-serves g c = λ inlet tables begun none.
     (c.into_parts-keeper.ensures.secrets ∙ ap (λ (x : Sharing _ _ _ _). x.secrets) c.into_locked.ensures) (c.into_parts-keeper.ensures.spawner ∙ ap (λ (x : Sharing _ _ _ _). x.spawner) c.into_locked.ensures)
     c.serve_all-stopped.ensures.served (subst (λ (x : Sharing _ _ _ _). IsStored (g.K.Keeper.keeping c.into_parts-keeper.result.0) (replay x.start x.history).tables) c.into_locked.ensures c.into_parts-keeper.ensures.stored)
     (record { why = stopped.stop; told = c.tell_stop.ensures.tells; all = c.serve_all-stopped.ensures.all; failed = c.serve_all-stopped.ensures.cause })
+
+pub returns-clause-taken : goal.returns-clause-taken
+returns-clause-taken g c taken = c.serve_all-stopped.ensures.cause (c.tell_stop.ensures.taken taken)
