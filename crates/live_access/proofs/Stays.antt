@@ -38,6 +38,7 @@ use Rattle.region_access.specs.Arriving.{IsArrivalsOf}
 use Rattle.region_access.proofs.Trashed.{same_number}
 use Rattle.live_access.specs.Staying.{AddsNothing, GaveAsOwner, IsGivenOtherwise, TakesNothing}
 use Rattle.live_access.proofs.Pushed.{row_new, row_pushed, next_number}
+use Rattle.live_access.proofs.Touched.{account_id}
 
 -- ---- a grant that is added
 
@@ -162,9 +163,6 @@ module _ (t : Tables) (table : Table) (g : GrantId) (solution : IsSolutionOf t t
       (λ h. law.1 (without ((solution at fact).0 h)), λ d. (solution at fact).1 (law.0 d).0)
 
 -- ---- what an owner gave
-
-abbrev account_id : ℕ → AccountId
-account_id n = record { 0 = n }
 
 sure : (b : Bool) → false ≡ not b → b ≡ true
 sure true e = refl

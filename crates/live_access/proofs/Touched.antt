@@ -76,7 +76,7 @@ grain_added_touches t grain nodes next coherent coherent_after inside closed =
 
 -- ---- an account that becomes an admin or is one no longer, or is enabled or disabled
 
-abbrev account_id : ℕ → AccountId
+abbrev pub account_id : ℕ → AccountId
 account_id n = record { 0 = n }
 
 -- the change of an account's row leaves whether it is enabled, or the nodes have its own nodes

@@ -8,7 +8,7 @@ use Rattle.row_index.specs.Index.{HasClue, IsIndexOf, IsNoted}
 use Rattle.row_index.specs.Marks.{places_at, AreMarksOf, ForgetsPlace}
 use Rattle.row_index.proofs.Marking.{marks_stay, marks_set, marks_lose}
 
-get_left : {X : Type 0} (rows more : List X) (place : ℕ) (row : X) → place < length rows → slice_get (rows ++ more) place ≡ Some row → slice_get rows place ≡ Some row
+pub get_left : {X : Type 0} (rows more : List X) (place : ℕ) (row : X) → place < length rows → slice_get (rows ++ more) place ≡ Some row → slice_get rows place ≡ Some row
 get_left [] more place row below there = absurd (omega (arith, below))
 get_left (x ∷ rows) more zero row below there = there
 get_left (x ∷ rows) more (suc place) row below there = get_left rows more place row (omega (arith, below)) there

@@ -5,17 +5,13 @@ use Rattle.std.proofs.lemmas.Option.{slice_get-map, slice_get_read}
 use Rattle.std.specs.HashMap.{get}
 use Rattle.row_index.specs.declared.ways.Link.{Link}
 use Rattle.row_index.specs.declared.ways.Ways.{Ways}
+use Rattle.row_index.proofs.Indexed.{get_left}
 use Rattle.row_index.specs.Ways.{AreWaysOf, Leads, ends, goes}
 
 get_more : (links more : List Link) (place : ℕ) (link : Link) → slice_get links place ≡ Some link → slice_get (links ++ more) place ≡ Some link
 get_more [] more place link there = cc
 get_more (x ∷ links) more zero link there = there
 get_more (x ∷ links) more (suc place) link there = get_more links more place link there
-
-get_left : (links more : List Link) (place : ℕ) (link : Link) → suc place ≤ length links → slice_get (links ++ more) place ≡ Some link → slice_get links place ≡ Some link
-get_left [] more place link within there = absurd (omega (arith, within))
-get_left (x ∷ links) more zero link within there = there
-get_left (x ∷ links) more (suc place) link within there = get_left links more place link (omega (arith, within)) there
 
 -- the link of a row that is read
 pub link_there : {X : Type 0} (link_of : X → Link) (rows : List X) (place : ℕ) (row : X) (link : Link) → place < length rows → row ≡ slice_index_or rows place row → link ≡ link_of row

@@ -1,11 +1,12 @@
 -- What is left of rows when those of a list without a clue are passed over.
-use Rattle.std.proofs.Common.{◌≡◌, ◌<◌, ◌≤◌, ℕ, zero, suc, List, [], ◌∷◌, Option, Some, None, nat_eq, inl, inr, length, take, drop, slice_get, slice_index_or, refl, sym, subst, arith}
+use Rattle.std.proofs.Common.{◌≡◌, ◌<◌, ◌≤◌, ℕ, zero, suc, List, [], ◌∷◌, Option, Some, None, nat_eq, length, take, drop, slice_get, slice_index_or, refl, sym, subst, arith}
 use Rattle.std.proofs.lemmas.Option.{slice_get_read}
 use Rattle.std.specs.HashMap.{get}
 use Rattle.row_index.specs.declared.clues.Clues.{Clues}
 use Rattle.row_index.specs.declared.index.Index.{Index}
-use Rattle.row_index.specs.declared.index.Slot.TheVariants.{Only}
-use Rattle.row_index.specs.Index.{HasClue, IsIndexOf, IsNoted}
+use Rattle.row_index.specs.declared.index.Slot.{Slot}
+use Rattle.row_index.specs.declared.index.Slot.TheVariants.{Only, From}
+use Rattle.row_index.specs.Index.{HasClue, IsFoundAt, IsIndexOf, IsNoted}
 use Rattle.row_index.specs.Narrow.{Narrows, done, kept, passed}
 
 module _ {X : Type 0} (clues_of : X → Clues) (c : ℕ) where
@@ -49,23 +50,27 @@ module _ {X : Type 0} (clues_of : X → Clues) (mark_of : X → Option ℕ) (row
   none_left : ((place : ℕ) (row : X) → place < covered → slice_get before place ≡ Some row → HasClue (clues_of row) c → ⊥) → Narrows clues_of c before rest
   none_left none = subst (Narrows clues_of c before) (sym back) (none_kept clues_of c before covered none)
 
+  found_at : (place : ℕ) (slot : Slot) → get nat_eq index.slots c ≡ Some slot → IsNoted index.slots place c → IsFoundAt slot place
+  found_at place slot found noted =
+      let there = noted.there in
+      let same : noted.slot ≡ slot = cc in
+      subst (λ s. IsFoundAt s place) same noted.found
+
   pub none_found : get nat_eq index.slots c ≡ None → Narrows clues_of c before rest
-  none_found none = none_left (λ place row below there has. elim (noted_before place row below there has) [
-    | inl only ↦ cc
-    | inr several ↦ cc
-  ])
+  none_found none = none_left (λ place row below there has. let odd = (noted_before place row below there has).there in cc)
 
   pub found_behind : (at : ℕ) → get nat_eq index.slots c ≡ Some (Only at) → covered ≤ at → Narrows clues_of c before rest
-  found_behind at found above = none_left (λ place row below there has. elim (noted_before place row below there has) [
-    | inl only ↦ (let same : place ≡ at = cc in absurd (omega (arith, below, above, same)))
-    | inr several ↦ cc
-  ])
+  found_behind at found above = none_left (λ place row below there has.
+      let same : at ≡ place = found_at place (Only at) found (noted_before place row below there has) in absurd (omega (arith, below, above, same)))
 
   pub one_found : (at : ℕ) (row : X) → get nat_eq index.slots c ≡ Some (Only at) → at < covered → row ≡ slice_index_or before at row
       → Narrows clues_of c before (row ∷ rest)
   one_found at row found below read =
       let there : slice_get before at ≡ Some row = slice_get_read before (length before) at row refl (omega (arith, below, within)) read in
-      subst (λ xs. Narrows clues_of c before (row ∷ xs)) (sym back) (one_kept clues_of c before covered at row below there (λ place other less at_place has. elim (noted_before place other less at_place has) [
-        | inl only ↦ cc
-        | inr several ↦ cc
-      ]))
+      subst (λ xs. Narrows clues_of c before (row ∷ xs)) (sym back) (one_kept clues_of c before covered at row below there (λ place other less at_place has.
+      sym (found_at place (Only at) found (noted_before place other less at_place has))))
+
+  pub found_from : (first from : ℕ) → get nat_eq index.slots c ≡ Some (From first) → from ≤ covered → from ≤ first → Narrows clues_of c before (drop from before)
+  found_from first from found among earlier = none_kept clues_of c before from (λ place row below there has.
+      let later : first ≤ place = found_at place (From first) found (noted_before place row (omega (arith, below, among)) there has) in
+      absurd (omega (arith, below, earlier, later)))

@@ -9,11 +9,11 @@ use crate::marks::Marks;
 use std::alloc::{AllocError, Global};
 use std::collections::HashMap;
 
-/// Where the rows with a clue are: at one place, or at several.
+/// Where the rows with a clue are: at one place, or at several from one on.
 #[derive(Clone, Copy, Debug, PartialEq, Eq)]
 pub enum Slot {
     Only(usize),
-    Several,
+    From(usize),
 }
 
 /// For the first rows of a list, where the ones with a clue are. It takes memory where it can get some, and covers the fewer
@@ -39,9 +39,11 @@ fn slot_for<T: Keyed>(slots: &HashMap<u64, Slot>, rows: &[T], clue: u64, place: 
 {
     match slots.get(&clue) {
         None => Slot::Only(place),
-        Some(Slot::Several) => Slot::Several,
+        Some(Slot::From(first)) => Slot::From(place.min(*first)),
         Some(Slot::Only(earlier)) => match rows.get(*earlier) {
-            Some(row) if *earlier != place && has_clue(row, clue) => Slot::Several,
+            Some(row) if *earlier != place && has_clue(row, clue) => {
+                Slot::From(place.min(*earlier))
+            }
             _ => Slot::Only(place),
         },
     }
@@ -147,10 +149,10 @@ impl Index {
         let (_, rest) = before.split_at(covered);
         match self.slots.get(&clue) {
             None => Candidates { near: None, rest },
-            Some(Slot::Several) => Candidates {
-                near: None,
-                rest: before,
-            },
+            Some(Slot::From(first)) => {
+                let (_, rest) = before.split_at(covered.min(*first));
+                Candidates { near: None, rest }
+            }
             Some(Slot::Only(at)) if *at < covered => Candidates {
                 near: Some(&before[*at]),
                 rest,
