@@ -1,5 +1,5 @@
 -- A keeper that has the tables has them again after an event whose row it kept.
-use Rattle.std.proofs.Common.{◌≡◌, ℕ, ◌≤◌, List, [], ◌∷◌, ◌++◌, Option, Some, None, Result, Ok, Err, refl, sym, ◌∙◌, ap, subst, arith, append-nil}
+use Rattle.std.proofs.Common.{◌≡◌, List, Option, Some, None, Result, Ok, Err, refl, sym, ◌∙◌, ap, subst}
 use Rattle.std.specs.Prelude.{⊤, OnOk, OnErr}
 use Rattle.cloud_keeper.specs.declared.row.Row.{Row}
 use Rattle.cloud_keeper.specs.Keeping.{Keeping, Follows, put}

@@ -1,5 +1,5 @@
 -- Opening a history on the rows of a keeper.
-use Rattle.std.specs.Prelude.{◌≡◌, ◌≤◌, List, [], Some, Ok, Err}
+use Rattle.std.specs.Prelude.{◌≡◌, ◌≤◌, List, [], Some, Ok}
 use Rattle.host_base.specs.Outside.{Rose}
 use Rattle.cloud_keeper.specs.declared.row.Row.{Row}
 use Rattle.cloud_keeper.specs.Keeping.{Keeping, Follows}

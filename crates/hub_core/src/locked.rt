@@ -30,7 +30,6 @@ use std::marker::Model;
 
 /// The state, its history and what each node holds, with the keeper of its rows, the secrets that are drawn for it, the spawner of its runs
 /// and the drivers of its sites. It is what one holds who has the lock.
-#[derive(Drop)]
 pub struct Locked<K: Keeper, S, P, C: SiteDriver> {
     start: State,
     state: State,
@@ -40,6 +39,22 @@ pub struct Locked<K: Keeper, S, P, C: SiteDriver> {
     secrets: S,
     spawner: P,
     sites: Registry<C>,
+}
+
+// Written by hand, as that of `State` is.
+impl<K: Keeper + Drop, S: Drop, P: Drop, C: SiteDriver + Drop> Drop for Locked<K, S, P, C> {
+    fn drop(self) {
+        let Locked {
+            start: _,
+            state: _,
+            solution: _,
+            history: _,
+            keeper: _,
+            secrets: _,
+            spawner: _,
+            sites: _,
+        } = self;
+    }
 }
 
 impl<K: Keeper, S, P, C: SiteDriver> Model for Locked<K, S, P, C> {
@@ -146,7 +161,17 @@ impl<K: Keeper, S: Secrets, P: Spawner, C: SiteDriver + Drop> Locked<K, S, P, C>
         ensures spawner { result.2 ≡ self.spawner }
         ensures stored { IsStored (K.keeping result.0) (replay self.start self.history).tables }
     {
-        (self.keeper, self.secrets, self.spawner)
+        let Locked {
+            start: _,
+            state: _,
+            solution: _,
+            history: _,
+            keeper,
+            secrets,
+            spawner,
+            sites: _,
+        } = self;
+        (keeper, secrets, spawner)
     }
 
     /// How many entries the history has. It takes no memory.

@@ -15,9 +15,15 @@ use std::alloc::Global;
 use std::marker::Model;
 
 /// A desk that owns its history: nobody else adds to it, so its places are all of it.
-#[derive(Drop)]
 pub struct SoloDesk<K: Keeper, S, P, C: SiteDriver> {
     locked: Locked<K, S, P, C>,
+}
+
+// Written by hand, as that of `State` is.
+impl<K: Keeper + Drop, S: Drop, P: Drop, C: SiteDriver + Drop> Drop for SoloDesk<K, S, P, C> {
+    fn drop(self) {
+        let SoloDesk { locked: _ } = self;
+    }
 }
 
 impl<K: Keeper, S, P, C: SiteDriver> Model for SoloDesk<K, S, P, C> {
@@ -45,7 +51,8 @@ impl<K: Keeper, S: Secrets, P: Spawner, C: SiteDriver + Drop> SoloDesk<K, S, P, 
     pub fn into_locked(self) -> Locked<K, S, P, C>
         ensures { result ≡ self }
     {
-        self.locked
+        let SoloDesk { locked } = self;
+        locked
     }
 }
 

@@ -13,10 +13,19 @@ use sqlite::{Alter, Connection, Error};
 use std::alloc::Global;
 
 /// A keeper over one table of a database. It tells no rows. Each refusal of the database is counted, but want of memory.
-#[derive(Drop)]
 pub struct SqlKeeper<S: Alter> {
     opened: Result<Connection<S>, Error>,
     faults: u64,
+}
+
+// Written by hand, so that a proof has one call wherever a keeper is let go.
+impl<S: Alter + Drop> Drop for SqlKeeper<S> {
+    fn drop(self) {
+        let SqlKeeper {
+            opened: _,
+            faults: _,
+        } = self;
+    }
 }
 
 impl<S: Alter> SqlKeeper<S> {
@@ -40,7 +49,8 @@ impl<S: Alter> SqlKeeper<S> {
     pub fn into_opened(self) -> Result<Connection<S>, Error>
         ensures { result ≡ opened_of self }
     {
-        self.opened
+        let SqlKeeper { opened, faults: _ } = self;
+        opened
     }
 
     // Counts a fault of the store.

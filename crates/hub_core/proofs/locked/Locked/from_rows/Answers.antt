@@ -1,4 +1,4 @@
-use Rattle.std.proofs.Common.{[], refl, sym, subst}
+use Rattle.std.proofs.Common.{refl, sym, subst}
 use Rattle.std.proofs.lemmas.Result.{IfOk-weaker, IfErr-weaker}
 use Rattle.hub_core.specs.Opening.{IsOpenedOn, IsClosedOn}
 use Rattle.hub_core.proofs.locked.Locked.from_rows.Goals as goal
