@@ -32,16 +32,23 @@ fn bytes_of(alloc: Global, text: &str) -> Result<Vec<u8>, AllocError> {
     Ok(bytes)
 }
 
+// The host of a request, or a question mark where its bytes are no text.
+fn host_text(request: &Request) -> &str {
+    str::from_utf8(request.host.as_slice()).unwrap_or("?")
+}
+
+// Some words where something is so, or none. A choice that stands in a function of its own is proved once: inside a longer one,
+// what follows it would be proved for each way through.
+fn where_so(is_so: bool, words: &'static str) -> &'static str {
+    if is_so { words } else { "" }
+}
+
 // What a request is, in a few words.
 fn shown(alloc: Global, request: &Request) -> Result<String, AllocError> {
-    let host = str::from_utf8(request.host.as_slice()).unwrap_or("?");
+    let host = host_text(request);
     let body = request.body.len();
-    let bearer = if request.bearer.is_some() {
-        ", of a bearer"
-    } else {
-        ""
-    };
-    let last = if request.last { ", the last" } else { "" };
+    let bearer = where_so(request.bearer.is_some(), ", of a bearer");
+    let last = where_so(request.last, ", the last");
     format!(in alloc;
         "{} {} at {host} with {body} bytes{bearer}{last}; ",
         request.method.as_str(),
