@@ -42,6 +42,54 @@ fn row_of(alloc: Global, tables: &Tables, event: &Event) -> Result<Option<Row>, 
     row_after(alloc, tables, event)
 }
 
+// All that was made ready for an event: its room in the state, the row that it adds or changes, if there is one, and its region.
+#[derive(Drop)]
+struct Ready {
+    staged: Staged,
+    row: Option<Row>,
+    region: Region,
+}
+
+// Makes all ready for an event; the state is as before, and so is what is solved where memory runs out.
+fn make_ready(
+    alloc: Global,
+    state: &State,
+    solution: &mut Solution,
+    entries: &mut Vec<Event>,
+    event: &Event,
+) -> Result<Ready, Memory>
+    requires formed { IsWellFormed state.now }
+    requires fits { EventFits state.now event.now }
+    requires solved { IsSolvedFor state.now.tables solution.old }
+    ensures same { entries.new.items ≡ entries.old.items }
+    ensures room { OnOk result (vec_len entries.new < vec_capacity entries.new) }
+    ensures staged { IfOk result (λ ready. event_of ready.staged ≡ event.now) }
+    ensures staged_room { IfOk result (λ ready. HasRoomFor state.now ready.staged) }
+    ensures has { IfOk result (λ ready. HasItsRow event.now ready.row) }
+    ensures kept { IfOk result (λ ready. KeepsRows state.now.tables event.now ready.row) }
+    ensures region { IfOk result (λ ready. IsReadyFor state.now event.now solution.new ready.region) }
+    ensures same_solved { OnErr result (IsSolvedFor state.now.tables solution.new) }
+{
+    make_room(entries)?;
+    let row = row_of(alloc, &state.tables, event)?;
+    let staged = prepare(state, copy_of_event(event)?)?;
+    let region = solution.prepare(alloc, state, event)?;
+    Ok(Ready {
+        staged,
+        row,
+        region,
+    })
+}
+
+// Takes back what was made ready for an event that doesn't happen, and lets go of what was staged. An event and what is staged for it
+// are each let go in sixteen ways: a call of its own keeps a proof from going through both together.
+fn take_back(solution: &mut Solution, _staged: Staged, region: Region)
+    requires { (s : State) × (e : Event) × IsReadyFor s e solution.old region }
+    ensures { (s : State) (e : Event) → IsReadyFor s e solution.old region → IsSolvedFor s.tables solution.new }
+{
+    solution.take_back(region);
+}
+
 // Lets an event happen for which all room was taken: in the state, in what is solved, and as the next entry.
 fn happen(
     state: &mut State,
@@ -88,17 +136,19 @@ pub fn add_entry<K: Keeper, P: Spawner>(
         (record { spawns = P.spawns spawner.old; keeping = K.keeping keeper.old }) (record { spawns = P.spawns spawner.new; keeping = K.keeping keeper.new })
         event token.now result }
 {
-    make_room(entries)?;
-    let staged = prepare(state, copy_of_event(&event)?)?;
-    let row = row_of(alloc, &state.tables, &event)?;
-    let region = solution.prepare(alloc, state, &event)?;
+    let Ready {
+        staged,
+        row,
+        region,
+    } = make_ready(alloc, state, solution, entries, &event)?;
     match tell(alloc, keeper, spawner, &event, &row, token) {
-        Ok(()) => {}
+        Ok(()) => {
+            happen(state, solution, entries, staged, region, event);
+            Ok(())
+        }
         Err(fault) => {
-            solution.take_back(region);
-            return Err(fault);
+            take_back(solution, staged, region);
+            Err(fault)
         }
     }
-    happen(state, solution, entries, staged, region, event);
-    Ok(())
 }
