@@ -1,14 +1,29 @@
-// Plays conversations that stand in text files: what a client sends, and what the server must answer, to the byte.
-//
-// It prints a line for each file, and one for each conversation that goes otherwise. The words name the files.
+//! Plays conversations that stand in text files: what a client sends, and what the server must answer, to the byte. The words name the
+//! files. It prints a line for each file, and one for each conversation that goes otherwise.
+//!
+//! Then it plays worked rows, one a line of the input, and prints under each what it gives:
+//!
+//! ```text
+//! serve TEXT               what a connection on which a text comes hands back
+//! account N, owner N       the name of an account of the small book, the owner of a grain
+//! run N                    the live run of a grain
+//! random                   whether two secrets of the system differ
+//! requests|COUNT|SEED      the requests of a seed; `digest` their length and digest
+//! line|WORD|WORD ..        the line that words are
+//! ```
 #![tactic(auto)]
 
+mod connections;
 mod conversation;
 mod door;
+mod fault;
+mod making;
 mod notation;
 mod play;
 mod reading;
 
+use crate::connections::{connected, drawn_twice};
+use crate::making::made_of;
 use crate::play::differences;
 use crate::reading::conversations;
 use std::{env, fs, io};
@@ -41,9 +56,42 @@ fn play_file(rt: &HostRuntime, name: &str) -> io::Result<()> {
     Ok(())
 }
 
+// Plays a row of requests or of words.
+fn play_made(rt: &HostRuntime, row: &str) -> io::Result<()> {
+    match made_of(rt.alloc(), row) {
+        Ok(text) => println!(rt; "{row}\n    {text}"),
+        Err(fault) => println!(rt; "{row}\n    {fault}"),
+    }
+}
+
+// Plays a row of a connection or of the small book.
+fn play_connection(rt: &HostRuntime, row: &str) -> io::Result<()> {
+    match connected(rt.alloc(), row) {
+        Ok(text) => println!(rt; "{row}\n    {text}"),
+        Err(fault) => println!(rt; "{row}\n    {fault}"),
+    }
+}
+
+// Plays a row.
+fn play_row(rt: &HostRuntime, row: &str) -> io::Result<()> {
+    if row == "random" {
+        let (told, faults) = drawn_twice(rt);
+        return println!(rt; "{row}\n    {told}, {faults} faults");
+    }
+    let (word, _) = row.split_once('|').unwrap_or((row, ""));
+    match word {
+        "requests" | "digest" | "line" => play_made(rt, row),
+        _ => play_connection(rt, row),
+    }
+}
+
 fn main(rt: HostRuntime) -> io::Result<()> {
     for name in env::args(&rt)?.skip(1) {
         play_file(&rt, name.as_str())?;
+    }
+    for row in rt.lines(rt.alloc()) {
+        let row = row?;
+        play_row(&rt, row.as_str())?;
     }
     Ok(())
 }

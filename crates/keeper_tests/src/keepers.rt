@@ -4,7 +4,7 @@ use cloud_keeper::{KeepFault, Keeper, MemKeeper, Row};
 use host_base::{Fails, Memory};
 use plain_data::List;
 use sql_keeper::SqlKeeper;
-use sqlite::{Connection, Error, ErrorCode, MemStore};
+use sqlite::{Alter, Connection, Error, ErrorCode, MemStore};
 use std::alloc::Global;
 
 /// A keeper of one kind or the other.
@@ -88,8 +88,8 @@ fn commit_any<K: Keeper>(alloc: Global, keeper: &mut K, row: &Row) -> Result<(),
 }
 
 /// Runs statements on a database.
-pub fn run_batch(
-    opened: &mut Result<Connection<MemStore>, Error>,
+pub fn run_batch<S: Alter>(
+    opened: &mut Result<Connection<S>, Error>,
     text: &str,
 ) -> Result<(), Error> {
     match opened {

@@ -1,8 +1,9 @@
-//! Plays runs of grains as real processes: a spawner that starts this very program, the link to the runs, and the door through which
-//! they are reached. With the words `grain SOCKET COUNT` it is the program of a run.
+//! Plays what stands outside a server: clocks, the door over TCP with its clients, and runs of grains as real processes: a spawner that
+//! starts this very program, the link to the runs, and the door through which they are reached. With the words `grain SOCKET COUNT` it is the program of a run.
 #![tactic(auto)]
 
 mod clients;
+mod clocks;
 mod door;
 mod folders;
 mod grain;
@@ -10,6 +11,7 @@ mod one_run;
 mod play;
 mod runs;
 mod stage;
+mod tcp;
 mod texts;
 
 use crate::grain::grain;

@@ -1,4 +1,5 @@
-//! Plays worked rows of tables as bytes, one word a line of the input:
+//! Shows the first account's row, where all goes well, and where the store or the secrets fail. Then it plays worked rows of tables as
+//! bytes, one word a line of the input:
 //!
 //! ```text
 //! book                  the rows are those of the small book, which are printed
@@ -16,15 +17,18 @@
 //! ```
 #![tactic(auto)]
 
+mod accounts;
 mod notation;
 mod playing;
 mod single;
 
+use crate::accounts::accounts;
 use crate::playing::{Play, answer};
 use std::io;
 
 fn main(rt: HostRuntime) -> io::Result<()> {
     let alloc = rt.alloc();
+    accounts(&rt)?;
     let mut state = Play::new(alloc);
     for line in rt.lines(alloc) {
         let line = line?;

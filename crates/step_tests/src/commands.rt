@@ -57,9 +57,13 @@ fn manifest(alloc: Global, written: &str) -> Result<Manifest, NoAnswer> {
     }
 }
 
-/// The command that words state.
-pub(crate) fn read_command(alloc: Global, words: &mut Words<'_>) -> Result<Command, NoAnswer> {
-    match words.word() {
+/// The command that a word and those after it state.
+pub(crate) fn read_command(
+    alloc: Global,
+    asked: &str,
+    words: &mut Words<'_>,
+) -> Result<Command, NoAnswer> {
+    match asked {
         "add_account" => add_account(alloc, words),
         "set_admin" => Ok(Command::SetAdmin(AccountId(words.number()), switch(words))),
         "set_enabled" => Ok(Command::SetEnabled(AccountId(words.number()), switch(words))),
@@ -74,14 +78,26 @@ pub(crate) fn read_command(alloc: Global, words: &mut Words<'_>) -> Result<Comma
     }
 }
 
-/// Who calls: a person of the small book, or whoever has a login of a digest.
+// The byte of the secret that a person of the small book logs in by.
+fn byte_of(who: &str) -> Option<u8> {
+    match who {
+        "ada" => Some(1),
+        "zoe" => Some(2),
+        "ben" => Some(3),
+        "dan" => Some(4),
+        _ => None,
+    }
+}
+
+/// Who calls: a person of the small book, or whoever shows a secret of a digest.
 pub(crate) fn caller(alloc: Global, who: &str, words: &mut Words<'_>) -> Result<Caller, NoAnswer> {
-    let byte = match who {
-        "ada" => 1,
-        "zoe" => 2,
-        "ben" => 3,
-        "dan" => 4,
-        _ => return Ok(Caller::Login(digest(alloc, words)?)),
-    };
-    Ok(Caller::Login(token_digest(alloc, &Secret([byte; 32]))?))
+    if let Some(byte) = byte_of(who) {
+        return Ok(Caller::Login(token_digest(alloc, &Secret([byte; 32]))?));
+    }
+    let digest = digest(alloc, words)?;
+    match who {
+        "bearer" => Ok(Caller::Bearer(digest)),
+        "either" => Ok(Caller::Either(digest)),
+        _ => Ok(Caller::Login(digest)),
+    }
 }

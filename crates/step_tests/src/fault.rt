@@ -16,6 +16,10 @@ pub(crate) enum NoAnswer {
     NoHandle,
     #[error("the manifest has a fault")]
     NoManifest,
+    #[error("a login names a grain, and a bearer none")]
+    OtherForm,
+    #[error("there are too many sessions")]
+    ManySessions,
     #[error("out of memory")]
     Memory,
 }

@@ -6,7 +6,7 @@
 //! account ada 01 admin        adds a row, in the notation of `state_text`
 //! each 5 to 40 account u% %   adds a row for each number, whose four hexadecimal digits stand for `%`
 //! event EVENT                 performs an event: the row that it names, and the rows that are others then, before and after
-//! WHO COMMAND                 gives a command to the desk of accounts, and performs its event
+//! WHO COMMAND                 gives a command to a desk, and performs its event
 //! solve                       solves the state as it is, and keeps a copy of it solved
 //! live EVENT                  performs an event on that copy: the size of its region, and how many tests of the most took solving it
 //! keep EVENT                  the same, without a count of the tests
@@ -28,12 +28,22 @@
 //! claim GRANT ; HANDLE   a row of a grant and one of a handle
 //! ```
 //!
-//! WHO is ada, zoe, ben or dan, or `by DIGEST`. A COMMAND is
+//! WHO is ada, zoe, ben or dan, each with its login, or one of
+//!
+//! ```text
+//! by DIGEST     login DIGEST     bearer DIGEST     either DIGEST
+//! ```
+//!
+//! of which the first two are the same. A COMMAND is one for the desk of accounts, or for that of sessions:
 //!
 //! ```text
 //! add_account TEXT TEXT [drawing DIGEST]     set_admin N on|off     set_enabled N on|off     add_app APP
 //! new_grain N TEXT     trash N     untrash N
+//! start_run [on N] [drawing DIGEST]     stop_run N
+//! open_session [on N] [tab N] [drawing DIGEST]     close_session N
 //! ```
+//!
+//! Of a command on runs and sessions it is said how far it gets before it draws, and what the desk answers.
 //!
 //! A SECRET is `N`, 32 bytes N, or `seq N`, the one of a number in sequence. A DIGEST is `token SECRET`, `key SECRET`, or as in states.
 //! Lines that begin a state or ask are printed, and after each question its answer; of the others those that can't be read.
@@ -48,6 +58,7 @@ mod fault;
 mod live;
 mod playing;
 mod regions;
+mod sessions;
 mod stepping;
 mod tally;
 

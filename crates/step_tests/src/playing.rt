@@ -7,6 +7,7 @@ use crate::events::event;
 use crate::fault::NoAnswer;
 use crate::live::Live;
 use crate::regions::{put_feeding, put_seeds};
+use crate::sessions::{put_session_command, read_session_command};
 use crate::stepping::put_step;
 use share_graph::{State, clash, copy_of};
 use small_book::small_book;
@@ -53,9 +54,18 @@ fn put_decision(
     words: &mut Words<'_>,
 ) -> Result<(), NoAnswer> {
     let caller = caller(alloc, who, words)?;
-    let command = read_command(alloc, words)?;
-    words.end()?;
-    put_command(alloc, out, state, &caller, &command)
+    match words.word() {
+        asked @ ("start_run" | "stop_run" | "open_session" | "close_session") => {
+            let command = read_session_command(alloc, asked, words)?;
+            words.end()?;
+            put_session_command(alloc, out, state, &caller, command)
+        }
+        asked => {
+            let command = read_command(alloc, asked, words)?;
+            words.end()?;
+            put_command(alloc, out, state, &caller, &command)
+        }
+    }
 }
 
 // Solves the state as it is, and keeps it solved.
@@ -200,6 +210,9 @@ fn is_question(word: &str) -> bool {
             | "ben"
             | "dan"
             | "by"
+            | "login"
+            | "bearer"
+            | "either"
     )
 }
 

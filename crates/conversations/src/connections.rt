@@ -1,6 +1,5 @@
-//! Plays worked rows of one connection, of the small book and of the system's secrets, one a line of the input: what a connection on
-//! which a text comes hands back, rows of the book, and whether two secrets differ.
-#![tactic(auto)]
+//! Rows of one connection, of the small book and of the system's secrets: what a connection on which a text comes hands back, rows of
+//! the book, and whether two secrets differ.
 
 use admin_run::{book_keeper, small_desk};
 use cloud_keeper::MemKeeper;
@@ -13,7 +12,6 @@ use rand::rngs::SysRng;
 use share_graph::{State, account, grain, live_run};
 use small_book::small_book;
 use std::alloc::{AllocError, Global};
-use std::io;
 use system_secrets::RngSecrets;
 
 // The bytes of a text in which `\r` and `\n` stand for the bytes that they name.
@@ -87,16 +85,17 @@ fn found(alloc: Global, word: &str, number: &str) -> Result<String, Memory> {
     }
 }
 
-// What a line of the input gives.
-fn played(alloc: Global, word: &str, rest: &str) -> Result<String, Memory> {
+/// What a row of a connection or of the small book gives.
+pub(crate) fn connected(alloc: Global, row: &str) -> Result<String, Memory> {
+    let (word, rest) = row.split_once(' ').unwrap_or((row, ""));
     match word {
         "serve" => served(alloc, rest),
         _ => found(alloc, word, rest),
     }
 }
 
-// Two secrets of the system: whether they differ, and how many faults there were.
-fn drawn_twice(rt: &HostRuntime) -> (&'static str, u64) {
+/// Two secrets of the system: whether they differ, and how many faults there were.
+pub(crate) fn drawn_twice(rt: &HostRuntime) -> (&'static str, u64) {
     let mut secrets = RngSecrets::new(SysRng::new(rt));
     let first = secrets.draw();
     let second = secrets.draw();
@@ -111,22 +110,4 @@ fn drawn_twice(rt: &HostRuntime) -> (&'static str, u64) {
         _ => "no secret",
     };
     (told, secrets.faults())
-}
-
-fn main(rt: HostRuntime) -> io::Result<()> {
-    let alloc = rt.alloc();
-    for line in rt.lines(alloc) {
-        let line = line?;
-        if line.as_str() == "random" {
-            let (told, faults) = drawn_twice(&rt);
-            println!(rt; "{line}\n    {told}, {faults} faults")?;
-            continue;
-        }
-        let (word, rest) = line.split_once(' ').unwrap_or((line.as_str(), ""));
-        match played(alloc, word, rest) {
-            Ok(text) => println!(rt; "{line}\n    {text}")?,
-            Err(fault) => println!(rt; "{line}\n    {fault}")?,
-        }
-    }
-    Ok(())
 }

@@ -1,15 +1,10 @@
-//! Plays worked rows, one a line of the input, its parts between `|`: the requests of a seed, and the lines that words are. Under
-//! each row it prints what the row gives.
-#![tactic(auto)]
-
-mod fault;
+//! Rows, their parts between `|`, of the requests of a seed, and of the lines that words are.
 
 use crate::fault::Fault;
 use command_line::line_of;
 use host_base::digest_of;
 use request_maker::generate;
 use std::alloc::Global;
-use std::io;
 
 // The requests of a row's number and seed.
 fn made(alloc: Global, row: &str) -> Result<Vec<u8>, Fault> {
@@ -53,8 +48,8 @@ fn words_of(alloc: Global, row: &str) -> Result<Vec<String>, Fault> {
     Ok(words)
 }
 
-// What a row gives.
-fn played(alloc: Global, row: &str) -> Result<String, Fault> {
+/// What a row of requests or of words gives.
+pub(crate) fn made_of(alloc: Global, row: &str) -> Result<String, Fault> {
     let (word, rest) = row.split_once('|').unwrap_or((row, ""));
     match word {
         "requests" => requests(alloc, rest),
@@ -62,16 +57,4 @@ fn played(alloc: Global, row: &str) -> Result<String, Fault> {
         "line" => line(alloc, words_of(alloc, row)?.as_slice()),
         _ => Err(Fault::Unreadable),
     }
-}
-
-fn main(rt: HostRuntime) -> io::Result<()> {
-    let alloc = rt.alloc();
-    for row in rt.lines(alloc) {
-        let row = row?;
-        match played(alloc, row.as_str()) {
-            Ok(text) => println!(rt; "{row}\n    {text}")?,
-            Err(fault) => println!(rt; "{row}\n    {fault}")?,
-        }
-    }
-    Ok(())
 }

@@ -1,14 +1,14 @@
-//! What becomes of a command.
+//! Commands on runs and sessions, and what becomes of them.
 
 ghost use Rattle.std.specs.Prelude.{IsTrue, ◌<◌, ◌-◌, ◌^◌, length};
 ghost use Rattle.share_graph.specs.WellFormed.{IsWellFormed};
 ghost use Rattle.least_access.specs.Solved.{IsSolutionOf};
 ghost use Rattle.session_desk.specs.Calling.{NamesGrain};
 
-use crate::commands::Command;
 use crate::differing::put_differences;
+use crate::drawing::digest;
 use crate::fault::NoAnswer;
-use host_base::{Digest, GrainId};
+use host_base::{Digest, GrainId, SessionId};
 use least_access::Solved;
 use live_access::solve;
 use session_desk::{
@@ -16,6 +16,7 @@ use session_desk::{
 };
 use share_graph::{Caller, DeskFault, Event, Outcome, Readiness, State, copy_of};
 use state_step::after;
+use state_text::Words;
 use std::alloc::{AllocError, Global};
 use std::fmt::Write;
 use table_check::is_well_formed;
@@ -23,11 +24,65 @@ use table_check::is_well_formed;
 /// The most sessions of a state that one more is opened in.
 const MOST_SESSIONS: usize = 1_000_000;
 
+/// A command on runs and sessions, with the digest of the secret that is drawn.
+#[derive(Clone, Copy)]
+pub(crate) enum SessionCommand {
+    StartRun(Option<GrainId>, Digest),
+    StopRun(GrainId),
+    OpenSession(Option<GrainId>, Option<u64>, Digest),
+    CloseSession(SessionId),
+}
+
 // What the desk says of a command: how far it gets before it draws, where it does, and what becomes of it.
 #[derive(Drop)]
 struct Reply {
     readiness: Option<Result<Readiness, DeskFault>>,
     outcome: Result<Outcome, DeskFault>,
+}
+
+// The digest that is drawn: the one after `drawing`, or else 32 bytes d0.
+fn drawn(alloc: Global, words: &mut Words<'_>) -> Result<Digest, NoAnswer> {
+    if words.skip("drawing") {
+        return digest(alloc, words);
+    }
+    Ok(Digest([0xd0; 32]))
+}
+
+// The grain that is named, if one is.
+fn named(words: &mut Words<'_>) -> Option<GrainId> {
+    if words.skip("on") {
+        return Some(GrainId(words.number()));
+    }
+    None
+}
+
+// The tab that is named, if one is.
+fn tab(words: &mut Words<'_>) -> Option<u64> {
+    if words.skip("tab") {
+        return Some(words.long_number());
+    }
+    None
+}
+
+/// The command on runs and sessions that a word and those after it state.
+pub(crate) fn read_session_command(
+    alloc: Global,
+    asked: &str,
+    words: &mut Words<'_>,
+) -> Result<SessionCommand, NoAnswer> {
+    match asked {
+        "start_run" => {
+            let grain = named(words);
+            Ok(SessionCommand::StartRun(grain, drawn(alloc, words)?))
+        }
+        "stop_run" => Ok(SessionCommand::StopRun(GrainId(words.number()))),
+        "open_session" => {
+            let grain = named(words);
+            let tab = tab(words);
+            Ok(SessionCommand::OpenSession(grain, tab, drawn(alloc, words)?))
+        }
+        _ => Ok(SessionCommand::CloseSession(SessionId(words.number()))),
+    }
 }
 
 // Whether a login names a grain, or a bearer none.
@@ -88,20 +143,20 @@ fn decided(
     state: &State,
     solved: &Solved,
     caller: &Caller,
-    command: Command,
+    command: SessionCommand,
 ) -> Result<Reply, NoAnswer>
     requires formed { IsWellFormed state.now }
     requires solution { IsSolutionOf state.now.tables solved.now }
 {
     let outcome = match command {
-        Command::StartRun(num, digest) => {
+        SessionCommand::StartRun(num, digest) => {
             return start_decided(state, solved, caller, num, digest);
         }
-        Command::OpenSession(num, tab, digest) => {
+        SessionCommand::OpenSession(num, tab, digest) => {
             return open_decided(state, solved, caller, num, tab, digest);
         }
-        Command::StopRun(num) => stop_run(state, solved, caller, num),
-        Command::CloseSession(num) => close_session(state, solved, caller, num),
+        SessionCommand::StopRun(num) => stop_run(state, solved, caller, num),
+        SessionCommand::CloseSession(num) => close_session(state, solved, caller, num),
     };
     Ok(Reply {
         readiness: None,
@@ -170,13 +225,13 @@ fn put_reply(
     put_outcome(alloc, out, state, reply.outcome)
 }
 
-/// Appends what becomes of a command, and performs its event.
-pub(crate) fn put_command(
+/// Appends what becomes of a command on runs and sessions, and performs its event.
+pub(crate) fn put_session_command(
     alloc: Global,
     out: &mut String,
     state: &mut State,
     caller: &Caller,
-    command: Command,
+    command: SessionCommand,
 ) -> Result<(), NoAnswer> {
     if !is_well_formed(state) {
         return Err(NoAnswer::IllFormed);

@@ -59,7 +59,7 @@ fn second(rt: &HostRuntime, port: u16) -> io::Result<()> {
 }
 
 /// A door on a free port, and another on the same one.
-pub fn doors(rt: &HostRuntime) -> io::Result<()> {
+pub fn tcp_doors(rt: &HostRuntime) -> io::Result<()> {
     println!(rt; "a door on a free port")?;
     let mut door = TcpDoor::bind(rt, 0);
     let bound = door.is_bound();
