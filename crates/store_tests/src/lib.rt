@@ -1,7 +1,7 @@
 //! Shows what a server that opens again holds: the rows of the small book there and back, a database in memory that is opened, ordered
 //! from, closed and opened again, an opening that failed, and openings of bad rows and of none.
 //!
-//! Each line of the input is an order at the database: an account, and what it asks for.
+//! Each line is an order at the database: an account, and what it asks for.
 //!
 //! ```text
 //! WHO account HANDLE NAME    a new account
@@ -47,12 +47,12 @@ fn show(rt: &HostRuntime, title: &str, told: Result<String, Memory>) -> io::Resu
     Ok(())
 }
 
-fn main(rt: HostRuntime) -> io::Result<()> {
+/// Shows what a server that opens again holds, after the orders of a text, one a line.
+pub fn play_rows(rt: &HostRuntime, orders: &str) -> io::Result<()> {
     let alloc = rt.alloc();
-    let orders = io::read_to_string(alloc, rt.reader())?;
-    show(&rt, "the small book", there_and_back(alloc))?;
-    show(&rt, "a database", database(alloc, orders.as_str()))?;
-    show(&rt, "a keeper whose first call fails", failed(alloc))?;
-    show(&rt, "a short row", bad_row(alloc))?;
-    show(&rt, "a database without rows", no_rows(alloc))
+    show(rt, "the small book", there_and_back(alloc))?;
+    show(rt, "a database", database(alloc, orders))?;
+    show(rt, "a keeper whose first call fails", failed(alloc))?;
+    show(rt, "a short row", bad_row(alloc))?;
+    show(rt, "a database without rows", no_rows(alloc))
 }

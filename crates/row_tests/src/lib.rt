@@ -1,5 +1,5 @@
 //! Shows the first account's row, where all goes well, and where the store or the secrets fail. Then it plays worked rows of tables as
-//! bytes, one word a line of the input:
+//! bytes, one word a line:
 //!
 //! ```text
 //! book                  the rows are those of the small book, which are printed
@@ -26,17 +26,17 @@ use crate::accounts::accounts;
 use crate::playing::{Play, answer};
 use std::io;
 
-fn main(rt: HostRuntime) -> io::Result<()> {
+/// Shows what became of first accounts, and then plays rows, one a line, and prints under each what it gives.
+pub fn play_rows(rt: &HostRuntime, rows: &str) -> io::Result<()> {
     let alloc = rt.alloc();
-    accounts(&rt)?;
+    accounts(rt)?;
     let mut state = Play::new(alloc);
-    for line in rt.lines(alloc) {
-        let line = line?;
+    for line in rows.lines() {
         if line.is_empty() || line.starts_with('#') {
             continue;
         }
         println!(rt; "{line}")?;
-        match answer(alloc, &mut state, line.as_str()) {
+        match answer(alloc, &mut state, line) {
             Ok(text) => {
                 for part in text.lines() {
                     println!(rt; "    {part}")?;

@@ -1,4 +1,4 @@
-//! Plays worked rows of `desk_bodies` and `reply_texts`, one a line of the input: what a body states, and the answers of the server's
+//! Plays worked rows of `desk_bodies` and `reply_texts`, one a line: what a body states, and the answers of the server's
 //! own, to the byte.
 //!
 //! ```text
@@ -62,11 +62,11 @@ fn played(alloc: Global, word: &str, rest: &str) -> Result<String, AllocError> {
     }
 }
 
-fn main(rt: HostRuntime) -> io::Result<()> {
+/// Plays rows, one a line, and prints under each what it gives.
+pub fn play_rows(rt: &HostRuntime, rows: &str) -> io::Result<()> {
     let alloc = rt.alloc();
-    for line in rt.lines(alloc) {
-        let line = line?;
-        let (word, rest) = line.split_once(' ').unwrap_or((line.as_str(), ""));
+    for line in rows.lines() {
+        let (word, rest) = line.split_once(' ').unwrap_or((line, ""));
         let text = played(alloc, word, rest)?;
         println!(rt; "{line}\n    {text}")?;
     }

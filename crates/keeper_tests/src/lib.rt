@@ -1,4 +1,4 @@
-//! Plays worked rows of keepers of rows, one word a line of the input:
+//! Plays worked rows of keepers of rows, one word a line:
 //!
 //! ```text
 //! mem CALL..            a keeper in memory without rows, which fails at these calls
@@ -39,7 +39,7 @@ use host_base::Memory;
 use std::io;
 
 // Plays a line on the keeper that is played with, prints what it comes to, and hands back the keeper after it.
-fn play(rt: &HostRuntime, kept: Kept, line: &str) -> io::Result<Kept> {
+fn play_line(rt: &HostRuntime, kept: Kept, line: &str) -> io::Result<Kept> {
     let alloc = rt.alloc();
     match answer(alloc, kept, line) {
         Ok((after, text)) => {
@@ -73,18 +73,18 @@ fn is_judged(rt: &HostRuntime, line: &str) -> io::Result<bool> {
     }
 }
 
-fn main(rt: HostRuntime) -> io::Result<()> {
+/// Plays rows, one a line, and prints under each what it gives.
+pub fn play_rows(rt: &HostRuntime, rows: &str) -> io::Result<()> {
     let alloc = rt.alloc();
     are_sent();
     let mut kept = Kept::in_memory(alloc);
-    for line in rt.lines(alloc) {
-        let line = line?;
+    for line in rows.lines() {
         if line.is_empty() || line.starts_with('#') {
             continue;
         }
         println!(rt; "{line}")?;
-        if !is_judged(&rt, line.as_str())? {
-            kept = play(&rt, kept, line.as_str())?;
+        if !is_judged(rt, line)? {
+            kept = play_line(rt, kept, line)?;
         }
     }
     Ok(())

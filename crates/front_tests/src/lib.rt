@@ -1,10 +1,12 @@
-//! Plays worked rows of `front_http`, one a line of the input: what a stream gives however it is cut, what a request is for, what a
+//! Plays worked rows of `front_http`, one a line: what a stream gives however it is cut, what a request is for, what a
 //! target passes on, and the texts of answers.
 #![tactic(auto)]
 
 ghost use Rattle.std.specs.Prelude.{◌<◌};
 
-use front_http::{RequestReader, Routes, memory_reply, refusal_body, reply_text, use_target};
+use front_http::{
+    FrontFault, RequestReader, Routes, memory_reply, refusal_body, reply_text, use_target,
+};
 use host_base::{Fails, MemSource, Request, Source};
 use std::alloc::{AllocError, Global};
 use std::io;
@@ -37,8 +39,7 @@ fn host_text(request: &Request) -> &str {
     str::from_utf8(request.host.as_slice()).unwrap_or("?")
 }
 
-// Some words where something is so, or none. A choice that stands in a function of its own is proved once: inside a longer one,
-// what follows it would be proved for each way through.
+// Some words where something is so, or none.
 fn where_so(is_so: bool, words: &'static str) -> &'static str {
     if is_so { words } else { "" }
 }
@@ -56,24 +57,28 @@ fn shown(alloc: Global, request: &Request) -> Result<String, AllocError> {
     )
 }
 
+// What a reader gave, in a few words, and whether more may follow.
+fn line_of(
+    alloc: Global,
+    given: Result<Option<Request>, FrontFault>,
+) -> Result<(String, bool), AllocError> {
+    match given {
+        Ok(Some(request)) => Ok((shown(alloc, &request)?, true)),
+        Ok(None) => Ok((String::from_str(alloc, "done")?, false)),
+        Err(fault) => Ok((format!(in alloc; "{fault:?}")?, false)),
+    }
+}
+
 // The requests of a source, at most ten, and how it ends.
 fn told<I: Source>(alloc: Global, input: &mut I) -> Result<String, AllocError> {
     let mut reader = RequestReader::new(alloc);
     let mut text = String::new(alloc);
     for _ in 0..10u8 {
-        let line = match reader.next(alloc, input) {
-            Ok(Some(request)) => shown(alloc, &request)?,
-            Ok(None) => {
-                text.push_str("done")?;
-                return Ok(text);
-            }
-            Err(fault) => {
-                let line = format!(in alloc; "{fault:?}")?;
-                text.push_str(line.as_str())?;
-                return Ok(text);
-            }
-        };
+        let (line, goes_on) = line_of(alloc, reader.next(alloc, input))?;
         text.push_str(line.as_str())?;
+        if !goes_on {
+            break;
+        }
     }
     Ok(text)
 }
@@ -112,25 +117,32 @@ fn repeated(alloc: Global, count: usize, texts: &str) -> Result<Vec<u8>, AllocEr
     Ok(bytes)
 }
 
-// The answers of a reader over a source that fails at its second call.
-fn told_of_faults(alloc: Global, stream: &[u8]) -> Result<String, AllocError> {
+// The answers of a reader over a source of this stream that fails at its second call.
+fn told_of_faults(alloc: Global, texts: &str) -> Result<String, AllocError> {
     let mut second = Vec::new(alloc);
     second.push(2)?;
-    let mut input = MemSource::new(Vec::from_slice(alloc, stream)?, Fails::new(second));
+    let mut input = MemSource::new(bytes_of(alloc, texts)?, Fails::new(second));
     let mut reader = RequestReader::new(alloc);
     let first = reader.next(alloc, &mut input).err();
     let again = reader.next(alloc, &mut input).err();
     format!(in alloc; "{first:?} {again:?} {}", input.faults())
 }
 
-// What a request to a host with this line is for.
-fn route_of(alloc: Global, routes: &Routes, host: &str, line: &str) -> Result<String, AllocError> {
+// The first request of a stream, if it has one.
+fn request_of(alloc: Global, stream: &[u8]) -> Result<Option<Request>, AllocError> {
+    let stream = Vec::from_slice(alloc, stream)?;
+    let mut input = MemSource::new(stream, Fails::new(Vec::new(alloc)));
+    let mut reader = RequestReader::new(alloc);
+    Ok(reader.next(alloc, &mut input).unwrap_or(None))
+}
+
+// What a request to a host with a line is for, both of which the text tells.
+fn route_of(alloc: Global, routes: &Routes, rest: &str) -> Result<String, AllocError> {
+    let (host, line) = word_and_rest(rest);
     let head = format!(in alloc; "{line} HTTP/1.1\r\nHost: {host}\r\n\r\n")?;
-    let bytes = Vec::from_slice(alloc, head.as_bytes())?;
-    let mut input = MemSource::new(bytes, Fails::new(Vec::new(alloc)));
-    match RequestReader::new(alloc).next(alloc, &mut input) {
-        Ok(Some(request)) => format!(in alloc; "{:?}", routes.route(&request)),
-        _ => String::from_str(alloc, "no request"),
+    match request_of(alloc, head.as_bytes())? {
+        Some(request) => format!(in alloc; "{:?}", routes.route(&request)),
+        None => String::from_str(alloc, "no request"),
     }
 }
 
@@ -140,6 +152,11 @@ fn passed_on(alloc: Global, target: &str) -> Result<String, AllocError> {
         Ok(None) => String::from_str(alloc, "none"),
         Err(_) => Err(AllocError),
     }
+}
+
+// Bytes as a literal, or that they are no text.
+fn literal(alloc: Global, bytes: &[u8]) -> Result<String, AllocError> {
+    format!(in alloc; "{:?}", str::from_utf8(bytes))
 }
 
 // The refusal of this name and these numbers.
@@ -155,7 +172,7 @@ fn refusal(
     let Ok(reply) = reply_text(alloc, 403, false, body.as_slice(), head_only) else {
         return Err(AllocError);
     };
-    format!(in alloc; "{:?}", str::from_utf8(&reply))
+    literal(alloc, &reply)
 }
 
 // An answer of plain text.
@@ -163,37 +180,51 @@ fn plain(alloc: Global, text: &str) -> Result<String, AllocError> {
     let Ok(reply) = reply_text(alloc, 200, true, text.as_bytes(), false) else {
         return Err(AllocError);
     };
-    format!(in alloc; "{:?}", str::from_utf8(&reply))
+    literal(alloc, &reply)
+}
+
+// The first word of a line, and what follows it.
+fn word_and_rest(line: &str) -> (&str, &str) {
+    line.split_once(' ').unwrap_or((line, ""))
+}
+
+// What a stream gives that is written as one word of a line.
+fn told_of_stream(alloc: Global, texts: &str) -> Result<String, AllocError> {
+    let stream = bytes_of(alloc, texts)?;
+    told_anyhow(alloc, stream.as_slice())
+}
+
+// What a stream gives that repeats a text: how often, and the texts.
+fn told_of_repeated(alloc: Global, rest: &str) -> Result<String, AllocError> {
+    let (count, texts) = word_and_rest(rest);
+    let stream = repeated(alloc, count.parse::<usize>().unwrap_or(0), texts)?;
+    told_anyhow(alloc, stream.as_slice())
 }
 
 // What a line of the input gives.
 fn played(alloc: Global, routes: &Routes, word: &str, rest: &str) -> Result<String, AllocError> {
-    let (first, second) = rest.split_once(' ').unwrap_or((rest, ""));
     match word {
-        "stream" => told_anyhow(alloc, bytes_of(alloc, rest)?.as_slice()),
-        "repeat" => {
-            let count = first.parse::<usize>().unwrap_or(0);
-            told_anyhow(alloc, repeated(alloc, count, second)?.as_slice())
-        }
-        "fault" => told_of_faults(alloc, bytes_of(alloc, rest)?.as_slice()),
-        "route" => route_of(alloc, routes, first, second),
+        "stream" => told_of_stream(alloc, rest),
+        "repeat" => told_of_repeated(alloc, rest),
+        "fault" => told_of_faults(alloc, rest),
+        "route" => route_of(alloc, routes, rest),
         "use" => passed_on(alloc, rest),
         "refusal" => refusal(alloc, rest, &[3, 1], false),
         "head" => refusal(alloc, rest, &[], true),
         "plain" => plain(alloc, rest),
-        "memory" => format!(in alloc; "{:?}", str::from_utf8(memory_reply(rest == "head"))),
+        "memory" => literal(alloc, memory_reply(rest == "head")),
         _ => String::from_str(alloc, "no such word"),
     }
 }
 
-fn main(rt: HostRuntime) -> io::Result<()> {
+/// Plays rows, one a line, and prints under each what it gives.
+pub fn play_rows(rt: &HostRuntime, rows: &str) -> io::Result<()> {
     let alloc = rt.alloc();
     let Ok(routes) = Routes::new(alloc) else {
         return Ok(());
     };
-    for line in rt.lines(alloc) {
-        let line = line?;
-        let (word, rest) = line.split_once(' ').unwrap_or((line.as_str(), ""));
+    for line in rows.lines() {
+        let (word, rest) = word_and_rest(line);
         let text = played(alloc, &routes, word, rest)?;
         println!(rt; "{line}\n    {text}")?;
     }

@@ -1,7 +1,7 @@
-//! Plays conversations that stand in text files: what a client sends, and what the server must answer, to the byte. The words name the
-//! files. It prints a line for each file, and one for each conversation that goes otherwise.
+//! Plays conversations that stand in texts: what a client sends, and what the server must answer, to the byte. It prints a line for
+//! each text, and one for each conversation that goes otherwise.
 //!
-//! Then it plays worked rows, one a line of the input, and prints under each what it gives:
+//! It also plays worked rows, one a line, and prints under each what it gives:
 //!
 //! ```text
 //! serve TEXT               what a connection on which a text comes hands back
@@ -26,13 +26,12 @@ use crate::connections::{connected, drawn_twice};
 use crate::making::made_of;
 use crate::play::differences;
 use crate::reading::conversations;
-use std::{env, fs, io};
+use std::io;
 
-// Plays the conversations of a file.
-fn play_file(rt: &HostRuntime, name: &str) -> io::Result<()> {
+/// Plays the conversations of a text with a name, and prints how many went otherwise.
+pub fn play_conversations(rt: &HostRuntime, name: &str, text: &str) -> io::Result<()> {
     let alloc = rt.alloc();
-    let text = fs::read_to_string(rt, name)?;
-    let read = match conversations(alloc, text.as_str())? {
+    let read = match conversations(alloc, text)? {
         Ok(read) => read,
         Err(number) => {
             println!(rt; "{name}: line {number} can't be read")?;
@@ -85,13 +84,10 @@ fn play_row(rt: &HostRuntime, row: &str) -> io::Result<()> {
     }
 }
 
-fn main(rt: HostRuntime) -> io::Result<()> {
-    for name in env::args(&rt)?.skip(1) {
-        play_file(&rt, name.as_str())?;
-    }
-    for row in rt.lines(rt.alloc()) {
-        let row = row?;
-        play_row(&rt, row.as_str())?;
+/// Plays rows, one a line, and prints under each what it gives.
+pub fn play_rows(rt: &HostRuntime, rows: &str) -> io::Result<()> {
+    for row in rows.lines() {
+        play_row(rt, row)?;
     }
     Ok(())
 }

@@ -1,4 +1,4 @@
-//! Plays worked rows of registries of sites, one a line of the input, its parts between `|`: the sites, a call, and what it is
+//! Plays worked rows of registries of sites, one a line, its parts between `|`: the sites, a call, and what it is
 //! given. The sites are those of the club, with stored closures (`club`) or without (`plain`), two drivers of the club (`twice`), five
 //! drivers of the tags 30, 9, 12, 9 and 30 (`five`), or three sites of lists of items (`lists`), of which `!` marks those for admins
 //! alone. The lists are the parts behind the first, and the drivers are registered in this order: 30, 9, 12.
@@ -144,11 +144,10 @@ fn answer(rt: &impl Threads, alloc: Global, row: &str) -> Result<String, Fault> 
     }
 }
 
-fn main(rt: HostRuntime) -> io::Result<()> {
-    let alloc = rt.alloc();
-    for row in rt.lines(alloc) {
-        let row = row?;
-        match answer(&rt, alloc, row.as_str()) {
+/// Plays rows, one a line, and prints under each what it gives.
+pub fn play_rows<R: Print + Threads>(rt: &R, alloc: Global, rows: &str) -> io::Result<()> {
+    for row in rows.lines() {
+        match answer(rt, alloc, row) {
             Ok(text) => println!(rt; "{row}\n    {text}")?,
             Err(fault) => println!(rt; "{row}\n    {fault}")?,
         }

@@ -1,4 +1,4 @@
-//! Plays worked rows of states. A line of the input begins a state, adds a row to one, or asks of it:
+//! Plays worked rows of states. A line begins a state, adds a row to one, or asks of it:
 //!
 //! ```text
 //! state small             begins a state with no rows, of that name
@@ -37,12 +37,12 @@ fn play_line(rt: &impl Print, alloc: Global, shelf: &mut Shelf, line: &str) -> i
     }
 }
 
-fn main(rt: HostRuntime) -> io::Result<()> {
+/// Plays the lines of a text, and prints those that begin or ask with what they come to.
+pub fn play_rows(rt: &HostRuntime, rows: &str) -> io::Result<()> {
     let alloc = rt.alloc();
     let mut shelf = Shelf::new(alloc);
-    for line in rt.lines(alloc) {
-        let line = line?;
-        play_line(&rt, alloc, &mut shelf, line.as_str())?;
+    for line in rows.lines() {
+        play_line(rt, alloc, &mut shelf, line)?;
     }
     Ok(())
 }

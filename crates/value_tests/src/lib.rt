@@ -1,4 +1,4 @@
-//! Plays worked rows of plain values, one a line of the input: names, copies, sources and sinks, permission sets and roles,
+//! Plays worked rows of plain values, one a line: names, copies, sources and sinks, permission sets and roles,
 //! manifests, queries. Under each row it prints what the row gives.
 #![tactic(auto)]
 
@@ -88,11 +88,11 @@ fn answer(alloc: Global, out: &mut String, word: &str, bytes: &[u8]) -> Result<(
     }
 }
 
-fn main(rt: HostRuntime) -> io::Result<()> {
+/// Plays rows, one a line, and prints under each what it gives.
+pub fn play_rows(rt: &HostRuntime, rows: &str) -> io::Result<()> {
     let alloc = rt.alloc();
-    for line in rt.lines(alloc) {
-        let line = line?;
-        let (word, rest) = split_word(line.as_str());
+    for line in rows.lines() {
+        let (word, rest) = split_word(line);
         let bytes = bytes_of(alloc, rest)?;
         let mut text = String::new(alloc);
         answer(alloc, &mut text, word, bytes.as_slice())?;

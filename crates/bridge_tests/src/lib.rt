@@ -1,4 +1,4 @@
-//! Plays worked rows of what passes between a client and a grain, one a line of the input: the texts that grains get, the relay of their
+//! Plays worked rows of what passes between a client and a grain, one a line: the texts that grains get, the relay of their
 //! answers, the ids of users, and the links in memory.
 #![tactic(auto)]
 
@@ -32,11 +32,11 @@ fn played(alloc: Global, word: &str, rest: &str) -> Result<String, Fault> {
     }
 }
 
-fn main(rt: HostRuntime) -> io::Result<()> {
+/// Plays rows, one a line, and prints under each what it gives.
+pub fn play_rows(rt: &HostRuntime, rows: &str) -> io::Result<()> {
     let alloc = rt.alloc();
-    for line in rt.lines(alloc) {
-        let line = line?;
-        let (word, rest) = line.split_once(' ').unwrap_or((line.as_str(), ""));
+    for line in rows.lines() {
+        let (word, rest) = line.split_once(' ').unwrap_or((line, ""));
         match played(alloc, word, rest) {
             Ok(text) => println!(rt; "{line}\n    {text}")?,
             Err(fault) => println!(rt; "{line}\n    {fault}")?,
