@@ -168,8 +168,8 @@ fn run_line<C: SiteDriver + Drop>(
     match line_of(rt.alloc(), words)? {
         Line::Serve { port, .. } => run_serve(rt, words, path_of(words), port, sites),
         Line::Check => {
-            let keeper = SqlKeeper::of(Connection::open(rt, path_of(words)));
             let door = MemDoor::new(rt.alloc(), Vec::new(rt.alloc()))?;
+            let keeper = SqlKeeper::of(Connection::open(rt, path_of(words)));
             Ok(run_with(rt, words, keeper, door, sites))
         }
         Line::Grain { .. } => {

@@ -8,7 +8,7 @@ use plain_data::List;
 use row_tables::rows_of;
 use small_book::small_book;
 use sql_keeper::SqlKeeper;
-use sqlite::{Connection, Error, File, FileStore};
+use sqlite::{Alter, Connection, Error, File, FileStore};
 use std::alloc::{AllocError, Global};
 
 // A row whose body is cut to a length, or has one byte more where none is given.
@@ -69,10 +69,9 @@ fn opened(rt: &HostRuntime, name: &str) -> Result<Connection<FileStore<File>>, E
     Connection::open(rt, name)
 }
 
-// What is said of the database in a file.
-fn judge_file(rt: &HostRuntime, name: &str) -> Result<Judged, Memory> {
-    let keeper = SqlKeeper::of(opened(rt, name));
-    let (printed, status, keeper) = judge(rt.alloc(), keeper)?;
+// What is said of a database.
+fn judge_database<S: Alter + Drop>(alloc: Global, keeper: SqlKeeper<S>) -> Result<Judged, Memory> {
+    let (printed, status, keeper) = judge(alloc, keeper)?;
     let faults = keeper.faults();
     Ok(Judged {
         printed,
@@ -81,15 +80,18 @@ fn judge_file(rt: &HostRuntime, name: &str) -> Result<Judged, Memory> {
     })
 }
 
-// Runs statements on the database in a file.
-fn change_file(rt: &HostRuntime, name: &str, text: &str) {
-    let _ = run_batch(&mut opened(rt, name), text);
+// What is said of the database in a file.
+fn judge_file(rt: &HostRuntime, name: &str) -> Result<Judged, Memory> {
+    judge_database(rt.alloc(), SqlKeeper::of(opened(rt, name)))
 }
 
-// Keeps the rows of the small book in the database in a file.
-fn store_book(rt: &HostRuntime, name: &str) -> Result<(), Memory> {
-    let alloc = rt.alloc();
-    let mut keeper = SqlKeeper::of(opened(rt, name));
+// Runs statements on a database, if it was opened.
+fn change<S: Alter + Drop>(mut opened: Result<Connection<S>, Error>, text: &str) {
+    let _ = run_batch(&mut opened, text);
+}
+
+// Keeps the rows of the small book in a database.
+fn store_book<S: Alter + Drop>(alloc: Global, mut keeper: SqlKeeper<S>) -> Result<(), Memory> {
     let Ok(_) = keeper.load(alloc) else {
         return Err(Memory);
     };
@@ -139,11 +141,11 @@ pub fn judged_by(rt: &HostRuntime, line: &str) -> Result<Option<Judged>, Memory>
     match words.as_slice() {
         ["file", name] => Ok(Some(judge_file(rt, name)?)),
         ["change", name, text] => {
-            change_file(rt, name, text);
+            change(opened(rt, name), text);
             Ok(Some(judge_file(rt, name)?))
         }
         ["store", name] => {
-            store_book(rt, name)?;
+            store_book(alloc, SqlKeeper::of(opened(rt, name)))?;
             Ok(Some(judge_file(rt, name)?))
         }
         words => book_by(alloc, words),

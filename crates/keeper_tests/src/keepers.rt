@@ -8,10 +8,19 @@ use sqlite::{Alter, Connection, Error, ErrorCode, MemStore};
 use std::alloc::Global;
 
 /// A keeper of one kind or the other.
-#[derive(Drop)]
 pub enum Kept {
     Mem(MemKeeper),
     Sql(SqlKeeper<MemStore>),
+}
+
+// Written by hand, so that a proof has one call wherever a keeper is let go.
+impl Drop for Kept {
+    fn drop(self) {
+        match self {
+            Kept::Mem(_) => (),
+            Kept::Sql(_) => (),
+        }
+    }
 }
 
 /// A keeper in memory without rows.
@@ -74,9 +83,39 @@ impl Kept {
                 Ok(rows) => Ok(Kept::Mem(MemKeeper::new(rows, fails))),
                 Err(_) => Err(Memory),
             },
-            Kept::Sql(keeper) => Ok(Kept::Sql(SqlKeeper::of(keeper.into_opened()))),
+            Kept::Sql(keeper) => Ok(Kept::Sql(again_over(keeper))),
         }
     }
+
+    /// The keeper after statements are run on its database, and what they come to.
+    pub fn run(self, alloc: Global, text: &str) -> Result<(Self, String), Memory> {
+        match self {
+            Kept::Mem(keeper) => Ok((Kept::Mem(keeper), String::from_str(alloc, "no database")?)),
+            Kept::Sql(keeper) => {
+                let (keeper, answer) = run_over(alloc, keeper, text)?;
+                Ok((Kept::Sql(keeper), answer))
+            }
+        }
+    }
+}
+
+// Another keeper over the same database.
+fn again_over<S: Alter + Drop>(keeper: SqlKeeper<S>) -> SqlKeeper<S> {
+    SqlKeeper::of(keeper.into_opened())
+}
+
+// Another keeper over a database on which statements were run, and what they came to.
+fn run_over<S: Alter + Drop>(
+    alloc: Global,
+    keeper: SqlKeeper<S>,
+    text: &str,
+) -> Result<(SqlKeeper<S>, String), Memory> {
+    let mut opened = keeper.into_opened();
+    let answer = match run_batch(&mut opened, text) {
+        Ok(()) => String::from_str(alloc, "ran\n")?,
+        Err(error) => format!(in alloc; "{error}\n")?,
+    };
+    Ok((SqlKeeper::of(opened), answer))
 }
 
 fn load_any<K: Keeper>(alloc: Global, keeper: &mut K) -> Result<Vec<Row>, KeepFault> {

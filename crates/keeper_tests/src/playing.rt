@@ -1,6 +1,6 @@
 //! What a line of the input comes to.
 
-use crate::keepers::{Kept, mem_keeper, refused_keeper, run_batch, sql_keeper, starved_keeper};
+use crate::keepers::{Kept, mem_keeper, refused_keeper, sql_keeper, starved_keeper};
 use cloud_keeper::{MemKeeper, Row};
 use host_base::{Bytes, Fails, Memory};
 use plain_data::List;
@@ -80,21 +80,6 @@ fn calls_of(alloc: Global, words: &[&str]) -> Result<Fails, AllocError> {
     Ok(List::new(calls))
 }
 
-// Runs statements on a keeper's database.
-fn ran(alloc: Global, kept: Kept, text: &str) -> Result<(Kept, String), Memory> {
-    match kept {
-        Kept::Mem(keeper) => Ok((Kept::Mem(keeper), String::from_str(alloc, "no database")?)),
-        Kept::Sql(keeper) => {
-            let mut opened = keeper.into_opened();
-            let answer = match run_batch(&mut opened, text) {
-                Ok(()) => String::from_str(alloc, "ran\n")?,
-                Err(error) => format!(in alloc; "{error}\n")?,
-            };
-            Ok((Kept::Sql(SqlKeeper::of(opened)), answer))
-        }
-    }
-}
-
 // The words of a line.
 fn words_of(alloc: Global, line: &str) -> Result<Vec<&str>, AllocError> {
     let mut words = Vec::new(alloc);
@@ -107,7 +92,7 @@ fn words_of(alloc: Global, line: &str) -> Result<Vec<&str>, AllocError> {
 // What a line comes to, but for the count of faults.
 fn played(alloc: Global, mut kept: Kept, line: &str) -> Result<(Kept, String), Memory> {
     if let Some(text) = line.strip_prefix("run ") {
-        return ran(alloc, kept, text);
+        return kept.run(alloc, text);
     }
     let words = words_of(alloc, line)?;
     let empty = String::new(alloc);

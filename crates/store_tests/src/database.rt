@@ -8,7 +8,7 @@ use cloud_keeper::{Keeper, Row};
 use grain_supervise::FakeSpawner;
 use host_base::Memory;
 use sql_keeper::SqlKeeper;
-use sqlite::MemStore;
+use sqlite::Alter;
 use std::alloc::{AllocError, Global};
 
 // Rows beside those that they were to be: how many there are, and how many are the same.
@@ -139,14 +139,17 @@ fn filled<K: Keeper>(alloc: Global, text: &mut String, keeper: &mut K) -> Result
 }
 
 // How many faults a keeper over a database counted.
-fn put_faults(text: &mut String, keeper: &SqlKeeper<MemStore>) -> Result<(), AllocError> {
+fn put_faults<S: Alter>(text: &mut String, keeper: &SqlKeeper<S>) -> Result<(), AllocError> {
     writeln!(text, "{} faults", keeper.faults())
 }
 
-/// A database in memory from its first load to its second opening.
-pub fn database(alloc: Global, orders: &str) -> Result<String, Memory> {
+// A database without rows, from its first load to its second opening. A proof that let go of a store of one kind would have to know all of it.
+fn told_of<S: Alter + Drop>(
+    alloc: Global,
+    mut keeper: SqlKeeper<S>,
+    orders: &str,
+) -> Result<String, Memory> {
     let mut text = String::new(alloc);
-    let mut keeper = sql_keeper(alloc)?;
     filled(alloc, &mut text, &mut keeper)?;
     if let Some((mut keeper, rows)) = open_and_order(alloc, &mut text, keeper, orders)? {
         put_loaded(alloc, &mut text, &mut keeper, rows.as_slice())?;
@@ -156,10 +159,14 @@ pub fn database(alloc: Global, orders: &str) -> Result<String, Memory> {
     Ok(text)
 }
 
+/// A database in memory from its first load to its second opening.
+pub fn database(alloc: Global, orders: &str) -> Result<String, Memory> {
+    told_of(alloc, sql_keeper(alloc)?, orders)
+}
+
 /// An opening on a new database in memory, which has no rows.
 pub fn no_rows(alloc: Global) -> Result<String, Memory> {
     let mut text = String::new(alloc);
-    let keeper = sql_keeper(alloc)?;
-    open_and_hold(alloc, &mut text, keeper, &[])?;
+    open_and_hold(alloc, &mut text, sql_keeper(alloc)?, &[])?;
     Ok(text)
 }
