@@ -10,7 +10,6 @@ fn play_text(rt: &HostRuntime, name: &str, rows: &str) -> io::Result<()> {
         "conversations.txt" => conversations::play_rows(rt, rows),
         "value_tests.txt" => value_tests::play_rows(rt, rows),
         "graph_tests.txt" => graph_tests::play_rows(rt, rows),
-        "step_tests.txt" => step_tests::play_rows(rt, rows),
         "body_tests.txt" => body_tests::play_rows(rt, rows),
         "front_tests.txt" => front_tests::play_rows(rt, rows),
         "bridge_tests.txt" => bridge_tests::play_rows(rt, rows),
