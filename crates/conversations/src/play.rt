@@ -251,6 +251,28 @@ fn keeper_of(alloc: Global, conversation: &Conversation) -> Result<MemKeeper, Al
     }
 }
 
+// What came of a world that was run, and its link.
+fn came_of<L: Link + Drop, S: Secrets + Drop>(
+    alloc: Global,
+    ran: Ran<L, MemKeeper, S, FakeSpawner, StillClock, MemDoor>,
+    out: MemSink,
+) -> Result<(Came, L), AllocError> {
+    let Ran { status, door, back } = ran;
+    let Some(back) = back else {
+        return Err(AllocError);
+    };
+    let told = told(alloc, &back.spawner)?;
+    let rows = back.keeper.rows().len();
+    let came = Came {
+        out,
+        door,
+        told,
+        rows,
+        status,
+    };
+    Ok((came, back.link))
+}
+
 // Plays a part with a link and secrets: what came of it, and the link.
 fn played_with<L: Link + Drop, S: Secrets + Drop>(
     alloc: Global,
@@ -259,37 +281,27 @@ fn played_with<L: Link + Drop, S: Secrets + Drop>(
     link: L,
     secrets: S,
 ) -> Result<(Came, L), AllocError> {
+    let sink_fails = conversation.sink_fails.clone()?;
+    let spawner_fails = conversation.spawner_fails.clone()?;
     let mut input = source(alloc, conversation, part)?;
-    let mut out = MemSink::new(alloc, List::new(conversation.sink_fails.clone()?));
-    let words = conversation.words.as_slice();
-    let fails = List::new(conversation.spawner_fails.clone()?);
-    let spawner = FakeSpawner::new(alloc, fails);
-    let door = door_of(alloc, conversation.streams.as_slice())?;
     let keeper = keeper_of(alloc, conversation)?;
+    let door = door_of(alloc, conversation.streams.as_slice())?;
     let Ok(sites) = plain_sites(alloc) else {
         return Err(AllocError);
     };
+    let mut out = MemSink::new(alloc, List::new(sink_fails));
     let world = World {
         link,
         keeper,
         secrets,
-        spawner,
+        spawner: FakeSpawner::new(alloc, List::new(spawner_fails)),
         clock: StillClock::new(0),
         door,
         sites,
     };
-    let Ran { status, door, back } = run(alloc, words, &mut input, &mut out, world);
-    let Some(back) = back else {
-        return Err(AllocError);
-    };
-    let came = Came {
-        out,
-        door,
-        told: told(alloc, &back.spawner)?,
-        rows: back.keeper.rows().len(),
-        status,
-    };
-    Ok((came, back.link))
+    let words = conversation.words.as_slice();
+    let ran = run(alloc, words, &mut input, &mut out, world);
+    came_of(alloc, ran, out)
 }
 
 // The secrets that a conversation lists.

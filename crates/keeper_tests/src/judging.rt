@@ -26,6 +26,20 @@ fn check_words(alloc: Global) -> Result<Vec<String>, Memory> {
     Ok(words)
 }
 
+// What was printed and the status, with the keeper handed back, which there is where the line was `check`.
+fn printed_by<K: Keeper + Drop>(
+    alloc: Global,
+    ran: Ran<EchoLink, K, SeqSecrets, FakeSpawner, StillClock, MemDoor>,
+    out: &MemSink,
+) -> Result<(String, u8, K), Memory> {
+    let Ran { status, back, .. } = ran;
+    let Some(back) = back else {
+        return Err(Memory);
+    };
+    let printed = String::from_utf8_lossy(alloc, out.written())?;
+    Ok((printed, status, back.keeper))
+}
+
 /// What the program prints of a keeper, with its status, and the keeper handed back.
 #[tactic(auto, using(admin_run::proofs::Begins::begins_otherwise))]
 pub fn judge<K: Keeper + Drop>(alloc: Global, keeper: K) -> Result<(String, u8, K), Memory> {
@@ -33,6 +47,8 @@ pub fn judge<K: Keeper + Drop>(alloc: Global, keeper: K) -> Result<(String, u8, 
     let Ok(Line::Check) = line_of(alloc, words.as_slice()) else {
         return Err(Memory);
     };
+    let door = MemDoor::new(alloc, Vec::new(alloc))?;
+    let sites = plain_sites(alloc)?;
     let mut input = MemSource::new(Vec::new(alloc), Fails::empty(alloc));
     let mut out = MemSink::new(alloc, Fails::empty(alloc));
     let world = World {
@@ -41,13 +57,9 @@ pub fn judge<K: Keeper + Drop>(alloc: Global, keeper: K) -> Result<(String, u8, 
         secrets: SeqSecrets::new(),
         spawner: FakeSpawner::new(alloc, Fails::empty(alloc)),
         clock: StillClock::new(0),
-        door: MemDoor::new(alloc, Vec::new(alloc))?,
-        sites: plain_sites(alloc)?,
+        door,
+        sites,
     };
-    let Ran { status, back, .. } = run(alloc, words.as_slice(), &mut input, &mut out, world);
-    let Some(back) = back else {
-        return Err(Memory);
-    };
-    let printed = String::from_utf8_lossy(alloc, out.written())?;
-    Ok((printed, status, back.keeper))
+    let ran = run(alloc, words.as_slice(), &mut input, &mut out, world);
+    printed_by(alloc, ran, &out)
 }

@@ -13,6 +13,7 @@ fn play_text(rt: &HostRuntime, name: &str, rows: &str) -> io::Result<()> {
         "body_tests.txt" => body_tests::play_rows(rt, rows),
         "front_tests.txt" => front_tests::play_rows(rt, rows),
         "bridge_tests.txt" => bridge_tests::play_rows(rt, rows),
+        "step_tests.txt" => step_tests::play_rows(rt, rows),
         "row_tests.txt" => row_tests::play_rows(rt, rows),
         "store_tests.txt" => store_tests::play_rows(rt, rows),
         "keeper_tests.txt" => keeper_tests::play_rows(rt, rows),

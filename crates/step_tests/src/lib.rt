@@ -1,4 +1,4 @@
-//! Plays events, commands and secrets. A line of the input begins a state, adds rows to it, or asks:
+//! Plays events, commands and secrets. A line begins a state, adds rows to it, or asks:
 //!
 //! ```text
 //! empty                       begins a state with no rows
@@ -78,15 +78,15 @@ fn play_line(rt: &impl Print, alloc: Global, board: &mut Board, line: &str) -> i
     }
 }
 
-fn main(rt: HostRuntime) -> io::Result<()> {
+/// Plays the lines of a text, and prints those that begin a state or ask with what they come to.
+pub fn play_rows(rt: &HostRuntime, rows: &str) -> io::Result<()> {
     let alloc = rt.alloc();
     let mut board = Board {
         state: empty_state(alloc),
         live: None,
     };
-    for line in rt.lines(alloc) {
-        let line = line?;
-        play_line(&rt, alloc, &mut board, line.as_str())?;
+    for line in rows.lines() {
+        play_line(rt, alloc, &mut board, line)?;
     }
     Ok(())
 }
