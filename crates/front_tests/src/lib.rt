@@ -201,7 +201,7 @@ fn told_of_repeated(alloc: Global, rest: &str) -> Result<String, AllocError> {
     told_anyhow(alloc, stream.as_slice())
 }
 
-// What a line of the input gives.
+// What a row gives.
 fn played(alloc: Global, routes: &Routes, word: &str, rest: &str) -> Result<String, AllocError> {
     match word {
         "stream" => told_of_stream(alloc, rest),
@@ -221,7 +221,7 @@ fn played(alloc: Global, routes: &Routes, word: &str, rest: &str) -> Result<Stri
 pub fn play_rows(rt: &HostRuntime, rows: &str) -> io::Result<()> {
     let alloc = rt.alloc();
     let Ok(routes) = Routes::new(alloc) else {
-        return Ok(());
+        return Err(io::Error::from(AllocError));
     };
     for line in rows.lines() {
         let (word, rest) = word_and_rest(line);

@@ -8,8 +8,36 @@ use plain_data::List;
 use row_tables::rows_of;
 use small_book::small_book;
 use sql_keeper::SqlKeeper;
-use sqlite::{Alter, Connection, Error, File, FileStore};
+use sqlite::{Alter, Connection, File, FileStore};
 use std::alloc::{AllocError, Global};
+use thiserror::Error;
+
+/// Why nothing is said of a keeper.
+#[derive(Clone, Copy, Debug, Error)]
+pub enum Unjudged {
+    #[error("out of memory")]
+    Memory,
+    #[error("{0}")]
+    Statements(sqlite::Error),
+}
+
+impl From<Memory> for Unjudged {
+    fn from(_: Memory) -> Unjudged {
+        Unjudged::Memory
+    }
+}
+
+impl From<AllocError> for Unjudged {
+    fn from(_: AllocError) -> Unjudged {
+        Unjudged::Memory
+    }
+}
+
+impl From<sqlite::Error> for Unjudged {
+    fn from(error: sqlite::Error) -> Unjudged {
+        Unjudged::Statements(error)
+    }
+}
 
 // A row whose body is cut to a length, or has one byte more where none is given.
 fn changed(alloc: Global, row: &Row, length: Option<u64>) -> Result<Row, Memory> {
@@ -65,7 +93,7 @@ fn judge_book(
 }
 
 // The database in a file. It is named here alone, since what SQLite does is taken into account wherever it is opened.
-fn opened(rt: &HostRuntime, name: &str) -> Result<Connection<FileStore<File>>, Error> {
+fn opened(rt: &HostRuntime, name: &str) -> Result<Connection<FileStore<File>>, sqlite::Error> {
     Connection::open(rt, name)
 }
 
@@ -85,9 +113,12 @@ fn judge_file(rt: &HostRuntime, name: &str) -> Result<Judged, Memory> {
     judge_database(rt.alloc(), SqlKeeper::of(opened(rt, name)))
 }
 
-// Runs statements on a database, if it was opened.
-fn change<S: Alter + Drop>(mut opened: Result<Connection<S>, Error>, text: &str) {
-    let _ = run_batch(&mut opened, text);
+// Runs statements on a database.
+fn change<S: Alter + Drop>(
+    mut opened: Result<Connection<S>, sqlite::Error>,
+    text: &str,
+) -> Result<(), sqlite::Error> {
+    run_batch(&mut opened, text)
 }
 
 // Keeps the rows of the small book in a database.
@@ -135,19 +166,19 @@ fn book_by(alloc: Global, words: &[&str]) -> Result<Option<Judged>, Memory> {
 }
 
 /// What a line that judges a keeper comes to, if it is one.
-pub fn judged_by(rt: &HostRuntime, line: &str) -> Result<Option<Judged>, Memory> {
+pub fn judged_by(rt: &HostRuntime, line: &str) -> Result<Option<Judged>, Unjudged> {
     let alloc = rt.alloc();
     let words = words_of(alloc, line)?;
     match words.as_slice() {
         ["file", name] => Ok(Some(judge_file(rt, name)?)),
         ["change", name, text] => {
-            change(opened(rt, name), text);
+            change(opened(rt, name), text)?;
             Ok(Some(judge_file(rt, name)?))
         }
         ["store", name] => {
             store_book(alloc, SqlKeeper::of(opened(rt, name)))?;
             Ok(Some(judge_file(rt, name)?))
         }
-        words => book_by(alloc, words),
+        words => Ok(book_by(alloc, words)?),
     }
 }

@@ -35,7 +35,6 @@ mod playing;
 use crate::judged::judged_by;
 use crate::keepers::Kept;
 use crate::playing::{answer, are_sent};
-use host_base::Memory;
 use std::io;
 
 // Plays a line on the keeper that is played with, prints what it comes to, and hands back the keeper after it.
@@ -66,8 +65,8 @@ fn is_judged(rt: &HostRuntime, line: &str) -> io::Result<bool> {
             Ok(true)
         }
         Ok(None) => Ok(false),
-        Err(Memory) => {
-            println!(rt; "    out of memory")?;
+        Err(unjudged) => {
+            println!(rt; "    {unjudged}")?;
             Ok(true)
         }
     }

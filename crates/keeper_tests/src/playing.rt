@@ -1,4 +1,4 @@
-//! What a line of the input comes to.
+//! What a row comes to.
 
 use crate::keepers::{Kept, mem_keeper, refused_keeper, sql_keeper, starved_keeper};
 use cloud_keeper::{MemKeeper, Row};
