@@ -57,7 +57,7 @@ fn run_here<
     C: SiteDriver + Drop,
 >(rt: &HostRuntime, words: &[String], world: World<L, K, S, P, StillClock, E, C>) -> u8
     requires book { BeginWithBook words.now → HasBook (K.keeping world.keeper) }
-    requires registered { AskSites words.now → IsRegistered C.Law.tags (map C.tag_of world.sites.items) }
+    requires registered { AskSites words.now → IsRegistered C.Law.law.tags (map C.tag_of world.sites.items) }
     requires fresh { ServeAtDoor words.now → (E.doorway world.door).back ≡ 0 }
     requires start { ServeAtDoor words.now → BeginsAt E.start (K.keeping world.keeper) (S.drawer world.secrets) }
 {
@@ -76,7 +76,7 @@ fn run_with<K: Keeper + Drop, E: ServeDoor + Drop, C: SiteDriver + Drop>(
     sites: Vec<C>,
 ) -> u8
     requires book { BeginWithBook words.now → HasBook (K.keeping keeper) }
-    requires registered { IsRegistered C.Law.tags (map C.tag_of sites.items) }
+    requires registered { IsRegistered C.Law.law.tags (map C.tag_of sites.items) }
     requires elsewhere { ServeAtDoor words.now → ⊥ }
 {
     let alloc = rt.alloc();
@@ -99,7 +99,7 @@ fn run_with_book<E: ServeDoor + Drop, C: SiteDriver + Drop>(
     door: E,
     sites: Vec<C>,
 ) -> u8
-    requires registered { IsRegistered C.Law.tags (map C.tag_of sites.items) }
+    requires registered { IsRegistered C.Law.law.tags (map C.tag_of sites.items) }
     requires elsewhere { ServeAtDoor words.now → ⊥ }
 {
     match book_keeper(rt.alloc(), Fails::empty(rt.alloc())) {
@@ -116,7 +116,7 @@ fn run_serve<C: SiteDriver + Drop>(
     port: u16,
     sites: Vec<C>,
 ) -> Result<u8, Memory>
-    requires registered { IsRegistered C.Law.tags (map C.tag_of sites.items) }
+    requires registered { IsRegistered C.Law.law.tags (map C.tag_of sites.items) }
     requires elsewhere { BeginWithBook words.now → ⊥ }
 {
     let alloc = rt.alloc();
@@ -149,7 +149,7 @@ fn run_alone<C: SiteDriver + Drop>(
     words: &[String],
     sites: Vec<C>,
 ) -> Result<u8, Memory>
-    requires registered { IsRegistered C.Law.tags (map C.tag_of sites.items) }
+    requires registered { IsRegistered C.Law.law.tags (map C.tag_of sites.items) }
     requires elsewhere { ServeAtDoor words.now → ⊥ }
 {
     let door = MemDoor::new(rt.alloc(), Vec::new(rt.alloc()))?;
@@ -163,7 +163,7 @@ fn run_line<C: SiteDriver + Drop>(
     words: &[String],
     sites: Vec<C>,
 ) -> Result<u8, Memory>
-    requires { IsRegistered C.Law.tags (map C.tag_of sites.items) }
+    requires { IsRegistered C.Law.law.tags (map C.tag_of sites.items) }
 {
     match line_of(rt.alloc(), words)? {
         Line::Serve { port, .. } => run_serve(rt, words, path_of(words), port, sites),

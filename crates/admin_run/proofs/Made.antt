@@ -5,7 +5,7 @@ use Rattle.host_base.specs.InMemory.{MemInput, MemOutput, is_at_end}
 use Rattle.host_base.specs.Outside.{Inlet, Outlet}
 use Rattle.request_maker.specs.Generated.{generated}
 use Rattle.cloud_serve.specs.declared.serve.End.{End}
-use Rattle.desk_orders.specs.Sites.{Law}
+use Rattle.site_caps.specs.Law.{Law}
 use Rattle.admin_run.specs.Connection.{ServesBook}
 use Rattle.admin_run.specs.Making.{ServesMade, TellsMade, all_left, nothing_written}
 use Rattle.admin_run.specs.Outside.{Outside}

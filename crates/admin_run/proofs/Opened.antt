@@ -7,7 +7,7 @@ use Rattle.share_graph.specs.declared.state.Tables.{Tables}
 use Rattle.grain_supervise.specs.Line.{Line}
 use Rattle.grain_supervise.specs.Spawning.{Spawns}
 use Rattle.conn_door.specs.Doors.{Doorway}
-use Rattle.desk_orders.specs.Sites.{Law}
+use Rattle.site_caps.specs.Law.{Law}
 use Rattle.hub_core.specs.Opening.{HasBadRow, HasCause, IsClosedOn}
 use Rattle.hub_core.specs.declared.opening.OpenFault.{OpenFault}
 use Rattle.hub_core.specs.declared.opening.OpenFault.TheVariants as open_fault

@@ -11,7 +11,7 @@ use Rattle.cloud_serve.specs.declared.serve.End.{End}
 use Rattle.cloud_serve.specs.Served.{World, Served}
 use Rattle.cloud_keeper.specs.Keeping.{Keeping}
 use Rattle.share_graph.specs.History.{replay}
-use Rattle.desk_orders.specs.Sites.{Law}
+use Rattle.site_caps.specs.Law.{Law}
 use Rattle.hub_core.specs.Sharing.{Sharing, book_of}
 use Rattle.hub_core.specs.Storing.{Outer, IsStored}
 use Rattle.small_book.specs.SmallBook.{small_book}

@@ -10,7 +10,7 @@ use Rattle.share_graph.specs.History.{replay}
 use Rattle.grain_supervise.specs.Line.{Line}
 use Rattle.grain_supervise.specs.Spawning.{Spawns}
 use Rattle.conn_door.specs.Doors.{Doorway}
-use Rattle.desk_orders.specs.Sites.{Law}
+use Rattle.site_caps.specs.Law.{Law}
 use Rattle.hub_core.specs.Opening.{opened}
 use Rattle.hub_core.specs.Sharing.{Sharing, book_of}
 use Rattle.hub_core.specs.Storing.{Outer, IsStored}

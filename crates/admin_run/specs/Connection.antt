@@ -6,7 +6,7 @@ use Rattle.share_graph.specs.History.{replay}
 use Rattle.cloud_serve.specs.declared.serve.End.{End}
 use Rattle.cloud_serve.specs.Acts.{added_by}
 use Rattle.cloud_serve.specs.Served.{Served, acts_in}
-use Rattle.desk_orders.specs.Sites.{Law}
+use Rattle.site_caps.specs.Law.{Law}
 use Rattle.hub_core.specs.Sharing.{book_of}
 use Rattle.hub_core.specs.Storing.{IsStored}
 use Rattle.small_book.specs.SmallBook.{small_book}

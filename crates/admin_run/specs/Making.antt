@@ -5,7 +5,7 @@ use Rattle.host_base.specs.InMemory.{is_at_end}
 use Rattle.request_maker.specs.Generated.{generated}
 use Rattle.cloud_serve.specs.declared.serve.End.{End}
 use Rattle.cloud_serve.specs.declared.serve.End.TheVariants as end
-use Rattle.desk_orders.specs.Sites.{Law}
+use Rattle.site_caps.specs.Law.{Law}
 use Rattle.printed_lines.specs.Lines.{summary_lines}
 use Rattle.admin_run.specs.Connection.{ServesBook}
 use Rattle.admin_run.specs.Outside.{Outside, DoesNothing, Tells}

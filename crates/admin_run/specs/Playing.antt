@@ -7,7 +7,7 @@ use Rattle.grain_program.specs.declared.grain.GrainEnd.TheVariants as grain_end
 use Rattle.grain_program.specs.Answering.{Prints}
 use Rattle.cloud_serve.specs.declared.serve.End.{End}
 use Rattle.cloud_serve.specs.Served.{Stands, limit}
-use Rattle.desk_orders.specs.Sites.{Law}
+use Rattle.site_caps.specs.Law.{Law}
 use Rattle.admin_run.specs.Connection.{ServesBook}
 use Rattle.admin_run.specs.Outside.{Outside}
 use Rattle.admin_run.specs.Statuses.{status_by, status_of_grain, status_of_stream}

@@ -12,7 +12,7 @@ use Rattle.share_graph.specs.declared.state.Tables.{Tables}
 use Rattle.share_graph.specs.History.{replay}
 use Rattle.first_account.specs.Drawn.{DrewOneAtMost, IsTokenOfNext}
 use Rattle.first_account.specs.First.{HasNoRows, HasJust, first_row, first_tables}
-use Rattle.desk_orders.specs.Sites.{Law}
+use Rattle.site_caps.specs.Law.{Law}
 use Rattle.hub_core.specs.Opening.{AreLoaded, HasBadRow, opened}
 use Rattle.hub_core.specs.Sharing.{book_of}
 use Rattle.hub_core.specs.Storing.{IsStored}

@@ -29,7 +29,7 @@ pub fn small_desk<K: Keeper, S: Secrets, P: Spawner, C: SiteDriver + Drop>(
     sites: Vec<C>,
 ) -> Result<SoloDesk<K, S, P, C>, (K, S, P)>
     requires book { HasBook (K.keeping keeper) }
-    requires registered { IsRegistered C.Law.tags (map C.tag_of sites.items) }
+    requires registered { IsRegistered C.Law.law.tags (map C.tag_of sites.items) }
     ensures ok { IfOk result (λ desk. desk ≡ record { start = small_book; history = []; keeper = keeper; secrets = secrets; spawner = spawner; sites = sites.items }) }
     ensures err { IfErr result (λ back. (back.0 ≡ keeper) × (back.1 ≡ secrets) × (back.2 ≡ spawner)) }
 {
@@ -75,8 +75,8 @@ pub(crate) fn serve_book<
     sites: Vec<C>,
 ) -> Result<Connection<L, K, S, P, T>, Back<L, K, S, P, T>>
     requires book { HasBook (K.keeping objects.keeper) }
-    requires registered { IsRegistered C.Law.tags (map C.tag_of sites.items) }
-    ensures served { IfOk result (λ c. (doorway : Doorway) → ServesBook (record { tags = C.Law.tags; may_offer = C.Law.may_offer; may_restore = C.Law.may_restore })
+    requires registered { IsRegistered C.Law.law.tags (map C.tag_of sites.items) }
+    ensures served { IfOk result (λ c. (doorway : Doorway) → ServesBook C.Law.law
         (record { inlet = I.inlet input.old; outlet = O.outlet out.old; line = L.line objects.link; drawer = S.drawer objects.secrets; spawns = P.spawns objects.spawner; keeping = K.keeping objects.keeper; doorway = doorway })
         (record { inlet = I.inlet input.new; outlet = O.outlet out.new; line = L.line c.back.link; drawer = S.drawer c.back.secrets; spawns = P.spawns c.back.spawner; keeping = K.keeping c.back.keeper; doorway = doorway })
         c.end c.served c.forwarded c.entries) }

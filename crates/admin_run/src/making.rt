@@ -53,8 +53,8 @@ pub(crate) fn make<O: Sink, L: Link, K: Keeper, S: Secrets, P: Spawner, T, C: Si
     sites: Vec<C>,
 ) -> Ended<L, K, S, P, T>
     requires book { HasBook (K.keeping objects.keeper) }
-    requires registered { IsRegistered C.Law.tags (map C.tag_of sites.items) }
-    ensures makes { (inlet : Inlet) (doorway : Doorway) → Makes (record { tags = C.Law.tags; may_offer = C.Law.may_offer; may_restore = C.Law.may_restore }) count seed
+    requires registered { IsRegistered C.Law.law.tags (map C.tag_of sites.items) }
+    ensures makes { (inlet : Inlet) (doorway : Doorway) → Makes C.Law.law count seed
         (record { inlet = inlet; outlet = O.outlet out.old; line = L.line objects.link; drawer = S.drawer objects.secrets; spawns = P.spawns objects.spawner; keeping = K.keeping objects.keeper; doorway = doorway })
         (record { inlet = inlet; outlet = O.outlet out.new; line = L.line result.back.link; drawer = S.drawer result.back.secrets; spawns = P.spawns result.back.spawner; keeping = K.keeping result.back.keeper; doorway = doorway })
         result.status }

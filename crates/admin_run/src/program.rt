@@ -40,9 +40,9 @@ fn play<I: Source, O: Sink, L: Link, K: Keeper, S: Secrets, P: Spawner, T, C: Si
     sites: Vec<C>,
 ) -> Ended<L, K, S, P, T>
     requires book { HasBook (K.keeping objects.keeper) }
-    requires registered { IsRegistered C.Law.tags (map C.tag_of sites.items) }
+    requires registered { IsRegistered C.Law.law.tags (map C.tag_of sites.items) }
     ensures plays { (doorway : Doorway) →
-        Plays (record { tags = C.Law.tags; may_offer = C.Law.may_offer; may_restore = C.Law.may_restore })
+        Plays C.Law.law
         (record { inlet = I.inlet input.old; outlet = O.outlet out.old; line = L.line objects.link; drawer = S.drawer objects.secrets; spawns = P.spawns objects.spawner; keeping = K.keeping objects.keeper; doorway = doorway })
         (record { inlet = I.inlet input.new; outlet = O.outlet out.new; line = L.line result.back.link; drawer = S.drawer result.back.secrets; spawns = P.spawns result.back.spawner; keeping = K.keeping result.back.keeper; doorway = doorway })
         result.status
@@ -148,11 +148,11 @@ fn perform<
     sites: Vec<C>,
 ) -> Ended<L, K, S, P, T>
     requires book { FromBook line → HasBook (K.keeping objects.keeper) }
-    requires registered { FromBook line ⊎ AtDoor line → IsRegistered C.Law.tags (map C.tag_of sites.items) }
+    requires registered { FromBook line ⊎ AtDoor line → IsRegistered C.Law.law.tags (map C.tag_of sites.items) }
     requires fresh { AtDoor line → (E.doorway door.old).back ≡ 0 }
     requires few { (port count : ℕ) → line ≡ Line.Serve port count → count ≤ 1000000 }
     requires start { AtDoor line → BeginsAt E.start (K.keeping objects.keeper) (S.drawer objects.secrets) }
-    ensures does { Does (record { tags = C.Law.tags; may_offer = C.Law.may_offer; may_restore = C.Law.may_restore }) line
+    ensures does { Does C.Law.law line
         (record { inlet = I.inlet input.old; outlet = O.outlet out.old; line = L.line objects.link; drawer = S.drawer objects.secrets; spawns = P.spawns objects.spawner; keeping = K.keeping objects.keeper; doorway = E.doorway door.old })
         (record { inlet = I.inlet input.new; outlet = O.outlet out.new; line = L.line result.back.link; drawer = S.drawer result.back.secrets; spawns = P.spawns result.back.spawner; keeping = K.keeping result.back.keeper; doorway = E.doorway door.new })
         result.status }
@@ -194,13 +194,13 @@ pub fn run<
     world: World<L, K, S, P, T, E, C>,
 ) -> Ran<L, K, S, P, T, E>
     requires book { BeginWithBook words.now → HasBook (K.keeping world.keeper) }
-    requires registered { AskSites words.now → IsRegistered C.Law.tags (map C.tag_of world.sites.items) }
+    requires registered { AskSites words.now → IsRegistered C.Law.law.tags (map C.tag_of world.sites.items) }
     requires fresh { ServeAtDoor words.now → (E.doorway world.door).back ≡ 0 }
     requires start { ServeAtDoor words.now → BeginsAt E.start (K.keeping world.keeper) (S.drawer world.secrets) }
 
     // What its words' line does, or nothing for want of memory.
     ensures does { (line : TheLine) → IsLine words.now line → IfSome result.back (λ back.
-        Does (record { tags = C.Law.tags; may_offer = C.Law.may_offer; may_restore = C.Law.may_restore }) line
+        Does C.Law.law line
         (record { inlet = I.inlet input.old; outlet = O.outlet out.old; line = L.line world.link; drawer = S.drawer world.secrets; spawns = P.spawns world.spawner; keeping = K.keeping world.keeper; doorway = E.doorway world.door })
         (record { inlet = I.inlet input.new; outlet = O.outlet out.new; line = L.line back.link; drawer = S.drawer back.secrets; spawns = P.spawns back.spawner; keeping = K.keeping back.keeper; doorway = E.doorway result.door })
         result.status

@@ -30,7 +30,7 @@ fn rows_desk<K: Keeper, S: Secrets, P: Spawner, C: SiteDriver + Drop>(
     spawner: P,
     sites: Vec<C>,
 ) -> Result<SoloDesk<K, S, P, C>, NotOpened<K, S, P>>
-    requires { IsRegistered C.Law.tags (map C.tag_of sites.items) }
+    requires { IsRegistered C.Law.law.tags (map C.tag_of sites.items) }
     ensures ok { IfOk result (λ desk. IsOpenedOn (K.keeping keeper) (K.keeping desk.keeper) secrets spawner sites.items desk) }
     ensures err { IfErr result (λ closed. IsClosedOn (K.keeping keeper) (K.keeping closed.keeper) secrets closed.secrets spawner closed.spawner closed.fault) }
 {
@@ -102,7 +102,7 @@ fn serve_desk<
 ) -> Ended<L, K, S, P, T>
     requires room { (E.doorway door.old).back + count ≤ 4294967296 }
     requires start { (state : State) → E.start ≡ Some state → desk.start ≡ state }
-    ensures serves { (inlet : Inlet) (tables : Tables) → desk.start ≡ opened tables → desk.history ≡ [] → ServesFrom (record { tags = C.Law.tags; may_offer = C.Law.may_offer; may_restore = C.Law.may_restore }) tables count
+    ensures serves { (inlet : Inlet) (tables : Tables) → desk.start ≡ opened tables → desk.history ≡ [] → ServesFrom C.Law.law tables count
         (record { inlet = inlet; outlet = O.outlet out.old; line = L.line link; drawer = S.drawer desk.secrets; spawns = P.spawns desk.spawner; keeping = K.keeping desk.keeper; doorway = E.doorway door.old })
         (record { inlet = inlet; outlet = O.outlet out.new; line = L.line result.back.link; drawer = S.drawer result.back.secrets; spawns = P.spawns result.back.spawner; keeping = K.keeping result.back.keeper; doorway = E.doorway door.new })
         result.status }
@@ -145,10 +145,10 @@ fn serve_rows<
     objects: Back<L, K, S, P, T>,
     sites: Vec<C>,
 ) -> Ended<L, K, S, P, T>
-    requires registered { IsRegistered C.Law.tags (map C.tag_of sites.items) }
+    requires registered { IsRegistered C.Law.law.tags (map C.tag_of sites.items) }
     requires room { (E.doorway door.old).back + count ≤ 4294967296 }
     requires start { (state : State) → E.start ≡ Some state → (tables : Tables) → AreLoaded (K.keeping objects.keeper) tables → opened tables ≡ state }
-    ensures opens { (inlet : Inlet) → OpensRows (record { tags = C.Law.tags; may_offer = C.Law.may_offer; may_restore = C.Law.may_restore }) count
+    ensures opens { (inlet : Inlet) → OpensRows C.Law.law count
         (record { inlet = inlet; outlet = O.outlet out.old; line = L.line objects.link; drawer = S.drawer objects.secrets; spawns = P.spawns objects.spawner; keeping = K.keeping objects.keeper; doorway = E.doorway door.old })
         (record { inlet = inlet; outlet = O.outlet out.new; line = L.line result.back.link; drawer = S.drawer result.back.secrets; spawns = P.spawns result.back.spawner; keeping = K.keeping result.back.keeper; doorway = E.doorway door.new })
         result.status }
@@ -199,10 +199,10 @@ pub(crate) fn serve<
     objects: Back<L, K, S, P, T>,
     sites: Vec<C>,
 ) -> Ended<L, K, S, P, T>
-    requires registered { IsRegistered C.Law.tags (map C.tag_of sites.items) }
+    requires registered { IsRegistered C.Law.law.tags (map C.tag_of sites.items) }
     requires room { (E.doorway door.old).back + count ≤ 4294967296 }
     requires start { BeginsAt E.start (K.keeping objects.keeper) (S.drawer objects.secrets) }
-    ensures serves { (inlet : Inlet) → Serves (record { tags = C.Law.tags; may_offer = C.Law.may_offer; may_restore = C.Law.may_restore }) count
+    ensures serves { (inlet : Inlet) → Serves C.Law.law count
         (record { inlet = inlet; outlet = O.outlet out.old; line = L.line objects.link; drawer = S.drawer objects.secrets; spawns = P.spawns objects.spawner; keeping = K.keeping objects.keeper; doorway = E.doorway door.old })
         (record { inlet = inlet; outlet = O.outlet out.new; line = L.line result.back.link; drawer = S.drawer result.back.secrets; spawns = P.spawns result.back.spawner; keeping = K.keeping result.back.keeper; doorway = E.doorway door.new })
         result.status }

@@ -12,7 +12,7 @@ use Rattle.desk_orders.specs.declared.reply.Reply.{Reply}
 use Rattle.desk_orders.specs.Answers.{IsAnswer}
 use Rattle.desk_orders.specs.Commands.{Asked}
 use Rattle.desk_orders.specs.Secrets.{DrawsAll}
-use Rattle.desk_orders.specs.Sites.{Law}
+use Rattle.site_caps.specs.Law.{Law}
 use Rattle.hub_core.specs.Book.{Book, Later, TakesNone, IsFoundFor, Placed, IsCounted, Ordered}
 use Rattle.cloud_serve.specs.Acts.{Act, added_by, drawn_by, is_store, is_secrets, is_start, store_failures, secret_failures, start_failures}
 use Rattle.cloud_serve.specs.Effects.{Grew, OrderedOf}

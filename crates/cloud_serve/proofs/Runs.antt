@@ -18,7 +18,7 @@ use Rattle.hub_core.specs.Book.{Book, Later}
 use Rattle.cloud_serve.specs.Acts.{Act}
 use Rattle.cloud_serve.specs.Effects.{AskedOf, OrderedOf}
 use Rattle.desk_orders.specs.Commands.{Asked}
-use Rattle.desk_orders.specs.Sites.{Law}
+use Rattle.site_caps.specs.Law.{Law}
 use Rattle.host_base.specs.declared.key.Key.{Key}
 use Rattle.cloud_serve.specs.Turns.{Turn, Follows, IsKeyed, passed_to, IsMade, MakesOne, MakesBoth, EndsWith, IsLawfulBy, IsLawful, AreLawful, past}
 use Rattle.cloud_serve.specs.Served.{World, InHand, Nothing, Refusing, Answering, Broken, NoRoom, request_in, asked_in, acts_in, HandAt, CauseAt, IsOver, StreamAt, Stands, Complete, limit, Splits, Served}

@@ -18,7 +18,7 @@ use Rattle.share_graph.specs.declared.event.Event.{Event}
 use Rattle.desk_orders.specs.declared.reply.OrderFault.{OrderFault}
 use Rattle.desk_orders.specs.declared.reply.Reply.{Reply}
 use Rattle.desk_orders.specs.declared.reply.Reply.TheVariants as reply
-use Rattle.desk_orders.specs.Sites.{Law}
+use Rattle.site_caps.specs.Law.{Law}
 use Rattle.hub_core.specs.Giving.{Gives}
 use Rattle.desk_orders.specs.Commands.{Asked}
 use Rattle.reply_texts.specs.declared.faults.OwnFault.TheVariants as own

@@ -8,7 +8,7 @@ use Rattle.host_base.specs.declared.permit.Permit.{Permit}
 use Rattle.host_base.specs.declared.request.Request.{Request}
 use Rattle.grain_supervise.specs.declared.ask.Ask.{Ask}
 use Rattle.grain_supervise.specs.Line.{Line}
-use Rattle.desk_orders.specs.Sites.{Law}
+use Rattle.site_caps.specs.Law.{Law}
 use Rattle.site_caps.specs.declared.fault.SiteFault.{SiteFault}
 use Rattle.cloud_serve.specs.declared.turn.Answered.{Answered}
 use Rattle.hub_core.specs.Book.{Book}

@@ -20,7 +20,7 @@ use Rattle.desk_orders.specs.declared.reply.OrderFault.TheVariants as order_faul
 use Rattle.desk_orders.specs.declared.reply.Reply.{Reply}
 use Rattle.desk_orders.specs.declared.reply.Reply.TheVariants as reply
 use Rattle.desk_orders.specs.Commands.{Asked}
-use Rattle.desk_orders.specs.Sites.{Law}
+use Rattle.site_caps.specs.Law.{Law}
 use Rattle.site_caps.specs.declared.fault.SiteFault.{SiteFault}
 use Rattle.site_caps.specs.declared.fault.SiteFault.TheVariants as site_fault
 use Rattle.hub_core.specs.Book.{Book, Judged, Placed}

@@ -1,80 +1,131 @@
-use std::alloc::{AllocError, Global};
+//! What a conversation says.
 
-/// A connection at the door: what a client sends on it, and what must come back.
+use cloud_keeper::Row;
+use std::alloc::Global;
+
+/// Bytes that must come, and the line of the text that says so.
+#[derive(Debug, Drop)]
+pub struct Piece {
+    pub line: usize,
+    pub bytes: Vec<u8>,
+}
+
+/// What a client sends on one connection, and what must come back.
 #[derive(Debug, Drop)]
 pub struct Stream {
+    pub line: usize,
     pub sent: Vec<u8>,
-    pub answered: Vec<u8>,
+    pub answered: Vec<Piece>,
 }
 
-/// A conversation: what is sent, what must come of it, and what the objects between do.
-#[derive(Debug, Drop)]
-pub struct Conversation {
-    pub name: String,
-    pub words: Vec<String>,
-    /// What the client sends.
-    pub sent: Vec<u8>,
-    /// What must come back.
-    pub answered: Vec<u8>,
-    /// The connections that come in at the door, one after another.
-    pub streams: Vec<Stream>,
-    /// What must have been asked of grains, one text after another, where that is told.
-    pub asked: Option<Vec<u8>>,
-    /// What the spawner must have been told, a line for each start and then for each stop, where that is told.
-    pub told: Option<Vec<u8>>,
-    /// The answers of the grains, one after another. Where there are none, each text is its own answer.
-    pub grains: Vec<Vec<u8>>,
-    /// How many bytes the source gives at a time at the most, where that is told.
-    pub gives: Option<usize>,
-    /// The calls that fail, from 1.
-    pub source_fails: Vec<u64>,
-    pub sink_fails: Vec<u64>,
-    pub link_fails: Vec<u64>,
-    pub draw_fails: Vec<u64>,
-    pub spawner_fails: Vec<u64>,
-    /// The commits to the keeper that fail, from 1.
-    pub store_fails: Vec<u64>,
-    /// Whether the keeper has no rows at first, and not those of the small book.
-    pub empty: bool,
-    /// How many rows the keeper must have at the end, where that is told.
-    pub rows: Option<usize>,
-    /// The secrets that are drawn, each 32 times this byte, where they aren't those in sequence.
-    pub secrets: Option<Vec<u8>>,
-    pub status: u8,
-    /// How many times over the client sends what it sends, and gets what comes back.
-    pub repeats: usize,
-    /// Whether what is sent is cut at each of its lengths: as many answers come back as requests are whole, and the status is 6
-    /// but where none is begun.
-    pub cuts: bool,
-}
-
-impl Conversation {
-    /// A conversation of a name in which nothing is sent and nothing comes back.
-    pub fn new(alloc: Global, name: &str) -> Result<Self, AllocError> {
-        let mut words = Vec::new(alloc);
-        words.push(String::from_str(alloc, "play")?)?;
-        Ok(Conversation {
-            name: String::from_str(alloc, name)?,
-            words,
+impl Stream {
+    /// A connection on which nothing is sent, and nothing comes back.
+    pub fn new(alloc: Global, line: usize) -> Self {
+        Stream {
+            line,
             sent: Vec::new(alloc),
             answered: Vec::new(alloc),
-            streams: Vec::new(alloc),
-            asked: None,
-            told: None,
-            grains: Vec::new(alloc),
-            gives: None,
-            source_fails: Vec::new(alloc),
-            sink_fails: Vec::new(alloc),
-            link_fails: Vec::new(alloc),
-            draw_fails: Vec::new(alloc),
-            spawner_fails: Vec::new(alloc),
-            store_fails: Vec::new(alloc),
-            empty: false,
-            rows: None,
-            secrets: None,
-            status: 0,
-            repeats: 1,
-            cuts: false,
-        })
+        }
     }
+}
+
+/// One run of the program.
+#[derive(Debug, Drop)]
+pub struct Round {
+    /// Its words; none of them are `play`'s.
+    pub words: Vec<String>,
+    /// Its own input and output.
+    pub own: Stream,
+    /// The connections that come in at the door, one after another.
+    pub streams: Vec<Stream>,
+    /// The status, and the line that says so.
+    pub status: (usize, u8),
+}
+
+impl Round {
+    /// A run that gets these words and nothing else.
+    pub fn new(alloc: Global, line: usize, words: Vec<String>) -> Self {
+        Round {
+            words,
+            own: Stream::new(alloc, line),
+            streams: Vec::new(alloc),
+            status: (line, 0),
+        }
+    }
+
+    /// The connection that is open: the last one at the door, or else the program's own input and output.
+    pub fn open(&mut self) -> &mut Stream {
+        match self.streams.last_mut() {
+            Some(stream) => stream,
+            None => &mut self.own,
+        }
+    }
+}
+
+/// The calls that fail, from 1, of each of the objects around the server.
+#[derive(Debug, Drop)]
+pub struct Failing {
+    pub source: Vec<u64>,
+    pub sink: Vec<u64>,
+    pub link: Vec<u64>,
+    pub draw: Vec<u64>,
+    pub spawner: Vec<u64>,
+    pub store: Vec<u64>,
+}
+
+impl Failing {
+    /// No calls.
+    pub fn none(alloc: Global) -> Self {
+        Failing {
+            source: Vec::new(alloc),
+            sink: Vec::new(alloc),
+            link: Vec::new(alloc),
+            draw: Vec::new(alloc),
+            spawner: Vec::new(alloc),
+            store: Vec::new(alloc),
+        }
+    }
+}
+
+/// What keeps the rows, and which rows it has at first and must have at the end.
+#[derive(Debug, Drop)]
+pub struct Kept {
+    /// Whether it is a database in memory, and not a list.
+    pub database: bool,
+    /// Whether it has no rows at first, and not those of the small book.
+    pub empty: bool,
+    /// The rows that are put in at first, each in the place of the one of its kind and number.
+    pub first: Vec<Row>,
+    /// How many rows there must be at the end, where that is told, and the line that tells it.
+    pub count: Option<(usize, usize)>,
+    /// The rows that must be there at the end, each with the line that tells it.
+    pub last: Vec<(usize, Row)>,
+}
+
+/// A conversation: runs of the program, and what the objects around it do.
+#[derive(Debug, Drop)]
+pub struct Conversation {
+    pub title: String,
+    pub line: usize,
+    /// The runs, of which there is at least one, over the same objects.
+    pub rounds: Vec<Round>,
+    pub failing: Failing,
+    pub kept: Kept,
+    /// The answers of the grains, one after another. Where there are none, each text is its own answer.
+    pub grains: Vec<Vec<u8>>,
+    /// What must have been asked of grains, one text after another, where that is told.
+    pub asked: Option<Vec<Piece>>,
+    /// What the spawner must have been told, a line for each start and then for each stop, where that is told.
+    pub told: Option<Vec<Piece>>,
+    /// How many bytes the source gives at a time at the most, where that is told.
+    pub gives: Option<usize>,
+    /// The secrets that are drawn, each 32 times this byte, where they aren't those in sequence.
+    pub secrets: Option<Vec<u8>>,
+    /// How many times over the client sends what it sends, and gets what comes back.
+    pub repeats: usize,
+    /// Whether what is sent is cut at each of its lengths: as many answers come back as requests are whole, and the
+    /// status is 6 but where none is begun.
+    pub cuts: bool,
+    /// The method and the target of the last request in the short form.
+    pub last: (String, String),
 }

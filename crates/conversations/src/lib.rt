@@ -1,93 +1,91 @@
-//! Plays conversations that stand in texts: what a client sends, and what the server must answer, to the byte. It prints a line for
-//! each text, and one for each conversation that goes otherwise.
-//!
-//! It also plays worked rows, one a line, and prints under each what it gives:
-//!
-//! ```text
-//! serve TEXT               what a connection on which a text comes hands back
-//! account N, owner N       the name of an account of the small book, the owner of a grain
-//! run N                    the live run of a grain
-//! random                   whether two secrets of the system differ
-//! requests|COUNT|SEED      the requests of a seed; `digest` their length and digest
-//! line|WORD|WORD ..        the line that words are
-//! ```
+//! Plays conversations that stand in texts: what clients send, and what the server must answer, to the byte, over
+//! objects in memory that fail at the calls that are listed. The notation is described beside the texts, in
+//! `test_player/data/NOTATION.md`.
 #![tactic(auto)]
 
-mod connections;
+mod comparing;
 mod conversation;
 mod door;
-mod fault;
-mod making;
-mod notation;
+mod keepers;
 mod play;
 mod reading;
+mod rounds;
+mod settings;
+mod short;
 
-use crate::connections::{connected, drawn_twice};
-use crate::making::made_of;
+use crate::conversation::Conversation;
 use crate::play::differences;
 use crate::reading::conversations;
+use std::alloc::Global;
 use std::io;
+use test_words::{Tally, tell};
 
-/// Plays the conversations of a text with a name, and prints how many went otherwise.
-pub fn play_conversations(rt: &HostRuntime, name: &str, text: &str) -> io::Result<()> {
-    let alloc = rt.alloc();
-    let read = match conversations(alloc, text)? {
-        Ok(read) => read,
-        Err(number) => {
-            println!(rt; "{name}: line {number} can't be read")?;
-            return Ok(());
+// Plays a conversation, tells what goes otherwise, and says whether nothing does.
+fn passes(
+    rt: &impl Print,
+    alloc: Global,
+    name: &str,
+    conversation: &Conversation,
+) -> io::Result<bool> {
+    let title = conversation.title.as_str();
+    let found = match differences(alloc, conversation) {
+        Ok(found) => found,
+        Err(fault) => {
+            let came = format!(in alloc; "{fault}")?;
+            let place = (name, conversation.line);
+            tell(
+                rt,
+                alloc,
+                place,
+                title,
+                b"what can be played",
+                came.as_bytes(),
+            )?;
+            return Ok(false);
         }
     };
-    let mut differing = 0usize;
-    for conversation in &read {
-        let found = differences(alloc, conversation)?;
-        if !found.is_empty() {
-            differing = differing.saturating_add(1);
+    for difference in &found {
+        let of = format!(in alloc; "{title}: {}", difference.of)?;
+        let (wanted, came) = (difference.wanted.as_slice(), difference.came.as_slice());
+        tell(
+            rt,
+            alloc,
+            (name, difference.line),
+            of.as_str(),
+            wanted,
+            came,
+        )?;
+    }
+    Ok(found.is_empty())
+}
+
+/// Plays the conversations of a text with a name, and tells what goes otherwise than it is written.
+pub fn play_conversations(
+    rt: &impl Print,
+    alloc: Global,
+    name: &str,
+    text: &str,
+) -> io::Result<Tally> {
+    let mut tally = Tally::default();
+    match conversations(alloc, text) {
+        Ok(read) => {
+            for conversation in &read {
+                tally.count(passes(rt, alloc, name, conversation)?);
+            }
         }
-        for difference in &found {
-            println!(rt; "{name}: {}: {difference}", conversation.name)?;
+        Err(unread) => {
+            let (place, fault) = ((name, unread.line), unread.fault);
+            let came = format!(in alloc; "{fault}")?;
+            tell(
+                rt,
+                alloc,
+                place,
+                "a line",
+                b"what can be read",
+                came.as_bytes(),
+            )?;
+            tally.count(false);
         }
     }
-    println!(rt;
-        "{name}: {} conversations, {differing} went otherwise",
-        read.len()
-    )?;
-    Ok(())
-}
-
-// Plays a row of requests or of words.
-fn play_made(rt: &HostRuntime, row: &str) -> io::Result<()> {
-    match made_of(rt.alloc(), row) {
-        Ok(text) => println!(rt; "{row}\n    {text}"),
-        Err(fault) => println!(rt; "{row}\n    {fault}"),
-    }
-}
-
-// Plays a row of a connection or of the small book.
-fn play_connection(rt: &HostRuntime, row: &str) -> io::Result<()> {
-    match connected(rt.alloc(), row) {
-        Ok(text) => println!(rt; "{row}\n    {text}"),
-        Err(fault) => println!(rt; "{row}\n    {fault}"),
-    }
-}
-
-// Plays a row.
-fn play_row(rt: &HostRuntime, row: &str) -> io::Result<()> {
-    if row == "random" {
-        let (told, faults) = drawn_twice(rt);
-        return println!(rt; "{row}\n    {told}, {faults} faults");
-    }
-    let (word, _) = row.split_once('|').unwrap_or((row, ""));
-    match word {
-        "requests" | "digest" | "line" => play_made(rt, row),
-        _ => play_connection(rt, row),
-    }
-}
-
-/// Plays rows, one a line, and prints under each what it gives.
-pub fn play_rows(rt: &HostRuntime, rows: &str) -> io::Result<()> {
-    for row in rows.lines() {
-        play_row(rt, row)?;
-    }
-    Ok(())
+    Ok(tally)
 }

@@ -1,158 +1,166 @@
-//! How a file is read: line by line, each conversation from a line that begins with `=`.
+//! How a text is read: line by line, each conversation from a line that begins with `==`.
 
-use crate::conversation::{Conversation, Stream};
-use crate::notation::put_line;
-use std::alloc::{AllocError, Global};
+use crate::conversation::{Conversation, Failing, Kept, Piece, Round, Stream};
+use crate::settings::read_setting;
+use crate::short::{is_status, read_answer, read_request};
+use std::alloc::Global;
+use test_words::{Fault, after, put_line, says_nothing};
 
-// What stands after the mark that a line begins with.
-fn after<'a>(line: &'a str, mark: &str) -> Option<&'a str> {
-    let rest = line.strip_prefix(mark)?;
-    Some(rest.strip_prefix(' ').unwrap_or(rest))
-}
-
-// The words of a text.
-fn words(alloc: Global, text: &str) -> Result<Vec<String>, AllocError> {
+// The words of a program that plays over its input and output.
+fn play_words(alloc: Global) -> Result<Vec<String>, Fault> {
     let mut words = Vec::new(alloc);
-    for word in text.split_whitespace() {
-        words.push(String::from_str(alloc, word)?)?;
-    }
+    words.push(String::from_str(alloc, "play")?)?;
     Ok(words)
 }
 
-// The numbers of a text, or none where a word is no number.
-fn numbers(alloc: Global, text: &str) -> Result<Option<Vec<u64>>, AllocError> {
-    let mut numbers = Vec::new(alloc);
-    for word in text.split_whitespace() {
-        let Ok(number) = word.parse::<u64>() else {
-            return Ok(None);
-        };
-        numbers.push(number)?;
-    }
-    Ok(Some(numbers))
+// A conversation in which nothing is sent and nothing comes back.
+fn begin(alloc: Global, line: usize, title: &str) -> Result<Conversation, Fault> {
+    let title = String::from_str(alloc, title)?;
+    let first = Round::new(alloc, line, play_words(alloc)?);
+    let mut rounds = Vec::new(alloc);
+    rounds.push(first)?;
+    Ok(Conversation {
+        title,
+        line,
+        rounds,
+        failing: Failing::none(alloc),
+        kept: Kept {
+            database: false,
+            empty: false,
+            first: Vec::new(alloc),
+            count: None,
+            last: Vec::new(alloc),
+        },
+        grains: Vec::new(alloc),
+        asked: None,
+        told: None,
+        gives: None,
+        secrets: None,
+        repeats: 1,
+        cuts: false,
+        last: (String::new(alloc), String::new(alloc)),
+    })
 }
 
-// The low bytes of numbers.
-fn low_bytes(alloc: Global, numbers: &[u64]) -> Result<Vec<u8>, AllocError> {
+// The bytes of a line that must come.
+fn piece(alloc: Global, line: usize, text: &str) -> Result<Piece, Fault> {
     let mut bytes = Vec::new(alloc);
-    for number in numbers {
-        bytes.push((*number % 256) as u8)?;
-    }
-    Ok(bytes)
+    put_line(alloc, &mut bytes, text)?;
+    Ok(Piece { line, bytes })
 }
 
-// Reads a setting: its name, and its value. It is false where it can't be read.
-fn read_setting(
+// Appends a line to those that must come of something, if any.
+fn put_piece(
+    alloc: Global,
+    pieces: &mut Option<Vec<Piece>>,
+    line: usize,
+    text: &str,
+) -> Result<(), Fault> {
+    let mut all = pieces.take().unwrap_or(Vec::new(alloc));
+    all.push(piece(alloc, line, text)?)?;
+    *pieces = Some(all);
+    Ok(())
+}
+
+// Appends a line to the last answer of a grain.
+fn put_grain(alloc: Global, conversation: &mut Conversation, text: &str) -> Result<(), Fault> {
+    match conversation.grains.last_mut() {
+        Some(answer) => put_line(alloc, answer, text),
+        None => Err(Fault::Unreadable),
+    }
+}
+
+// The connection that is open.
+fn open(conversation: &mut Conversation) -> Result<&mut Stream, Fault> {
+    match conversation.rounds.last_mut() {
+        Some(round) => Ok(round.open()),
+        None => Err(Fault::Unreadable),
+    }
+}
+
+// Reads a line that is a setting, or a request or an answer in the short form.
+fn read_words(
     alloc: Global,
     conversation: &mut Conversation,
-    name: &str,
-    value: &str,
-) -> Result<bool, AllocError> {
-    match name {
-        "words" => conversation.words = words(alloc, value)?,
-        "cuts" => conversation.cuts = true,
-        "empty" => conversation.empty = true,
-        "stream" => conversation.streams.push(Stream {
-            sent: Vec::new(alloc),
-            answered: Vec::new(alloc),
-        })?,
-        "grain" => conversation.grains.push(Vec::new(alloc))?,
-        "status" => match value.parse::<u8>() {
-            Ok(status) => conversation.status = status,
-            Err(_) => return Ok(false),
-        },
-        "rows" => match value.parse::<usize>() {
-            Ok(count) => conversation.rows = Some(count),
-            Err(_) => return Ok(false),
-        },
-        "repeat" => match value.parse::<usize>() {
-            Ok(times) => conversation.repeats = times,
-            Err(_) => return Ok(false),
-        },
-        "gives" => match value.parse::<usize>() {
-            Ok(most) if most > 0 => conversation.gives = Some(most),
-            _ => return Ok(false),
-        },
-        _ => {
-            let Some(calls) = numbers(alloc, value)? else {
-                return Ok(false);
-            };
-            match name {
-                "source" => conversation.source_fails = calls,
-                "sink" => conversation.sink_fails = calls,
-                "link" => conversation.link_fails = calls,
-                "draw" => conversation.draw_fails = calls,
-                "spawner" => conversation.spawner_fails = calls,
-                "store" => conversation.store_fails = calls,
-                "secrets" => conversation.secrets = Some(low_bytes(alloc, calls.as_slice())?),
-                _ => return Ok(false),
-            }
-        }
+    line: usize,
+    text: &str,
+) -> Result<(), Fault> {
+    let (word, rest) = text.split_once(' ').unwrap_or((text, ""));
+    if is_status(word) {
+        let bytes = read_answer(alloc, &conversation.last, word, rest)?;
+        return Ok(open(conversation)?.answered.push(Piece { line, bytes })?);
     }
-    Ok(true)
+    if let Some(request) = read_request(alloc, word, rest)? {
+        open(conversation)?
+            .sent
+            .extend_from_slice(request.bytes.as_slice())?;
+        conversation.last = request.line;
+        return Ok(());
+    }
+    read_setting(alloc, conversation, line, word, rest)
 }
 
-// Reads a line of a conversation. What is sent and answered behind a line `stream` is of that connection. It is false where it can't be read.
+// Reads a line of a conversation. What is sent and answered behind a line `stream` is of that connection.
 fn read_line(
     alloc: Global,
     conversation: &mut Conversation,
-    line: &str,
-) -> Result<bool, AllocError> {
-    if let Some(text) = after(line, ">") {
-        return match conversation.streams.last_mut() {
-            Some(stream) => put_line(alloc, &mut stream.sent, text),
-            None => put_line(alloc, &mut conversation.sent, text),
-        };
+    line: usize,
+    text: &str,
+) -> Result<(), Fault> {
+    if let Some(text) = after(text, ">") {
+        return put_line(alloc, &mut open(conversation)?.sent, text);
     }
-    if let Some(text) = after(line, "<") {
-        return match conversation.streams.last_mut() {
-            Some(stream) => put_line(alloc, &mut stream.answered, text),
-            None => put_line(alloc, &mut conversation.answered, text),
-        };
+    if let Some(text) = after(text, "<") {
+        let piece = piece(alloc, line, text)?;
+        return Ok(open(conversation)?.answered.push(piece)?);
     }
-    if let Some(text) = after(line, "?") {
-        let mut asked = conversation.asked.take().unwrap_or(Vec::new(alloc));
-        let read = put_line(alloc, &mut asked, text)?;
-        conversation.asked = Some(asked);
-        return Ok(read);
+    if let Some(text) = after(text, "?") {
+        return put_piece(alloc, &mut conversation.asked, line, text);
     }
-    if let Some(text) = after(line, "!") {
-        let mut told = conversation.told.take().unwrap_or(Vec::new(alloc));
-        let read = put_line(alloc, &mut told, text)?;
-        conversation.told = Some(told);
-        return Ok(read);
+    if let Some(text) = after(text, "!") {
+        return put_piece(alloc, &mut conversation.told, line, text);
     }
-    if let Some(text) = after(line, "|") {
-        return match conversation.grains.last_mut() {
-            Some(answer) => put_line(alloc, answer, text),
-            None => Ok(false),
-        };
+    if let Some(text) = after(text, "|") {
+        return put_grain(alloc, conversation, text);
     }
-    let (name, value) = line.split_once(' ').unwrap_or((line, ""));
-    read_setting(alloc, conversation, name, value)
+    read_words(alloc, conversation, line, text)
 }
 
-/// The conversations of a text, or the number of the first line that can't be read, from 1. Empty lines and those that begin with
-/// `#` say nothing.
-pub fn conversations(
+/// Why a text can't be read: the number of its first line that can't, from 1, with the line, or want of memory.
+#[derive(Debug, Drop)]
+pub struct Unread {
+    pub line: usize,
+    pub fault: Fault,
+}
+
+// Reads a line of a text: one that begins a conversation, or one of the last conversation.
+fn read_next(
     alloc: Global,
+    read: &mut Vec<Conversation>,
+    line: usize,
     text: &str,
-) -> Result<Result<Vec<Conversation>, usize>, AllocError> {
+) -> Result<(), Fault> {
+    if let Some(title) = after(text, "==") {
+        return Ok(read.push(begin(alloc, line, title)?)?);
+    }
+    match read.last_mut() {
+        Some(conversation) => read_line(alloc, conversation, line, text),
+        None => Err(Fault::Unreadable),
+    }
+}
+
+/// The conversations of a text. Empty lines and those that begin with `#` say nothing.
+pub fn conversations(alloc: Global, text: &str) -> Result<Vec<Conversation>, Unread> {
     let mut read = Vec::new(alloc);
-    for (place, line) in text.lines().enumerate() {
-        if line.is_empty() || line.starts_with('#') {
+    for (place, text) in text.lines().enumerate() {
+        let line = place.saturating_add(1);
+        if says_nothing(text) {
             continue;
         }
-        if let Some(name) = after(line, "=") {
-            read.push(Conversation::new(alloc, name)?)?;
-            continue;
-        }
-        let known = match read.last_mut() {
-            Some(conversation) => read_line(alloc, conversation, line)?,
-            None => false,
-        };
-        if !known {
-            return Ok(Err(place.saturating_add(1)));
+        match read_next(alloc, &mut read, line, text) {
+            Ok(()) => (),
+            Err(fault) => return Err(Unread { line, fault }),
         }
     }
-    Ok(Ok(read))
+    Ok(read)
 }

@@ -13,7 +13,8 @@ use Rattle.desk_orders.specs.declared.order.Command.TheVariants as command
 use Rattle.desk_orders.specs.Commands.{Asked}
 use Rattle.desk_orders.specs.Listing.{IsListedFor, IsListed}
 use Rattle.desk_orders.specs.Orders.{RowBy, RowOf}
-use Rattle.desk_orders.specs.Sites.{Law, ListsBy}
+use Rattle.site_caps.specs.Law.{Law}
+use Rattle.desk_orders.specs.Sites.{ListsBy}
 
 pub listed_from : (law : Law) (s : State) (order : Asked) (n : GrainId) (query : List DescriptorData) → order.command ≡ command.Options n query → (result : Result (List Listed) DeskFault)
     → IsListedFor law s order.caller n query result → IsListed law s order result

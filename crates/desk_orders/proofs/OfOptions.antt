@@ -17,7 +17,8 @@ use Rattle.saved_refs.specs.Options.{Options}
 use Rattle.desk_orders.specs.declared.order.Command.{Command}
 use Rattle.desk_orders.specs.declared.order.Command.TheVariants as command
 use Rattle.desk_orders.specs.Commands.{lists}
-use Rattle.desk_orders.specs.Sites.{Law, IsFoundBy}
+use Rattle.site_caps.specs.Law.{Law}
+use Rattle.desk_orders.specs.Sites.{IsFoundBy}
 
 no_change : (s : State) (at : Node) (change : Change) (made : Made) → entry denies s.tables at (answers (Keeps nothing_made)) (Makes change made) → ChangeFits s change
 no_change s at change made (inl (reason, same, missing)) = let odd : Makes change made ≡ Refuses (Denied reason) = same in cc

@@ -15,7 +15,8 @@ use Rattle.desk_orders.specs.declared.reply.OrderFault.TheVariants as fault
 use Rattle.desk_orders.specs.declared.reply.Reply.{Reply}
 use Rattle.desk_orders.specs.declared.reply.Reply.TheVariants as reply
 use Rattle.desk_orders.specs.Orders.{RowOf}
-use Rattle.desk_orders.specs.Sites.{Law, ListsBy}
+use Rattle.site_caps.specs.Law.{Law}
+use Rattle.desk_orders.specs.Sites.{ListsBy}
 use Rattle.desk_orders.specs.Secrets.{secret_text, shown_by, text_digest}
 
 -- the event starts a run or stops one: then it is the spawner's to do

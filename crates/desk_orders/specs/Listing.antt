@@ -12,7 +12,8 @@ use Rattle.saved_refs.specs.Options.{Options}
 use Rattle.saved_refs.specs.declared.listed.Listed.{Listed}
 use Rattle.desk_orders.specs.Commands.{Asked}
 use Rattle.desk_orders.specs.Orders.{RowOf}
-use Rattle.desk_orders.specs.Sites.{Law, AreListed, ListsBy}
+use Rattle.site_caps.specs.Law.{Law}
+use Rattle.desk_orders.specs.Sites.{AreListed, ListsBy}
 
 -- for a caller, a grain and a query
 abbrev pub IsListedFor : Law → State → Caller → GrainId → List DescriptorData → Result (List Listed) DeskFault → Type 0

@@ -13,6 +13,7 @@ use Rattle.share_graph.specs.declared.desk.Offer.TheVariants as offer
 use Rattle.share_graph.specs.declared.rows.Account.{Account}
 use Rattle.share_graph.specs.declared.state.State.{State}
 use Rattle.site_caps.specs.Finding.{HasOffer, HasNoOffer}
+use Rattle.site_caps.specs.Law.{Law}
 use Rattle.site_caps.specs.Sites.{IsSites}
 use Rattle.site_caps.specs.declared.offer.SiteOffer.{SiteOffer}
 use Rattle.desk_base.specs.Calling.{IsCaller}
@@ -21,12 +22,6 @@ use Rattle.saved_refs.specs.Options.{AreOptions}
 use Rattle.saved_refs.specs.declared.listed.Listed.{Listed}
 use Rattle.desk_orders.specs.declared.order.Command.{Command}
 use Rattle.desk_orders.specs.declared.order.Command.TheVariants as command
-
--- The law of the sites: their tags, which offers may answer a query at a tag, and which text, or none, may be given for an item there.
-pub record Law : Type 0 where
-  pub tags : List ℕ
-  pub may_offer : ℕ → List DescriptorData → List SiteOffer → Bool
-  pub may_restore : ℕ → ℕ → Option (List ℕ) → Bool
 
 -- whether the caller's account is an admin
 abbrev pub IsAdminBy : State → Caller → Bool → Type 0

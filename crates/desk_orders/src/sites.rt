@@ -54,7 +54,7 @@ fn found_item<C: SiteDriver + Drop>(
     item: u32,
 ) -> Result<Option<bool>, Memory>
     requires { IsWellFormed state.now }
-    ensures { IfOk result (λ found. (admin : Bool) × IsAdminBy state.now caller.now admin × IsFound (record { tags = C.Law.tags; may_offer = C.Law.may_offer; may_restore = C.Law.may_restore }) query.now admin tag item found) }
+    ensures { IfOk result (λ found. (admin : Bool) × IsAdminBy state.now caller.now admin × IsFound C.Law.law query.now admin tag item found) }
 {
     match sites.find(alloc, query, is_admin(state, caller), tag, item) {
         Ok(offer) => Ok(Some(offer.admin_only)),
@@ -74,7 +74,7 @@ fn found_of_offer<C: SiteDriver + Drop>(
     offer: &Offer,
 ) -> Result<Option<bool>, Memory>
     requires { IsWellFormed state.now }
-    ensures { IfOk result (IsFoundOf (record { tags = C.Law.tags; may_offer = C.Law.may_offer; may_restore = C.Law.may_restore }) state.now caller.now query.now offer.now) }
+    ensures { IfOk result (IsFoundOf C.Law.law state.now caller.now query.now offer.now) }
 {
     match offer {
         Offer::Site { tag, item } => found_item(alloc, state, sites, caller, query, *tag, *item),
@@ -91,7 +91,7 @@ pub fn found_of<C: SiteDriver + Drop>(
     order: &Order,
 ) -> Result<Option<bool>, Memory>
     requires { IsWellFormed state.now }
-    ensures { IfOk result (IsFoundBy (record { tags = C.Law.tags; may_offer = C.Law.may_offer; may_restore = C.Law.may_restore })
+    ensures { IfOk result (IsFoundBy C.Law.law
         state.now order.now.caller order.now.command) }
 {
     match &order.command {
@@ -201,7 +201,7 @@ fn options_of<C: SiteDriver + Drop>(
 ) -> Result<Listing, DeskFault>
     requires formed { IsWellFormed state.now }
     requires solution { IsSolutionOf state.now.tables solved.now }
-    ensures { IsListedFor (record { tags = C.Law.tags; may_offer = C.Law.may_offer; may_restore = C.Law.may_restore }) state.now caller.now num query.now result }
+    ensures { IsListedFor C.Law.law state.now caller.now num query.now result }
 {
     let choices = grain_options(alloc, state, solved, caller, num, query)?;
     let told = sites.options(alloc, query, is_admin(state, caller))?;
@@ -222,7 +222,7 @@ pub fn list_options<C: SiteDriver + Drop>(
     requires formed { IsWellFormed state.now }
     requires solution { IsSolutionOf state.now.tables solved.now }
     requires asks { commands.lists order.now.command ≡ true }
-    ensures { IsListed (record { tags = C.Law.tags; may_offer = C.Law.may_offer; may_restore = C.Law.may_restore }) state.now order.now result }
+    ensures { IsListed C.Law.law state.now order.now result }
 {
     match &order.command {
         Command::Options(grain, query) => options_of(

@@ -5,3 +5,4 @@ pub mod Placing
 pub mod Storing
 pub mod Opened
 pub mod Outwards
+pub mod Revoking

@@ -12,7 +12,7 @@ use Rattle.desk_orders.specs.declared.reply.OrderFault.TheVariants as fault
 use Rattle.desk_orders.specs.declared.reply.Reply.{Reply}
 use Rattle.desk_orders.specs.Commands.{Asked}
 use Rattle.hub_core.specs.Book.{Book, Judged, IsCounted, TakesNone, Ordered}
-use Rattle.desk_orders.specs.Sites.{Law}
+use Rattle.site_caps.specs.Law.{Law}
 use Rattle.hub_core.specs.Sharing.{AnsweredBy, Answered, book_of}
 use Rattle.hub_core.specs.Storing.{Outer}
 

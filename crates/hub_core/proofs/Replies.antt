@@ -22,7 +22,8 @@ use Rattle.desk_orders.specs.Commands.{Asked, lists}
 use Rattle.desk_orders.specs.Listing.{IsListed}
 use Rattle.desk_orders.specs.Orders.{RowOf}
 use Rattle.desk_orders.specs.Secrets.{DrawsAll}
-use Rattle.desk_orders.specs.Sites.{Law, ListsBy, IsFoundBy}
+use Rattle.site_caps.specs.Law.{Law}
+use Rattle.desk_orders.specs.Sites.{ListsBy, IsFoundBy}
 use Rattle.desk_orders.proofs.OfOptions.{none_found}
 use Rattle.hub_core.specs.Adding.{Told, NotTold}
 use Rattle.hub_core.specs.Book.{IsFoundFor}

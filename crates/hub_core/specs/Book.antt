@@ -13,7 +13,8 @@ use Rattle.desk_orders.specs.declared.reply.OrderFault.TheVariants as fault
 use Rattle.desk_orders.specs.declared.reply.Reply.{Reply}
 use Rattle.desk_orders.specs.Answers.{IsAnswer}
 use Rattle.desk_orders.specs.Secrets.{DrawsAll}
-use Rattle.desk_orders.specs.Sites.{Law, IsFoundBy}
+use Rattle.site_caps.specs.Law.{Law}
+use Rattle.desk_orders.specs.Sites.{IsFoundBy}
 
 -- What a desk tells: the law of its sites, the state that its history began with, the entries of the history that it has seen, how many commands it
 -- accepted, how often its store, its secrets and its spawner failed, and the secrets still to come, where that is told.

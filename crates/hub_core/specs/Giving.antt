@@ -2,7 +2,7 @@
 use Rattle.std.specs.Prelude.{◌≡◌, ℕ, List, Some, None, Result, Ok, Err, Contains, IsTrue}
 use Rattle.site_caps.specs.declared.fault.SiteFault.{SiteFault}
 use Rattle.site_caps.specs.declared.fault.SiteFault.TheVariants as fault
-use Rattle.desk_orders.specs.Sites.{Law}
+use Rattle.site_caps.specs.Law.{Law}
 
 -- A text that the law allows for the item; NoDriver where the law has no such tag, and NotOffered where it has, and allows none for the item.
 abbrev pub Gives : Law → ℕ → ℕ → Result (List ℕ) SiteFault → Type 0

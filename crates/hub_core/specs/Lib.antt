@@ -6,3 +6,4 @@ pub mod Giving
 pub mod Sharing
 pub mod Adding
 pub mod Opening
+pub mod Revoking

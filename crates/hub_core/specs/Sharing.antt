@@ -14,7 +14,7 @@ use Rattle.desk_orders.specs.declared.reply.OrderFault.TheVariants as fault
 use Rattle.desk_orders.specs.declared.reply.Reply.{Reply}
 use Rattle.desk_orders.specs.Answers.{IsAnswer}
 use Rattle.desk_orders.specs.Secrets.{DrawsAll}
-use Rattle.desk_orders.specs.Sites.{Law}
+use Rattle.site_caps.specs.Law.{Law}
 use Rattle.hub_core.specs.Book.{Book, IsFoundFor}
 use Rattle.hub_core.specs.Spawning.{Spawned, token_of}
 use Rattle.hub_core.specs.Storing.{Outer}

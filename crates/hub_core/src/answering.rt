@@ -11,7 +11,7 @@ ghost use Rattle.desk_orders.specs.Commands as commands;
 ghost use Rattle.desk_orders.specs.Orders.{RowOf};
 ghost use Rattle.desk_orders.specs.Secrets as texts;
 ghost use Rattle.desk_orders.specs.Secrets.{text_digest};
-ghost use Rattle.desk_orders.specs.Sites.{Law};
+ghost use Rattle.site_caps.specs.Law.{Law};
 ghost use Rattle.hub_core.specs.Adding.{Adds};
 ghost use Rattle.hub_core.specs.Sharing.{Holds, Answered, AnsweredBy};
 ghost use Rattle.hub_core.specs.Storing.{IsStored};
@@ -184,7 +184,7 @@ pub fn answer_with_sites<K: Keeper, S: Secrets, P: Spawner, C: SiteDriver + Drop
     requires asks { commands.lists order.now.command ≡ false }
     ensures kept { (start : State) → state.old ≡ history.replay start entries.old.items → Holds start state.new entries.new.items solution.new }
     ensures stored { IsStored (K.keeping keeper.old) state.old.tables → IsStored (K.keeping keeper.new) state.new.tables }
-    ensures answered { AnsweredBy (record { tags = C.Law.tags; may_offer = C.Law.may_offer; may_restore = C.Law.may_restore })
+    ensures answered { AnsweredBy C.Law.law
         state.old entries.old.items entries.new.items (S.drawer secrets.old) (S.drawer secrets.new)
         (record { spawns = P.spawns spawner.old; keeping = K.keeping keeper.old }) (record { spawns = P.spawns spawner.new; keeping = K.keeping keeper.new }) order.now result }
 {

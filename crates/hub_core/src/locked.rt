@@ -11,6 +11,7 @@ ghost use Rattle.desk_orders.specs.Commands as commands;
 ghost use Rattle.desk_orders.specs.Listing.{IsListed};
 ghost use Rattle.hub_core.specs.Giving.{Gives};
 ghost use Rattle.hub_core.specs.Listing.{reply_of};
+ghost use Rattle.hub_core.specs.Revoking.{TakesAway, Spares};
 ghost use Rattle.hub_core.specs.Sharing.{AnsweredBy};
 ghost use Rattle.hub_core.specs.Storing.{IsStored};
 
@@ -195,9 +196,11 @@ impl<K: Keeper, S: Secrets, P: Spawner, C: SiteDriver + Drop> Locked<K, S, P, C>
         self.solution.solved()
     }
 
-    /// The verdict on a key at the end of the history.
+    /// The verdict on a key at the end of the history. Where its last entry revoked a grant, a key that held entry only by derivations
+    /// through that grant is denied, and one with another derivation goes on with exactly what the others give.
     pub fn verdict(&self, alloc: Global, key: &Key) -> Result<Verdict, Memory>
-        ensures { IfOk result (IsVerdict (replay self.now.start self.now.history) key.now) }
+        ensures verdict { IfOk result (IsVerdict (replay self.now.start self.now.history) key.now) }
+        ensures spared { IfOk result (Spares self.now.start self.now.history key.now) }
     {
         verdict(alloc, &self.state, self.solution.solved(), key)
     }
@@ -207,7 +210,7 @@ impl<K: Keeper, S: Secrets, P: Spawner, C: SiteDriver + Drop> Locked<K, S, P, C>
     /// # Errors
     /// `NoDriver` where there is no such site, and `NotOffered` where it gives nothing for the item.
     pub fn site(&self, alloc: Global, tag: u64, item: u32) -> Result<SiteText, SiteFault>
-        ensures { Gives (record { tags = C.Law.tags; may_offer = C.Law.may_offer; may_restore = C.Law.may_restore }) tag item result }
+        ensures { Gives C.Law.law tag item result }
     {
         match self.sites.restore(alloc, tag, item) {
             Ok(text) => Ok(text),
@@ -218,7 +221,7 @@ impl<K: Keeper, S: Secrets, P: Spawner, C: SiteDriver + Drop> Locked<K, S, P, C>
     // Answers an order that asks for a list.
     fn list(&self, alloc: Global, order: &Order) -> Result<Reply, OrderFault>
         requires { commands.lists order.now.command ≡ true }
-        ensures listed { (outcome : _) × IsListed (record { tags = C.Law.tags; may_offer = C.Law.may_offer; may_restore = C.Law.may_restore }) (replay self.now.start self.now.history) order.now outcome × (result ≡ reply_of outcome) }
+        ensures listed { (outcome : _) × IsListed C.Law.law (replay self.now.start self.now.history) order.now outcome × (result ≡ reply_of outcome) }
         ensures stored { IsStored (K.keeping self.now.keeper) (replay self.now.start self.now.history).tables }
     {
         match list_options(
@@ -241,7 +244,7 @@ impl<K: Keeper, S: Secrets, P: Spawner, C: SiteDriver + Drop> Locked<K, S, P, C>
         requires { commands.lists order.now.command ≡ false }
         ensures start { self.new.start ≡ self.old.start }
         ensures sites { self.new.sites ≡ self.old.sites }
-        ensures answered { AnsweredBy (record { tags = C.Law.tags; may_offer = C.Law.may_offer; may_restore = C.Law.may_restore })
+        ensures answered { AnsweredBy C.Law.law
             (replay self.old.start self.old.history) self.old.history self.new.history
             (S.drawer self.old.secrets) (S.drawer self.new.secrets)
             (record { spawns = P.spawns self.old.spawner; keeping = K.keeping self.old.keeper }) (record { spawns = P.spawns self.new.spawner; keeping = K.keeping self.new.keeper })
@@ -262,15 +265,17 @@ impl<K: Keeper, S: Secrets, P: Spawner, C: SiteDriver + Drop> Locked<K, S, P, C>
     }
 
     /// Answers an order at the end of the history. Where it changes something, its event is the next entry, and the keeper has the row that
-    /// it adds or changes; a refusal, a fault and want of memory leave the history and the rows as they were.
+    /// it adds or changes; a refusal, a fault and want of memory leave the history and the rows as they were. Where the entry revokes a grant,
+    /// a fact is held from there on exactly where it had a derivation that doesn't use the grant.
     pub fn order(&mut self, alloc: Global, order: Order) -> Result<Reply, OrderFault>
         ensures start { self.new.start ≡ self.old.start }
         ensures sites { self.new.sites ≡ self.old.sites }
-        ensures answered { AnsweredBy (record { tags = C.Law.tags; may_offer = C.Law.may_offer; may_restore = C.Law.may_restore })
+        ensures answered { AnsweredBy C.Law.law
             (replay self.old.start self.old.history) self.old.history self.new.history
             (S.drawer self.old.secrets) (S.drawer self.new.secrets)
             (record { spawns = P.spawns self.old.spawner; keeping = K.keeping self.old.keeper }) (record { spawns = P.spawns self.new.spawner; keeping = K.keeping self.new.keeper })
             order result }
+        ensures revoked { TakesAway self.old.start self.old.history self.new.history }
         ensures stored { IsStored (K.keeping self.new.keeper) (replay self.new.start self.new.history).tables }
     {
         if lists(&order) {

@@ -57,7 +57,7 @@ impl<K: Keeper, S: Secrets, P: Spawner, C: SiteDriver + Drop> SoloDesk<K, S, P, 
 }
 
 impl<K: Keeper, S: Secrets, P: Spawner, C: SiteDriver + Drop> Desk for SoloDesk<K, S, P, C> {
-    ghost book = { λ sharing. book_of (record { tags = C.Law.tags; may_offer = C.Law.may_offer; may_restore = C.Law.may_restore }) sharing.start sharing.history (S.drawer sharing.secrets)
+    ghost book = { λ sharing. book_of C.Law.law sharing.start sharing.history (S.drawer sharing.secrets)
         (record { spawns = P.spawns sharing.spawner; keeping = K.keeping sharing.keeper }) };
 
     fn place(&self) -> u64 {

@@ -73,7 +73,7 @@ handle_before handles numbered i j x y at there runs nums less =
     eq_refl n = grind arith
 
 -- a run has one handle of a number
-handle_one : (s : State) → IsWellFormed s → (r : RunId) (n : ℕ) → IsOne (λ handle. IsOneOf s.handles (IsHandleOf r n) handle)
+pub handle_one : (s : State) → IsWellFormed s → (r : RunId) (n : ℕ) → IsOne (λ handle. IsOneOf s.handles (IsHandleOf r n) handle)
 handle_one s formed r n = record {
   one = λ x y a b.
       (let (i, at) = place_of s.handles x a.listed in

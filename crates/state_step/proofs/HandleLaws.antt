@@ -16,7 +16,7 @@ use Rattle.state_step.specs.NewRows.{handles_of, IsNewHandle, IsNewClaim}
 use Rattle.state_step.proofs.Each.{push_cases}
 use Rattle.state_step.proofs.GrantLaws.{with_new_grant}
 use Rattle.state_step.proofs.NextTables.{with_tables}
-use Rattle.state_step.proofs.OthersStay.{last_place}
+use Rattle.state_step.proofs.LastPlace.{last_place}
 
 -- the handles of a handle's run in a list
 abbrev before : List Handle → Handle → ℕ

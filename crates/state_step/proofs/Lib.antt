@@ -1,5 +1,5 @@
 pub mod AfterAll
-pub mod OthersStay
+pub mod LastPlace
 pub mod Each
 pub mod Touched
 pub mod Digests

@@ -1,11 +1,9 @@
 -- The row of the tables that an event adds or changes.
-use Rattle.std.specs.Prelude.{◌≡◌, ◌≢◌, ℕ, Option, Some, None}
+use Rattle.std.specs.Prelude.{ℕ, Option, Some, None}
 use Rattle.share_graph.specs.declared.event.Event.{Event}
 use Rattle.share_graph.specs.declared.event.Event.TheVariants as event
 use Rattle.share_graph.specs.declared.fault.Kind.{Kind}
 use Rattle.share_graph.specs.declared.fault.Kind.TheVariants as kind
-use Rattle.share_graph.specs.declared.state.Tables.{Tables}
-use Rattle.share_graph.specs.Rows.{row}
 
 -- its kind and its number, or none where an event leaves the tables as they are
 abbrev pub changed_row : Event → Option (Kind × ℕ)
@@ -25,11 +23,3 @@ changed_row (event.RunStopped r) = None
 changed_row (event.SessionOpened session) = None
 changed_row (event.SessionClosed n) = None
 changed_row (event.HandleMade handle) = None
-
--- Every other row is as it was.
-pub record LeavesOthers (changed : Option (Kind × ℕ)) (t u : Tables) : Type 0 where
-  pub accounts : (n : ℕ) → changed ≢ Some (kind.Account, n) → row u.accounts n ≡ row t.accounts n
-  pub apps : (n : ℕ) → changed ≢ Some (kind.App, n) → row u.apps n ≡ row t.apps n
-  pub grains : (n : ℕ) → changed ≢ Some (kind.Grain, n) → row u.grains n ≡ row t.grains n
-  pub grants : (n : ℕ) → changed ≢ Some (kind.Grant, n) → row u.grants n ≡ row t.grants n
-  pub saved : (n : ℕ) → changed ≢ Some (kind.Saved, n) → row u.saved n ≡ row t.saved n

@@ -1,4 +1,4 @@
-ghost use Rattle.std.specs.Prelude.{◌≡◌, ◌∷◌, ◌++◌, [], length, List, IfOk, OnErr};
+ghost use Rattle.std.specs.Prelude.{◌≡◌, ◌∷◌, ◌++◌, [], length, List, IfOk};
 ghost use Rattle.share_graph.specs.declared.event.Event.{Event};
 ghost use Rattle.share_graph.specs.declared.state.State.{State};
 ghost use Rattle.share_graph.specs.History as history;
@@ -7,7 +7,6 @@ ghost use Rattle.state_step.specs.Fits.{IsDue};
 ghost use Rattle.state_step.specs.Staging.{event_of, HasRoomFor};
 ghost use Rattle.state_step.specs.Losing.{RevokesExactly, ShutsOut, LeavesTheRest};
 
-use crate::preparing::prepare;
 use crate::staged::Staged;
 use host_base::Memory;
 use share_graph::{Event, Room, Rows, Session, State};
@@ -27,8 +26,8 @@ fn open(sessions: &mut Rows<Session>, session: Session, room: Room<Session>)
     }
 }
 
-/// Performs an event for which all room was taken in the state as it is. It cannot fail: where an index wants memory, it covers fewer rows.
-pub fn apply(state: &mut State, staged: Staged)
+// The step of an event for which all room was taken.
+fn step(state: &mut State, staged: Staged)
     requires { HasRoomFor state.old staged }
     ensures { state.new ≡ history.after state.old (event_of staged) }
 {
@@ -65,22 +64,20 @@ pub fn copy_of_event(event: &Event) -> Result<Event, Memory>
     }
 }
 
-/// Performs an event. Want of memory leaves the state as it was.
+/// Performs an event for which all room was taken in the state as it is. It cannot fail: where an index wants memory, it covers fewer rows.
 ///
 /// A state that is the replay of a history is then that of the history with this event. Where the event revokes a grant, a fact is
 /// held afterwards exactly where it had a derivation that doesn't use the grant: whoever came in through the grant alone is shut
 /// out, and what another derivation gives is held on. A well-formed state stays well formed where what is owed for the event holds.
-pub fn after(state: &mut State, event: &Event) -> Result<(), Memory>
-    ensures step { IfOk result (λ _. state.new ≡ history.after state.old event.now) }
-    ensures same { OnErr result (state.new ≡ state.old) }
+pub fn apply(state: &mut State, staged: Staged)
+    requires { HasRoomFor state.old staged }
+    ensures step { state.new ≡ history.after state.old (event_of staged) }
     ensures history { (start : State) (events : List Event) → state.old ≡ history.replay start events →
-        IfOk result (λ _. state.new ≡ history.replay start (events ++ event.now ∷ [])) }
-    ensures revoked { IfOk result (λ _. RevokesExactly state.old.tables event.now state.new.tables) }
-    ensures shut_out { IfOk result (λ _. ShutsOut state.old.tables event.now state.new.tables) }
-    ensures left { IfOk result (λ _. LeavesTheRest state.old.tables event.now state.new.tables) }
-    ensures formed { IsWellFormed state.old → IsDue state.old event.now → IfOk result (λ _. IsWellFormed state.new) }
+        state.new ≡ history.replay start (events ++ event_of staged ∷ []) }
+    ensures revoked { RevokesExactly state.old.tables (event_of staged) state.new.tables }
+    ensures shut_out { ShutsOut state.old.tables (event_of staged) state.new.tables }
+    ensures left { LeavesTheRest state.old.tables (event_of staged) state.new.tables }
+    ensures formed { IsWellFormed state.old → IsDue state.old (event_of staged) → IsWellFormed state.new }
 {
-    let staged = prepare(state, copy_of_event(event)?)?;
-    apply(state, staged);
-    Ok(())
+    step(state, staged);
 }

@@ -2,11 +2,9 @@
 #![tactic(auto)]
 
 mod applying;
-mod changed;
 mod preparing;
 mod staged;
 
-pub use applying::{ROOT_SESSIONS, after, apply, copy_of_event};
-pub use changed::row_of_event;
+pub use applying::{ROOT_SESSIONS, apply, copy_of_event};
 pub use preparing::prepare;
 pub use staged::Staged;

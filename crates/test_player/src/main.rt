@@ -1,41 +1,77 @@
-//! Plays the texts that its words name, which stand in its `data/`: conversations, and the worked rows of each crate of tests, whose
-//! name such a text has. What they give is printed beneath that name.
+//! Plays the texts that its words name, which stand in its `data/`, and tells what goes otherwise than they are
+//! written. At its end it prints a line for each text, and how many of all rows and conversations passed. A text whose
+//! name begins with `noticed` has what must go otherwise, so that it can be seen that this is noticed.
 #![tactic(auto)]
 
+use call_rows::Calls;
+use conversations::play_conversations;
+use std::alloc::AllocError;
+use std::process::ExitCode;
 use std::{env, fs, io};
+use test_words::{Tally, play_rows};
 
-// Plays a text, which has the rows of a crate of tests or conversations.
-fn play_text(rt: &HostRuntime, name: &str, rows: &str) -> io::Result<()> {
-    match name {
-        "conversations.txt" => conversations::play_rows(rt, rows),
-        "value_tests.txt" => value_tests::play_rows(rt, rows),
-        "graph_tests.txt" => graph_tests::play_rows(rt, rows),
-        "body_tests.txt" => body_tests::play_rows(rt, rows),
-        "front_tests.txt" => front_tests::play_rows(rt, rows),
-        "bridge_tests.txt" => bridge_tests::play_rows(rt, rows),
-        "step_tests.txt" => step_tests::play_rows(rt, rows),
-        "row_tests.txt" => row_tests::play_rows(rt, rows),
-        "store_tests.txt" => store_tests::play_rows(rt, rows),
-        "keeper_tests.txt" => keeper_tests::play_rows(rt, rows),
-        _ => conversations::play_conversations(rt, name, rows),
+// Plays a text, of rows of calls or of conversations, and tells what goes otherwise.
+fn play_text(rt: &HostRuntime, name: &str, text: &str) -> io::Result<Tally> {
+    let alloc = rt.alloc();
+    if !name.ends_with("calls.txt") {
+        return play_conversations(rt, alloc, name, text);
+    }
+    match Calls::new(alloc) {
+        Ok(mut calls) => play_rows(rt, alloc, name, text, &mut calls),
+        Err(_) => Err(io::Error::from(AllocError)),
     }
 }
 
-// Whether a text has the rows of a crate of tests.
-fn has_rows(name: &str) -> bool {
-    name == "conversations.txt" || name.ends_with("_tests.txt")
+// A text with its name and how much of it passed.
+#[derive(Drop)]
+struct Played {
+    name: String,
+    tally: Tally,
 }
 
-fn main(rt: HostRuntime) -> io::Result<()> {
-    for name in env::args(&rt)?.skip(1) {
-        let text = fs::read_to_string(&rt, name.as_str())?;
-        if has_rows(name.as_str()) {
-            println!(rt; "== {name}")?;
-        }
-        match name.as_str() {
-            "site_tests.txt" => site_tests::play_rows(&rt, rt.alloc(), text.as_str())?,
-            name => play_text(&rt, name, text.as_str())?,
-        }
+// Whether all that a text has must go otherwise.
+fn is_noticed(name: &str) -> bool {
+    name.contains("noticed")
+}
+
+// Prints a line for each text, and the sum of them, and says whether all passed.
+fn print_sums(rt: &HostRuntime, played: &[Played]) -> io::Result<bool> {
+    let mut all = Tally::default();
+    for text in played {
+        let (name, tally) = (text.name.as_str(), text.tally);
+        let noticed = if is_noticed(name) {
+            Tally {
+                passed: tally.failed,
+                failed: tally.passed,
+            }
+        } else {
+            tally
+        };
+        println!(rt;
+            "{name}: {} passed, {} failed",
+            noticed.passed, noticed.failed
+        )?;
+        all.add(noticed);
     }
-    Ok(())
+    println!(rt; "{} passed, {} failed", all.passed, all.failed)?;
+    Ok(all.failed == 0)
+}
+
+// Plays all texts, and says whether all that they have passed.
+fn play_all(rt: &HostRuntime) -> io::Result<bool> {
+    let mut played = Vec::new(rt.alloc());
+    for name in env::args(rt)?.skip(1) {
+        let text = fs::read_to_string(rt, name.as_str())?;
+        let tally = play_text(rt, name.as_str(), text.as_str())?;
+        played.push(Played { name, tally })?;
+    }
+    print_sums(rt, played.as_slice())
+}
+
+fn main(rt: HostRuntime) -> io::Result<ExitCode> {
+    Ok(if play_all(&rt)? {
+        ExitCode::SUCCESS
+    } else {
+        ExitCode::FAILURE
+    })
 }

@@ -8,7 +8,7 @@ use Rattle.admin_run.proofs.serving.serve_desk.Goals as goal
 pub returns-clause-serves : goal.returns-clause-serves
 returns-clause-serves g c = λ inlet tables begun none.
     let stopped = c.serve_all-stopped.result in
-    serves_from (record { tags = g.C.Law.SiteLaw.tags; may_offer = g.C.Law.SiteLaw.may_offer; may_restore = g.C.Law.SiteLaw.may_restore }) tables c.args.count stopped.answered c.tell_stop.result
+    serves_from g.C.Law.SiteLaw.law tables c.args.count stopped.answered c.tell_stop.result
     inlet (g.O.Sink.outlet c.args.out.now) (g.O.Sink.outlet c.tell_stop.new.out) (g.L.Link.line c.args.link) (g.E.Door.doorway c.args.door.now) (g.E.Door.doorway c.serve_all-stopped.new.door)
     g.K.Keeper.keeping g.S.Secrets.drawer g.P.Spawner.spawns c.args.desk c.serve_all-stopped.new.desk c.into_parts-keeper.result.0 c.into_parts-keeper.result.1 c.into_parts-keeper.result.2
     begun c.serve_all-stopped.ensures.begins none (c.into_parts-keeper.ensures.keeper ∙ ap (λ (x : Sharing _ _ _ _). x.keeper) c.into_locked.ensures)

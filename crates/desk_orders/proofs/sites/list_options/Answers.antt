@@ -4,5 +4,5 @@ use Rattle.desk_orders.proofs.sites.list_options.Goals as goal
 
 pub returns : goal.returns
 returns g c =
-    rw (← c.order.view_is) (listed_from (record { tags = g.C.Law.SiteLaw.tags; may_offer = g.C.Law.SiteLaw.may_offer; may_restore = g.C.Law.SiteLaw.may_restore }) c.args.state.now (the_view c.order.inside) c.in-Options.grain
+    rw (← c.order.view_is) (listed_from g.C.Law.SiteLaw.law c.args.state.now (the_view c.order.inside) c.in-Options.grain
     c.in-Options.query c.in-Options.is c.options_of.result c.options_of.ensures)

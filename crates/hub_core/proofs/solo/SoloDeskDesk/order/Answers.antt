@@ -6,5 +6,5 @@ returns g c =
     let old = c.self.inside.locked in
     let new = c.order.new.self in
     rw (← c.self.view_is, c.entries-place.ensures, c.order.ensures.start) (
-    ordered_here (record { tags = g.C.Law.SiteLaw.tags; may_offer = g.C.Law.SiteLaw.may_offer; may_restore = g.C.Law.SiteLaw.may_restore }) old.start old.history new.history (g.S.Secrets.drawer old.secrets) (g.S.Secrets.drawer new.secrets) (record { spawns = g.P.Spawner.spawns old.spawner; keeping = g.K.Keeper.keeping old.keeper }) (record { spawns = g.P.Spawner.spawns new.spawner; keeping = g.K.Keeper.keeping new.keeper })
+    ordered_here g.C.Law.SiteLaw.law old.start old.history new.history (g.S.Secrets.drawer old.secrets) (g.S.Secrets.drawer new.secrets) (record { spawns = g.P.Spawner.spawns old.spawner; keeping = g.K.Keeper.keeping old.keeper }) (record { spawns = g.P.Spawner.spawns new.spawner; keeping = g.K.Keeper.keeping new.keeper })
     c.args.order c.order.result c.order.ensures.answered)

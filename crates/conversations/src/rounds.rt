@@ -1,0 +1,145 @@
+//! One run of the program over the objects of a conversation.
+
+ghost use Rattle.std.specs.Prelude.{◌≡◌};
+ghost use Rattle.admin_run.specs.Book.{HasBook};
+ghost use Rattle.admin_run.specs.Program.{BeginWithBook};
+
+use crate::comparing::{Difference, compare_bytes, compare_numbers};
+use crate::conversation::{Conversation, Round};
+use crate::door::door_of;
+use admin_run::{Back, Ran, World, run};
+use cloud_keeper::Keeper;
+use club_site::plain_sites;
+use command_line::{Line, line_of};
+use conn_door::MemDoor;
+use grain_supervise::{FakeSpawner, Link};
+use host_base::{MemSink, MemSource, Secrets};
+use host_clock::StillClock;
+use plain_data::List;
+use std::alloc::Global;
+use test_words::Fault;
+
+/// The objects around the server.
+pub type Objects<L, K, S> = Back<L, K, S, FakeSpawner, StillClock>;
+
+/// How a run is played: what its client sends, how often what must come back comes, and the status that it must have.
+#[derive(Debug, Drop)]
+pub struct Part {
+    pub sent: Vec<u8>,
+    pub times: usize,
+    pub status: u8,
+}
+
+/// What came of a run: what was written, the door with its connections, and the status.
+#[derive(Drop)]
+struct Came {
+    out: MemSink,
+    door: MemDoor,
+    status: u8,
+}
+
+// Compares what came on the connections at the door.
+fn compare_streams(
+    alloc: Global,
+    round: &Round,
+    found: &mut Vec<Difference>,
+    door: &MemDoor,
+) -> Result<(), Fault> {
+    let (streams, kept) = (round.streams.as_slice(), door.kept());
+    let place = (round.own.line, "how many connections were served");
+    compare_numbers(alloc, found, place, streams.len(), kept.len())?;
+    for (stream, pair) in streams.iter().zip(kept.iter()) {
+        let place = (stream.line, "the answer on a connection");
+        let wanted = (stream.answered.as_slice(), 1);
+        compare_bytes(alloc, found, place, wanted, pair.1.written())?;
+    }
+    Ok(())
+}
+
+// Compares what came of a run.
+fn compare(
+    alloc: Global,
+    round: &Round,
+    part: &Part,
+    found: &mut Vec<Difference>,
+    came: &Came,
+) -> Result<(), Fault> {
+    let place = (round.own.line, "the answer");
+    let wanted = (round.own.answered.as_slice(), part.times);
+    compare_bytes(alloc, found, place, wanted, came.out.written())?;
+    compare_streams(alloc, round, found, &came.door)?;
+    let place = (round.status.0, "the status");
+    let (wanted, status) = (usize::from(part.status), usize::from(came.status));
+    compare_numbers(alloc, found, place, wanted, status)
+}
+
+// The source of what a client sends.
+fn source(alloc: Global, conversation: &Conversation, part: &Part) -> Result<MemSource, Fault> {
+    let bytes = part.sent.clone()?;
+    match conversation.gives {
+        Some(most) => Ok(MemSource::stingy(alloc, bytes, most.max(1))),
+        None => {
+            let fails = List::new(conversation.failing.source.clone()?);
+            Ok(MemSource::new(bytes, fails))
+        }
+    }
+}
+
+// Takes apart what a run hands back.
+fn came_of<L: Link + Drop, K: Keeper + Drop, S: Secrets + Drop>(
+    ran: Ran<L, K, S, FakeSpawner, StillClock, MemDoor>,
+    out: MemSink,
+) -> Result<(Came, Objects<L, K, S>), Fault> {
+    let Ran { status, door, back } = ran;
+    match back {
+        Some(back) => Ok((Came { out, door, status }, back)),
+        None => Err(Fault::Memory),
+    }
+}
+
+/// Plays a run, and compares what comes of it. The objects are handed back.
+pub fn play_round<L: Link + Drop, K: Keeper + Drop, S: Secrets + Drop>(
+    alloc: Global,
+    conversation: &Conversation,
+    round: &Round,
+    part: &Part,
+    objects: Objects<L, K, S>,
+    found: &mut Vec<Difference>,
+) -> Result<Objects<L, K, S>, Fault>
+    requires { BeginWithBook round.now.words.items → HasBook (K.keeping objects.keeper) }
+{
+    let mut input = source(alloc, conversation, part)?;
+    let sites = plain_sites(alloc)?;
+    let mut out = MemSink::new(alloc, List::new(conversation.failing.sink.clone()?));
+    let door = door_of(alloc, round.streams.as_slice())?;
+    let world = World {
+        link: objects.link,
+        keeper: objects.keeper,
+        secrets: objects.secrets,
+        spawner: objects.spawner,
+        clock: objects.clock,
+        door,
+        sites,
+    };
+    let ran = run(alloc, round.words.as_slice(), &mut input, &mut out, world);
+    let (came, objects) = came_of(ran, out)?;
+    compare(alloc, round, part, found, &came)?;
+    Ok(objects)
+}
+
+/// The same of a run over any keeper, of which the words may not be those that begin with the small book.
+#[tactic(auto, using(admin_run::proofs::Begins::begins_otherwise))]
+pub fn play_otherwise<L: Link + Drop, K: Keeper + Drop, S: Secrets + Drop>(
+    alloc: Global,
+    conversation: &Conversation,
+    round: &Round,
+    part: &Part,
+    objects: Objects<L, K, S>,
+    found: &mut Vec<Difference>,
+) -> Result<Objects<L, K, S>, Fault> {
+    match line_of(alloc, round.words.as_slice())? {
+        Line::Serve { .. } => play_round(alloc, conversation, round, part, objects, found),
+        Line::Check => play_round(alloc, conversation, round, part, objects, found),
+        _ => Err(Fault::Unreadable),
+    }
+}

@@ -1,0 +1,72 @@
+"""Where the program is tried."""
+import os
+import tempfile
+import time
+import traceback
+
+from served import Server, Started, exchange, words_of
+from trials.talk import Talk
+
+
+class Bench:
+    """The program, the folder in which it is tried, and the count of rows."""
+
+    def __init__(self, program, place, tally):
+        self.program, self.place, self.tally = program, place, tally
+        self.same = tally.same
+
+    def serve(self, folder, port, count, **how):
+        """A server that takes connections."""
+        server = Server(how.pop("program", self.program), folder, port, count, **how)
+        if server.has_ended():
+            raise ChildProcessError(f"the server ended at once, with {self.end_of(server)!r}")
+        return server
+
+    def talk(self, folder, port, count, **how):
+        """A server on a new file, whose first login is known then."""
+        talk = Talk(self.tally, self.serve(folder, port, count, **how))
+        talk.first_login()
+        return talk
+
+    def start(self, words, folder, given=b"", **how):
+        """The program with these words and this input."""
+        with tempfile.TemporaryFile() as file:
+            file.write(given)
+            file.seek(0)
+            return Started(self.program, words, folder, given=file, **how)
+
+    def result(self, words, folder, given=b""):
+        """How the program ends with these words and this input."""
+        return self.end_of(self.start(words, folder, given))
+
+    def end_of(self, started):
+        """How something ends that was started: its status, and what it printed."""
+        text = f"status {started.status()}: {started.printed().decode(errors='backslashreplace')}"
+        complaints = started.complaints().decode(errors="replace")
+        return f"{text} (on standard error: {complaints})" if complaints else text
+
+    def ends(self, talk, answered, has_login=True):
+        """The last connection of a server, on which nothing is asked: it ends, with so many requests answered."""
+        exchange(talk.server.port, b"")
+        login = talk.secrets.filled("login $first\n") if has_login else ""
+        self.same("it ends in order", f"status 0: {login}served {answered}\n", self.end_of(talk.server))
+        self.same("no socket is left", [], sorted(os.listdir(talk.server.runs())))
+        self.same("no program is left", [], self.left())
+
+    def left(self):
+        """The words of the processes that are left."""
+        return sorted(" ".join(words_of(process)) for process in self.place.left())
+
+    def play(self, title, trial):
+        """Plays the rows of a trial, which leaves no process; one that breaks off is a row that failed."""
+        began, counted = time.monotonic(), self.tally.passed + self.tally.failed
+        self.tally.title = title
+        try:
+            trial(self)
+        except Exception as error:
+            frames = traceback.extract_tb(error.__traceback__)
+            at = [frame for frame in frames if f"/trials/{trial.__module__.rpartition('.')[2]}.py" in frame.filename][-1]
+            self.tally.differs("the trial broke off", f"no error at: {at.line}", f"{type(error).__name__}: {error}")
+        self.same("no process is left", [], self.left())
+        self.place.clear()
+        print(f"{title}: {self.tally.passed + self.tally.failed - counted} rows, {time.monotonic() - began:.1f} s", flush=True)
