@@ -1,5 +1,5 @@
 -- The changes of each command fit.
-use Rattle.std.proofs.Common.{◌≡◌, ℕ, Bool, true, List, refl}
+use Rattle.std.proofs.Common.{◌≡◌, ℕ, Bool, true, false, List, refl}
 use Rattle.host_base.specs.declared.ids.AccountId.{AccountId}
 use Rattle.host_base.specs.declared.ids.AppId.{AppId}
 use Rattle.host_base.specs.declared.ids.GrainId.{GrainId}
@@ -24,7 +24,7 @@ use Rattle.desk_base.proofs.FitForms.{when_fits, unless_fits, must_fits, found_f
 use Rattle.account_desk.specs.Commands.{AddAccount, SetAdmin, SetEnabled, AddApp, NewGrain, Trash}
 use Rattle.account_desk.specs.Rows.{new_account, new_app, new_grain}
 
-pub add_account_fits : (s : State) → IsWellFormed s → (who : Caller) (handle name : List ℕ) → is_handle handle ≡ true → RowFits s (AddAccount s who handle name)
+pub add_account_fits : (s : State) → IsWellFormed s → (who : Caller) (handle name : List ℕ) → is_handle handle ≡ true → RowFits s true (AddAccount s who handle name)
 add_account_fits s formed who handle name named =
     some_fits s tt λ admin is.
     unless_fits s tt λ enabled.
@@ -39,7 +39,7 @@ add_account_fits s formed who handle name named =
       unused = unused;
     })
 
-pub set_admin_fits : (s : State) → IsWellFormed s → (who : Caller) (a : AccountId) (on : Bool) → RowFits s (SetAdmin s who a on)
+pub set_admin_fits : (s : State) → IsWellFormed s → (who : Caller) (a : AccountId) (on : Bool) → RowFits s false (SetAdmin s who a on)
 set_admin_fits s formed who a on =
     some_fits s tt λ admin is.
     unless_fits s tt λ enabled.
@@ -50,7 +50,7 @@ set_admin_fits s formed who a on =
     adds_fits s (Plain (AdminSet a on)) nothing_made λ room.
     admin_set_fits s formed a on (account, there)
 
-pub set_enabled_fits : (s : State) → IsWellFormed s → (who : Caller) (a : AccountId) (on : Bool) → RowFits s (SetEnabled s who a on)
+pub set_enabled_fits : (s : State) → IsWellFormed s → (who : Caller) (a : AccountId) (on : Bool) → RowFits s false (SetEnabled s who a on)
 set_enabled_fits s formed who a on =
     some_fits s tt λ admin is.
     unless_fits s tt λ enabled.
@@ -61,7 +61,7 @@ set_enabled_fits s formed who a on =
     adds_fits s (Plain (EnabledSet a on)) nothing_made λ room.
     enabled_set_fits s formed a on (account, there)
 
-pub add_app_fits : (s : State) → IsWellFormed s → (who : Caller) (manifest : Manifest) → IsSoundManifest manifest → RowFits s (AddApp s who manifest)
+pub add_app_fits : (s : State) → IsWellFormed s → (who : Caller) (manifest : Manifest) → IsSoundManifest manifest → RowFits s false (AddApp s who manifest)
 add_app_fits s formed who manifest sound =
     some_fits s tt λ admin is.
     unless_fits s tt λ enabled.
@@ -69,7 +69,7 @@ add_app_fits s formed who manifest sound =
     adds_fits s (Plain (AppAdded (new_app s.tables manifest))) (made_app s.tables) λ room.
     app_added_fits s formed (new_app s.tables manifest) (record { num = refl; room = room_of kind.App 256 _ room; sound = sound })
 
-pub new_grain_fits : (s : State) → IsWellFormed s → (who : Caller) (app : AppId) (title : List ℕ) → RowFits s (NewGrain s who app title)
+pub new_grain_fits : (s : State) → IsWellFormed s → (who : Caller) (app : AppId) (title : List ℕ) → RowFits s false (NewGrain s who app title)
 new_grain_fits s formed who app title =
     some_fits s tt λ owner is.
     unless_fits s tt λ enabled.
@@ -81,7 +81,7 @@ new_grain_fits s formed who app title =
       knows = record { app = (row, is_app); owner = (owner, listed_row (λ (x : Account). x.num.0) s.tables.accounts owner formed.numbered.accounts is.listed) };
     })
 
-pub trash_fits : (s : State) → IsWellFormed s → (who : Caller) (n : GrainId) (on : Bool) → RowFits s (Trash s who n on)
+pub trash_fits : (s : State) → IsWellFormed s → (who : Caller) (n : GrainId) (on : Bool) → RowFits s false (Trash s who n on)
 trash_fits s formed who n on =
     some_fits s tt λ account is.
     unless_fits s tt λ enabled.

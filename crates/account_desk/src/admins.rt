@@ -1,17 +1,16 @@
-ghost use Rattle.std.specs.Prelude.{◌≡◌, ◌↔◌, IsTrue, All};
+ghost use Rattle.std.specs.Prelude.{◌↔◌, IsTrue, All, false};
 ghost use Rattle.share_graph.specs.declared.event.Event.TheVariants as event;
 ghost use Rattle.share_graph.specs.Forms.{IsOne};
 ghost use Rattle.share_graph.specs.WellFormed.{IsWellFormed};
 ghost use Rattle.desk_base.specs.Fitting.{RowFits};
-ghost use Rattle.desk_base.specs.Outcomes.{Checks, IsCarried};
+ghost use Rattle.desk_base.specs.Outcomes.{Checks, IsCarriedExactly};
 ghost use Rattle.account_desk.specs.Commands.{SetAdmin, SetEnabled, admin_step, enabled_step};
 ghost use Rattle.account_desk.specs.Rows.{LeavesNoAdmin};
 ghost use Rattle.account_desk.specs.Admins.{IsAdminThen, IsEnabledThen};
 
-use desk_base::{NOTHING, Stop, caller_admin, known_account};
+use desk_base::{NOTHING, Outcome, Stop, caller_admin, known_account};
 use host_base::AccountId;
-use least_access::Solved;
-use share_graph::{Account, Caller, DeskFault, Event, Outcome, Refusal, State};
+use share_graph::{Account, Caller, Event, Refusal, State};
 
 // Whether an account is no enabled admin once the account of that number is an admin or none.
 fn is_no_admin_then(account: &Account, num: AccountId, on: bool) -> bool
@@ -97,41 +96,28 @@ fn check_set_enabled(state: &State, caller: &Caller, num: AccountId, on: bool) -
 }
 
 /// Makes an account an admin, or none. An enabled admin is always left.
-pub fn set_admin(
-    state: &State,
-    solved: &Solved,
-    caller: &Caller,
-    num: AccountId,
-    on: bool,
-) -> Result<Outcome, DeskFault>
+pub fn set_admin(state: &State, caller: &Caller, num: AccountId, on: bool) -> Result<Outcome, Stop>
     requires { IsWellFormed state.now }
-    ensures row { IsCarried (SetAdmin state.now caller.now num on) result }
+    ensures row { IsCarriedExactly (SetAdmin state.now caller.now num on) result }
     ensures one { IsOne (SetAdmin state.now caller.now num on) }
-    ensures fits { RowFits state.now (SetAdmin state.now caller.now num on) }
+    ensures fits { RowFits state.now false (SetAdmin state.now caller.now num on) }
 {
-    let _ = solved;
-    match check_set_admin(state, caller, num, on) {
-        Ok(()) => Ok(Outcome::Change(Event::AdminSet(num, on), NOTHING)),
-        Err(stop) => stop.outcome(),
-    }
+    check_set_admin(state, caller, num, on)?;
+    Ok(Outcome::Change(Event::AdminSet(num, on), NOTHING))
 }
 
 /// Enables an account, or disables it. An enabled admin is always left.
 pub fn set_enabled(
     state: &State,
-    solved: &Solved,
     caller: &Caller,
     num: AccountId,
     on: bool,
-) -> Result<Outcome, DeskFault>
+) -> Result<Outcome, Stop>
     requires { IsWellFormed state.now }
-    ensures row { IsCarried (SetEnabled state.now caller.now num on) result }
+    ensures row { IsCarriedExactly (SetEnabled state.now caller.now num on) result }
     ensures one { IsOne (SetEnabled state.now caller.now num on) }
-    ensures fits { RowFits state.now (SetEnabled state.now caller.now num on) }
+    ensures fits { RowFits state.now false (SetEnabled state.now caller.now num on) }
 {
-    let _ = solved;
-    match check_set_enabled(state, caller, num, on) {
-        Ok(()) => Ok(Outcome::Change(Event::EnabledSet(num, on), NOTHING)),
-        Err(stop) => stop.outcome(),
-    }
+    check_set_enabled(state, caller, num, on)?;
+    Ok(Outcome::Change(Event::EnabledSet(num, on), NOTHING))
 }

@@ -1,16 +1,14 @@
-ghost use Rattle.std.specs.Prelude.{◌≡◌, true, false};
+ghost use Rattle.std.specs.Prelude.{true, false};
 ghost use Rattle.share_graph.specs.Forms.{IsOne};
 ghost use Rattle.share_graph.specs.WellFormed.{IsWellFormed};
 ghost use Rattle.desk_base.specs.Fitting.{RowFits};
-ghost use Rattle.desk_base.specs.Outcomes.{Checks, IsCarried};
+ghost use Rattle.desk_base.specs.Outcomes.{Checks, IsCarriedExactly, IsCarried};
 ghost use Rattle.account_desk.specs.Commands.{NewGrain, grain_step, Trash, trash_step};
 
-use crate::accounts::copy_of_name;
-use desk_base::{NOTHING, Stop, caller_account, has_grain_room, known_app, known_grain};
+use desk_base::{NOTHING, Outcome, Stop, caller_account, has_room, known_app, known_grain};
 use host_base::{AccountId, AppId, GrainId};
-use least_access::Solved;
 use plain_data::Name;
-use share_graph::{Caller, DeskFault, Event, Grain, Made, Outcome, Refusal, State};
+use share_graph::{Caller, Event, Grain, Kind, Made, Refusal, State};
 
 // The checks of `new_grain`: the account that is to own it.
 fn check_new_grain(
@@ -19,39 +17,30 @@ fn check_new_grain(
     app: AppId,
     title: &Name,
 ) -> Result<AccountId, Stop>
-    ensures { Checks (NewGrain state.now caller.now app title.now) (grain_step state.now.tables app title.now) result }
+    ensures { Checks (NewGrain state.now caller.now app title.now)
+        (grain_step state.now.tables app title.now) result }
 {
     let owner = caller_account(state, caller)?;
     known_app(&state.tables, app)?;
-    has_grain_room(&state.tables)?;
+    has_room(Kind::Grain, state.tables.grains.as_slice().len() as u64)?;
     Ok(owner.num)
 }
 
 /// Makes a grain of an application, owned by the caller. The reply shows its number.
 #[tactic(auto, using(crate::proofs::OneRows::new_grain_one, crate::proofs::FitRows::new_grain_fits))]
-pub fn new_grain(
-    state: &State,
-    solved: &Solved,
-    caller: &Caller,
-    app: AppId,
-    title: &Name,
-) -> Result<Outcome, DeskFault>
+pub fn new_grain(state: &State, caller: &Caller, app: AppId, title: &Name) -> Result<Outcome, Stop>
     requires { IsWellFormed state.now }
     ensures row { IsCarried (NewGrain state.now caller.now app title.now) result }
     ensures one { IsOne (NewGrain state.now caller.now app title.now) }
-    ensures fits { RowFits state.now (NewGrain state.now caller.now app title.now) }
+    ensures fits { RowFits state.now false (NewGrain state.now caller.now app title.now) }
 {
-    let _ = solved;
-    let owner = match check_new_grain(state, caller, app, title) {
-        Ok(owner) => owner,
-        Err(stop) => return stop.outcome(),
-    };
+    let owner = check_new_grain(state, caller, app, title)?;
     let num = state.tables.grains.as_slice().len() as u32 + 1;
     let grain = Grain {
         num: GrainId(num),
         app,
         owner,
-        title: copy_of_name(title)?,
+        title: title.clone()?,
         trashed: false,
     };
     let made = Made {
@@ -76,45 +65,31 @@ fn check_trash(state: &State, caller: &Caller, num: GrainId, on: bool) -> Result
     Ok(())
 }
 
-fn set_trashed(state: &State, caller: &Caller, num: GrainId, on: bool) -> Result<Outcome, DeskFault>
-    ensures { IsCarried (Trash state.now caller.now num on) result }
+fn set_trashed(state: &State, caller: &Caller, num: GrainId, on: bool) -> Result<Outcome, Stop>
+    ensures { IsCarriedExactly (Trash state.now caller.now num on) result }
 {
-    match check_trash(state, caller, num, on) {
-        Ok(()) => Ok(Outcome::Change(Event::TrashedSet(num, on), NOTHING)),
-        Err(stop) => stop.outcome(),
-    }
+    check_trash(state, caller, num, on)?;
+    Ok(Outcome::Change(Event::TrashedSet(num, on), NOTHING))
 }
 
 /// Puts a grain into the trash. Its run goes on.
 #[tactic(auto, using(crate::proofs::OneRows::trash_one, crate::proofs::FitRows::trash_fits))]
-pub fn trash(
-    state: &State,
-    solved: &Solved,
-    caller: &Caller,
-    num: GrainId,
-) -> Result<Outcome, DeskFault>
+pub fn trash(state: &State, caller: &Caller, num: GrainId) -> Result<Outcome, Stop>
     requires { IsWellFormed state.now }
-    ensures row { IsCarried (Trash state.now caller.now num true) result }
+    ensures row { IsCarriedExactly (Trash state.now caller.now num true) result }
     ensures one { IsOne (Trash state.now caller.now num true) }
-    ensures fits { RowFits state.now (Trash state.now caller.now num true) }
+    ensures fits { RowFits state.now false (Trash state.now caller.now num true) }
 {
-    let _ = solved;
     set_trashed(state, caller, num, true)
 }
 
 /// Takes a grain out of the trash.
 #[tactic(auto, using(crate::proofs::OneRows::trash_one, crate::proofs::FitRows::trash_fits))]
-pub fn untrash(
-    state: &State,
-    solved: &Solved,
-    caller: &Caller,
-    num: GrainId,
-) -> Result<Outcome, DeskFault>
+pub fn untrash(state: &State, caller: &Caller, num: GrainId) -> Result<Outcome, Stop>
     requires { IsWellFormed state.now }
-    ensures row { IsCarried (Trash state.now caller.now num false) result }
+    ensures row { IsCarriedExactly (Trash state.now caller.now num false) result }
     ensures one { IsOne (Trash state.now caller.now num false) }
-    ensures fits { RowFits state.now (Trash state.now caller.now num false) }
+    ensures fits { RowFits state.now false (Trash state.now caller.now num false) }
 {
-    let _ = solved;
     set_trashed(state, caller, num, false)
 }

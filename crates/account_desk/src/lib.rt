@@ -6,7 +6,7 @@ mod admins;
 mod apps;
 mod grains;
 
-pub use accounts::{add_account, add_account_ready};
+pub use accounts::add_account;
 pub use admins::{set_admin, set_enabled};
 pub use apps::add_app;
 pub use grains::{new_grain, trash, untrash};

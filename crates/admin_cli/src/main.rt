@@ -2,13 +2,14 @@
 // requests that it makes itself, judges a file of rows, or is a grain on a socket.
 #![tactic(auto)]
 
-ghost use Rattle.std.specs.Prelude.{◌≡◌, map};
+ghost use Rattle.std.specs.Prelude.{◌≡◌, ◌⊎◌, Some, map};
+ghost use Rattle.share_graph.specs.declared.state.State.{State};
 ghost use Rattle.site_caps.specs.Registered.{IsRegistered};
-ghost use Rattle.admin_run.specs.Book.{HasBook};
+ghost use Rattle.admin_run.specs.Connection.{HasBook};
+ghost use Rattle.admin_run.specs.Program.{BeginWithBook, ServeAtDoor};
 ghost use Rattle.admin_run.specs.Serving.{BeginsAt};
-ghost use Rattle.admin_run.specs.Program.{AskSites, BeginWithBook, ServeAtDoor};
 
-use admin_run::{World, book_keeper, run};
+use admin_run::{Setting, World, book_keeper, run, world_of};
 use cloud_keeper::Keeper;
 use club_site::{ClubDriver, club_offers, club_sites, club_text};
 use command_line::{Line, line_of};
@@ -47,27 +48,24 @@ fn words_of(rt: &HostRuntime) -> Result<Vec<String>, Memory> {
     }
 }
 
-// Runs the program over standard input and output.
-fn run_here<
-    L: Link + Drop,
-    K: Keeper + Drop,
-    S: Secrets + Drop,
-    P: Spawner + Drop,
-    E: ServeDoor + Drop,
-    C: SiteDriver + Drop,
->(rt: &HostRuntime, words: &[String], world: World<L, K, S, P, StillClock, E, C>) -> u8
-    requires book { BeginWithBook words.now → HasBook (K.keeping world.keeper) }
-    requires registered { AskSites words.now → IsRegistered C.Law.law.tags (map C.tag_of world.sites.items) }
-    requires fresh { ServeAtDoor words.now → (E.doorway world.door).back ≡ 0 }
-    requires start { ServeAtDoor words.now → BeginsAt E.start (K.keeping world.keeper) (S.drawer world.secrets) }
+// The status of the program in a world, which goes with it.
+fn status_in<W: Setting, C: SiteDriver + Drop>(
+    alloc: Global,
+    words: &[String],
+    world: World<W>,
+    sites: Vec<C>,
+) -> u8
+    requires book { BeginWithBook words.now → HasBook world.holds.keeping }
+    requires registered { BeginWithBook words.now ⊎ ServeAtDoor words.now
+        → IsRegistered C.Law.law.tags (map C.tag_of sites.items) }
+    requires fresh { ServeAtDoor words.now → world.doorway.back ≡ 0 }
+    requires start { ServeAtDoor words.now → BeginsAt W.Door.start world.holds }
 {
-    let mut input = StdSource::new(rt.reader());
-    let mut out = StdSink::new(io::writer(rt));
-    run(rt.alloc(), words, &mut input, &mut out, world).status
+    run(alloc, words, world, sites).status
 }
 
-// Runs a line that serves no connections at a door, with a keeper, a door and the drivers of its sites. The link, the secrets and the spawner are those in
-// memory, so that the same words and input give the same output.
+// Runs a line that serves no connections at a door, with a keeper, a door and the drivers of its sites, over standard input and
+// output. The link, the secrets and the spawner are those in memory, so that the same words and input give the same output.
 fn run_with<K: Keeper + Drop, E: ServeDoor + Drop, C: SiteDriver + Drop>(
     rt: &HostRuntime,
     words: &[String],
@@ -80,16 +78,17 @@ fn run_with<K: Keeper + Drop, E: ServeDoor + Drop, C: SiteDriver + Drop>(
     requires elsewhere { ServeAtDoor words.now → ⊥ }
 {
     let alloc = rt.alloc();
-    let world = World {
-        link: EchoLink::new(alloc, Fails::empty(alloc)),
+    let world = world_of(
+        StdSource::new(rt.reader()),
+        StdSink::new(io::writer(rt)),
+        EchoLink::new(alloc, Fails::empty(alloc)),
         keeper,
-        secrets: SeqSecrets::new(),
-        spawner: FakeSpawner::new(alloc, Fails::empty(alloc)),
-        clock: StillClock::new(0),
+        SeqSecrets::new(),
+        FakeSpawner::new(alloc, Fails::empty(alloc)),
+        StillClock::new(0),
         door,
-        sites,
-    };
-    run_here(rt, words, world)
+    );
+    status_in(alloc, words, world, sites)
 }
 
 // Runs such a line with the rows of the small book.
@@ -108,6 +107,28 @@ fn run_with_book<E: ServeDoor + Drop, C: SiteDriver + Drop>(
     }
 }
 
+// Serves connections at a door from the rows of a keeper, with these objects and standard output.
+fn serve_with<
+    L: Link + Drop,
+    K: Keeper + Drop,
+    S: Secrets + Drop,
+    P: Spawner + Drop,
+    E: ServeDoor + Drop,
+    C: SiteDriver + Drop,
+>(rt: &HostRuntime, words: &[String], link: L, held: (K, S, P), door: E, sites: Vec<C>) -> u8
+    requires registered { IsRegistered C.Law.law.tags (map C.tag_of sites.items) }
+    requires elsewhere { BeginWithBook words.now → ⊥ }
+    requires fresh { (E.doorway door).back ≡ 0 }
+    requires start { (state : State) → E.start ≡ Some state → ⊥ }
+{
+    let (keeper, secrets, spawner) = held;
+    let input = StdSource::new(rt.reader());
+    let out = StdSink::new(io::writer(rt));
+    let clock = StillClock::new(0);
+    let world = world_of(input, out, link, keeper, secrets, spawner, clock, door);
+    status_in(rt.alloc(), words, world, sites)
+}
+
 // Serves connections on a port from a file of rows. The runs of its grains have their sockets in a folder beside the file.
 fn run_serve<C: SiteDriver + Drop>(
     rt: &HostRuntime,
@@ -123,16 +144,12 @@ fn run_serve<C: SiteDriver + Drop>(
     let runs = format!(in alloc; "{file}.runs")?;
     // Where it can't be made no run is started, which is answered to whoever asks for one.
     let _ = fs::create_dir(rt, runs.as_str());
-    let world = World {
-        link: UnixLink::new(rt, runs.clone()?),
-        keeper: SqlKeeper::of(Connection::open(rt, file)),
-        secrets: RngSecrets::new(SysRng::new(rt)),
-        spawner: ProcSpawner::new(alloc, rt, runs),
-        clock: StillClock::new(0),
-        door: TcpDoor::bind(rt, port),
-        sites,
-    };
-    Ok(run_here(rt, words, world))
+    let link = UnixLink::new(rt, runs.clone()?);
+    let keeper = SqlKeeper::of(Connection::open(rt, file));
+    let secrets = RngSecrets::new(SysRng::new(rt));
+    let spawner = ProcSpawner::new(alloc, rt, runs);
+    let door = TcpDoor::bind(rt, port);
+    Ok(serve_with(rt, words, link, (keeper, secrets, spawner), door, sites))
 }
 
 // The path of a line that has one: its second word.

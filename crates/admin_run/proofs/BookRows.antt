@@ -5,8 +5,7 @@ use Rattle.cloud_keeper.specs.InMemory.{MemRows}
 use Rattle.share_graph.specs.declared.state.State.{State}
 use Rattle.share_graph.specs.declared.state.Tables.{Tables}
 use Rattle.share_graph.specs.WellFormed.{IsWellFormed}
-use Rattle.row_tables.specs.Kept.{AreRowsOf}
-use Rattle.hub_core.specs.Storing.{IsStored}
+use Rattle.row_tables.specs.Kept.{AreRowsOf, IsStored}
 
 some_is : (xs ys : List Row) → Some xs ≡ Some ys → xs ≡ ys
 some_is xs ys is = cc

@@ -3,10 +3,10 @@ use Rattle.std.proofs.Common.{◌≡◌, ◌⊎◌, ◌∙◌, ℕ, ap, refl, in
 use Rattle.front_http.specs.Stream.{Requests, Ending, Done, Last, Cut, Bad}
 use Rattle.cloud_serve.specs.declared.serve.End.{End}
 use Rattle.cloud_serve.specs.declared.serve.End.TheVariants as end
-use Rattle.cloud_serve.specs.Served.{Complete, IsEndOf}
+use Rattle.cloud_serve.specs.Served.{Complete, IsConnectionEnd}
 use Rattle.admin_run.specs.Statuses.{status_by, status_of_stream}
 
-status_here : (e : End) (x : Ending) → IsEndOf e x → status_by e ≡ status_of_stream x
+status_here : (e : End) (x : Ending) → IsConnectionEnd e x → status_by e ≡ status_of_stream x
 status_here end.Done Done is = refl
 status_here end.Done Last is = refl
 status_here end.Done (Cut n) is = absurd is

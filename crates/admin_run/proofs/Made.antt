@@ -1,14 +1,11 @@
 -- Requests that were made and served over memory.
-use Rattle.std.proofs.Common.{◌≡◌, ◌∙◌, ℕ, List, [], Some, refl, ap, subst}
+use Rattle.std.proofs.Common.{◌≡◌, ◌∙◌, ℕ, List, [], Some, ap}
 use Rattle.host_base.specs.CallCounts.{CallCounts}
 use Rattle.host_base.specs.InMemory.{MemInput, MemOutput, is_at_end}
 use Rattle.host_base.specs.Outside.{Inlet, Outlet}
-use Rattle.request_maker.specs.Generated.{generated}
-use Rattle.cloud_serve.specs.declared.serve.End.{End}
-use Rattle.site_caps.specs.Law.{Law}
-use Rattle.admin_run.specs.Connection.{ServesBook}
-use Rattle.admin_run.specs.Making.{ServesMade, TellsMade, all_left, nothing_written}
-use Rattle.admin_run.specs.Outside.{Outside}
+use Rattle.grain_supervise.specs.Line.{Line}
+use Rattle.cloud_serve.specs.Served.{Wired}
+use Rattle.admin_run.specs.Making.{all_left, nothing_written, over_memory}
 
 -- what a source and a sink in memory tell
 abbrev pub told_in : MemInput → Inlet
@@ -23,25 +20,13 @@ outlet_by count written = record { faults = count.faults; written = Some written
 abbrev fresh_count : List ℕ → CallCounts
 fresh_count fails = record { calls = 0; faults = 0; listed = fails }
 
-pub made : (law : Law) (count seed : ℕ) (old new : Outside) (input input' : MemInput) (output output' : MemOutput) (text fails fails' : List ℕ) (most : ℕ) (end : End) (served forwarded entries status : ℕ)
-    → text ≡ generated count seed → input ≡ record { whole = text; left = text; most = most; count = fresh_count fails } → output.written ≡ [] → output.count ≡ fresh_count fails'
-    → ServesBook law (record old { inlet = told_in input; outlet = told_out output }) (record new { inlet = told_in input'; outlet = told_out output' }) end served forwarded entries
-    → TellsMade end served forwarded entries output'.written old.outlet new.outlet status → new.inlet ≡ old.inlet → ServesMade law count seed old new status
-made law count seed old new input input' output output' text fails fails' most end served forwarded entries status text_is input_is unwritten uncounted s told untaken =
-    let inlet_is : told_in input ≡ all_left (generated count seed) = ap told_in input_is ∙ ap all_left text_is in
+abbrev pub the_wire : Inlet → Outlet → Line → Wired
+the_wire inlet outlet line = record { inlet = inlet; outlet = outlet; line = line }
+
+-- a source of bytes and a sink in memory, new, are a connection over memory
+pub over_memory_is : (input : MemInput) (output : MemOutput) (line : Line) (text fails fails' bytes : List ℕ) (most : ℕ) → text ≡ bytes → input ≡ record { whole = text; left = text; most = most; count = fresh_count fails }
+    → output.written ≡ [] → output.count ≡ fresh_count fails' → the_wire (told_in input) (told_out output) line ≡ over_memory bytes line
+over_memory_is input output line text fails fails' bytes most text_is input_is unwritten uncounted =
+    let inlet_is : told_in input ≡ all_left bytes = ap told_in input_is ∙ ap all_left text_is in
     let outlet_is : told_out output ≡ nothing_written = ap (outlet_by output.count) unwritten ∙ ap (λ (c : CallCounts). outlet_by c []) uncounted in
-    record {
-      end = end;
-      served = served;
-      forwarded = forwarded;
-      entries = entries;
-      inlet = told_in input';
-      outlet = told_out output';
-      connection =
-          subst (λ (i : Inlet). ServesBook law (record old { inlet = i; outlet = nothing_written }) (record new { inlet = told_in input'; outlet = told_out output' }) end served forwarded entries) inlet_is
-          (subst (λ (o : Outlet). ServesBook law (record old { inlet = told_in input; outlet = o }) (record new { inlet = told_in input'; outlet = told_out output' }) end served forwarded entries) outlet_is s);
-      output = output'.written;
-      output_is = refl;
-      told = told;
-      untaken = untaken;
-    }
+    ap (λ (i : Inlet). the_wire i (told_out output) line) inlet_is ∙ ap (λ (o : Outlet). the_wire (all_left bytes) o line) outlet_is

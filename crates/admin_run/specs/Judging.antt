@@ -1,7 +1,7 @@
 -- What `check` does.
 use Rattle.std.specs.Prelude.{◌≡◌, ℕ, ◌⊎◌, List, Some, Ok, length}
 use Rattle.host_base.specs.Outside.{Outlet, Rose}
-use Rattle.cloud_keeper.specs.Keeping.{Keeping, Follows}
+use Rattle.cloud_keeper.specs.Keeping.{Keeping, RowsFollow}
 use Rattle.cloud_keeper.specs.declared.row.Row.{Row}
 use Rattle.share_graph.specs.Checked.{IsChecked}
 use Rattle.share_graph.specs.declared.state.Tables.{Tables}
@@ -27,7 +27,7 @@ Judges old new keeping keeping' status =
     ⊎ ((status ≡ 7) × (new ≡ old)))
 
 -- `check`: the keeper's rows are judged and stay as they are, and nothing else is asked.
-pub record Checks (old new : Outside) (status : ℕ) : Type 0 where
-  pub judged : Judges old.outlet new.outlet old.keeping new.keeping status
-  pub kept : Follows old.keeping new.keeping (λ rows. rows)
-  pub others : new ≡ record old { outlet = new.outlet; keeping = new.keeping }
+pub record ChecksRows (old new : Outside) (status : ℕ) : Type 0 where
+  pub judged : Judges old.outlet new.outlet old.holds.keeping new.holds.keeping status
+  pub kept : RowsFollow old.holds.keeping new.holds.keeping (λ rows. rows)
+  pub others : new ≡ record old { outlet = new.outlet; holds = record old.holds { keeping = new.holds.keeping } }

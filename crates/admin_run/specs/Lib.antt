@@ -1,4 +1,3 @@
-pub mod Book
 pub mod Connection
 pub mod Judging
 pub mod Making

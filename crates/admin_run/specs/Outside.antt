@@ -1,21 +1,24 @@
 -- What the program's objects tell, and the lines that it prints.
-use Rattle.std.specs.Prelude.{◌≡◌, ℕ, ◌⊎◌, ◌++◌, List, Some, take, codes}
-use Rattle.host_base.specs.Drawing.{Drawer}
+use Rattle.std.specs.Prelude.{◌≡◌, ℕ, ◌⊎◌, ◌++◌, List, Option, Some, take, codes}
 use Rattle.host_base.specs.Outside.{Inlet, Outlet, Rose}
-use Rattle.cloud_keeper.specs.Keeping.{Keeping}
 use Rattle.grain_supervise.specs.Line.{Line}
-use Rattle.grain_supervise.specs.Spawning.{Spawns}
 use Rattle.conn_door.specs.Doors.{Doorway}
+use Rattle.hub_core.specs.Book.{Backing}
+use Rattle.cloud_serve.specs.Served.{Wired}
 
--- What the program's objects tell: its input and output, the link to the grains, the secrets, the spawner, the keeper and the door.
+-- What the program's objects tell: its input and output, the link to the grains, what a desk works with, the clock and the
+-- door.
 pub record Outside : Type 0 where
   pub inlet : Inlet
   pub outlet : Outlet
   pub line : Line
-  pub drawer : Drawer
-  pub spawns : Spawns
-  pub keeping : Keeping
+  pub holds : Backing
+  pub moments : Option (List ℕ)
   pub doorway : Doorway
+
+-- what the input, the output and the link tell
+abbrev pub wired : Outside → Wired
+wired outside = record { inlet = outside.inlet; outlet = outside.outlet; line = outside.line }
 
 -- Want of memory before anything was done.
 pub record DoesNothing (old new : Outside) (status : ℕ) : Type 0 where
@@ -38,7 +41,7 @@ pub record TellsUsage (old new : Outside) (status : ℕ) : Type 0 where
   pub told : Tells old.outlet new.outlet usage_line 2 status
 
 -- What causes a status: 4 the input or the door, 5 the output, 9 the keeper or the secrets, whose count rose.
-pub record HasCause (old new : Outside) (status : ℕ) : Type 0 where
+pub record HasStatusCause (old new : Outside) (status : ℕ) : Type 0 where
   pub taken : status ≡ 4 → Rose old.inlet.faults new.inlet.faults ⊎ Rose old.doorway.faults new.doorway.faults
   pub written : status ≡ 5 → Rose old.outlet.faults new.outlet.faults
-  pub stored : status ≡ 9 → Rose old.keeping.faults new.keeping.faults ⊎ Rose old.drawer.faults new.drawer.faults
+  pub stored : status ≡ 9 → Rose old.holds.keeping.faults new.holds.keeping.faults ⊎ Rose old.holds.drawer.faults new.holds.drawer.faults

@@ -5,7 +5,7 @@ use Rattle.command_line.specs.declared.line.Line.{Line}
 use Rattle.command_line.specs.declared.line.Line.TheVariants as line
 use Rattle.command_line.specs.Words.{IsLine}
 use Rattle.site_caps.specs.Law.{Law}
-use Rattle.admin_run.specs.Judging.{Checks}
+use Rattle.admin_run.specs.Judging.{ChecksRows}
 use Rattle.admin_run.specs.Making.{Makes}
 use Rattle.admin_run.specs.Outside.{Outside, DoesNothing, TellsUsage}
 use Rattle.admin_run.specs.Playing.{Plays, ServesGrain}
@@ -15,25 +15,18 @@ use Rattle.admin_run.specs.Serving.{Serves}
 abbrev pub FromBook : Line → Type 0
 FromBook line.Play = Unit {0}
 FromBook (line.Gen count seed) = Unit {0}
-FromBook (line.Serve port count) = ⊥
-FromBook line.Check = ⊥
-FromBook (line.Grain count) = ⊥
-FromBook line.Unknown = ⊥
+FromBook _ = ⊥
 
 -- whether a line has connections served at the door
 abbrev pub AtDoor : Line → Type 0
-AtDoor line.Play = ⊥
-AtDoor (line.Gen count seed) = ⊥
 AtDoor (line.Serve port count) = Unit {0}
-AtDoor line.Check = ⊥
-AtDoor (line.Grain count) = ⊥
-AtDoor line.Unknown = ⊥
+AtDoor _ = ⊥
 
 -- What a line does, by the law of the sites. Words that are no line get the usage line.
 abbrev pub Does : Law → Line → Outside → Outside → ℕ → Type 0
 Does law line.Play old new status = Plays law old new status ⊎ DoesNothing old new status
 Does law (line.Gen count seed) old new status = Makes law count seed old new status
-Does law line.Check old new status = Checks old new status
+Does law line.Check old new status = ChecksRows old new status
 Does law (line.Grain count) old new status = ServesGrain count old new status
 Does law (line.Serve port count) old new status = Serves law count old new status
 Does law line.Unknown old new status = TellsUsage old new status
@@ -49,7 +42,3 @@ BeginWithBook words = AreLine FromBook words
 -- the words have connections served at the door
 abbrev pub ServeAtDoor : List (String Global) → Type 0
 ServeAtDoor words = AreLine AtDoor words
-
--- the words ask sites
-abbrev pub AskSites : List (String Global) → Type 0
-AskSites words = BeginWithBook words ⊎ ServeAtDoor words

@@ -20,13 +20,9 @@ status_by end.Spent = 8
 
 -- the same, of a connection whose input and output are memory: what fails there fails for want of it
 abbrev pub status_of_made : End → ℕ
-status_of_made end.Done = 0
-status_of_made (end.Refused status at) = 3
 status_of_made end.ReadFault = 7
 status_of_made end.WriteFault = 7
-status_of_made (end.CutOff n) = 6
-status_of_made end.Memory = 7
-status_of_made end.Spent = 8
+status_of_made other = status_by other
 
 -- the status that the end of a stream asks for
 abbrev pub status_of_stream : Ending → ℕ

@@ -4,7 +4,7 @@ ghost use Rattle.host_base.specs.Outside.{Rose};
 ghost use Rattle.first_account.specs.First.{HasJust, HasNoRows, first_row};
 ghost use Rattle.first_account.specs.Drawn.{IsTokenOfNext};
 ghost use Rattle.admin_run.specs.Outside.{Tells};
-ghost use Rattle.admin_run.specs.Serving.{Begins, Fails, login_line};
+ghost use Rattle.admin_run.specs.Serving.{Begins, CannotBegin, login_line};
 
 use crate::telling::tell_value;
 use cloud_keeper::{KeepFault, Keeper};
@@ -21,7 +21,8 @@ fn begin_anew<K: Keeper, S: Secrets>(
     requires { HasNoRows (K.keeping keeper.old) }
     ensures row { IfOk result (λ token. HasJust (first_row token) (K.keeping keeper.new)) }
     ensures token { IfOk result (IsTokenOfNext (S.drawer secrets.old).coming (S.drawer secrets.new).coming) }
-    ensures fails { IfErr result (λ status. Fails (K.keeping keeper.old) (K.keeping keeper.new) (S.drawer secrets.old) (S.drawer secrets.new) status) }
+    ensures fails { IfErr result (λ status. CannotBegin (K.keeping keeper.old) (K.keeping keeper.new)
+        (S.drawer secrets.old) (S.drawer secrets.new) status) }
     ensures counts { (K.keeping keeper.old).faults ≤ (K.keeping keeper.new).faults }
 {
     match first_account(alloc, keeper, secrets) {
@@ -39,8 +40,10 @@ pub(crate) fn begin<K: Keeper, S: Secrets>(
     keeper: &mut K,
     secrets: &mut S,
 ) -> Result<Option<Bytes>, u8>
-    ensures begins { IfOk result (λ login. Begins (K.keeping keeper.old) (K.keeping keeper.new) (S.drawer secrets.old) (S.drawer secrets.new) login) }
-    ensures fails { IfErr result (λ status. Fails (K.keeping keeper.old) (K.keeping keeper.new) (S.drawer secrets.old) (S.drawer secrets.new) status) }
+    ensures begins { IfOk result (λ login. Begins (K.keeping keeper.old) (K.keeping keeper.new)
+        (S.drawer secrets.old) (S.drawer secrets.new) login) }
+    ensures fails { IfErr result (λ status. CannotBegin (K.keeping keeper.old) (K.keeping keeper.new)
+        (S.drawer secrets.old) (S.drawer secrets.new) status) }
     ensures counts { (K.keeping keeper.old).faults ≤ (K.keeping keeper.new).faults }
 {
     match keeper.load(alloc) {

@@ -1,7 +1,7 @@
 //! `check`: what is said of the rows of a keeper.
 ghost use Rattle.std.specs.Prelude.{◌≡◌, ◌≢◌, ◌≤◌};
 ghost use Rattle.host_base.specs.Outside.{Rose};
-ghost use Rattle.cloud_keeper.specs.Keeping.{Follows};
+ghost use Rattle.cloud_keeper.specs.Keeping.{RowsFollow};
 ghost use Rattle.admin_run.specs.Judging.{Judges, JudgesRows};
 
 use crate::telling::tell_line;
@@ -35,8 +35,9 @@ fn judge_rows<O: Sink>(alloc: Global, out: &mut O, rows: &[Row]) -> u8
 /// Loads the rows of a keeper and says what tables they state, or which one is bad. The status is 0 or 10, 9 where the keeper failed, 7 where memory ran
 /// out, and 5 where the line couldn't be printed.
 pub(crate) fn judge<O: Sink, K: Keeper>(alloc: Global, out: &mut O, keeper: &mut K) -> u8
-    ensures judged { Judges (O.outlet out.old) (O.outlet out.new) (K.keeping keeper.old) (K.keeping keeper.new) result }
-    ensures kept { Follows (K.keeping keeper.old) (K.keeping keeper.new) (λ rows. rows) }
+    ensures judged { Judges (O.outlet out.old) (O.outlet out.new) (K.keeping keeper.old)
+        (K.keeping keeper.new) result }
+    ensures kept { RowsFollow (K.keeping keeper.old) (K.keeping keeper.new) (λ rows. rows) }
     ensures cause { result ≡ 5 → Rose (O.outlet out.old).faults (O.outlet out.new).faults }
     ensures store { result ≡ 9 → Rose (K.keeping keeper.old).faults (K.keeping keeper.new).faults }
     ensures unread { result ≢ 4 }

@@ -1,7 +1,7 @@
 //! The keeper that the program begins with where nothing outlives it.
 
 ghost use Rattle.std.specs.Prelude.{IfOk};
-ghost use Rattle.admin_run.specs.Book.{HasBook};
+ghost use Rattle.admin_run.specs.Connection.{HasBook};
 
 use cloud_keeper::{Keeper, MemKeeper};
 use host_base::{Fails, Memory};

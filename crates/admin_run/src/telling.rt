@@ -47,7 +47,8 @@ fn tell_two<O: Sink>(out: &mut O, first: &[u8], second: &[u8], done: u8) -> u8
 
 /// Prints words, a value and a line feed; the status is the given one, or 5 where they couldn't be printed. It takes no memory.
 pub(crate) fn tell_value<O: Sink>(out: &mut O, words: &[u8], value: &[u8], done: u8) -> u8
-    ensures tells { Tells (O.outlet out.old) (O.outlet out.new) ((words.now ++ value.now) ++ codes "\n") done result }
+    ensures tells { Tells (O.outlet out.old) (O.outlet out.new) ((words.now ++ value.now) ++ codes "\n") done
+        result }
     ensures counts { (O.outlet out.old).faults ≤ (O.outlet out.new).faults }
     ensures cause { done ≢ 5 → result ≡ 5 → Rose (O.outlet out.old).faults (O.outlet out.new).faults }
     ensures either { result ≢ 5 → result ≡ done }

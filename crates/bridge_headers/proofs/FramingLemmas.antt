@@ -13,7 +13,7 @@ use Rattle.httparse.specs.Spans.{header_bytes}
 use Rattle.httparse.specs.declared.spans.HeaderSpan.{HeaderSpan}
 use Rattle.bridge_headers.specs.declared.stated.Stated.{Stated}
 use Rattle.bridge_headers.specs.declared.stated.Stated.TheVariants.{Bytes, Bad}
-use Rattle.bridge_headers.specs.Lines.{Line}
+use Rattle.bridge_headers.specs.Lines.{HeaderLine}
 use Rattle.bridge_headers.specs.Relay.{is_length_text, length_value, stated, stated_of}
 use Rattle.bridge_headers.specs.Lines.{states_length}
 use Rattle.bridge_headers.specs.Spans.{with_value}
@@ -81,7 +81,7 @@ by_values [] n states = absurd (cc)
 by_values (value ∷ []) n states = by_value value n (is_length_text value) refl states
 by_values (value ∷ next ∷ values) n states = absurd (cc)
 
-pub stated_small : (lines : List Line) (n : ℕ) → stated lines ≡ Bytes n → n < 10000000000
+pub stated_small : (lines : List HeaderLine) (n : ℕ) → stated lines ≡ Bytes n → n < 10000000000
 stated_small lines n states = by_values (map (λ line. line.1) (filter states_length lines)) n states
 
 -- one line more
@@ -94,21 +94,21 @@ more_value [] value = refl
 more_value (first ∷ []) value = always_bad (is_length_text first) (digits_value 10 first) (length_value value)
 more_value (first ∷ next ∷ values) value = refl
 
-by_test : (values : List (List ℕ)) (line : Line) (test : Bool) → stated_of (values ++ map (λ kept. kept.1) (cond test (line ∷ []) [])) ≡ cond test (with_value (stated_of values) (length_value line.1)) (stated_of values)
+by_test : (values : List (List ℕ)) (line : HeaderLine) (test : Bool) → stated_of (values ++ map (λ kept. kept.1) (cond test (line ∷ []) [])) ≡ cond test (with_value (stated_of values) (length_value line.1)) (stated_of values)
 by_test values line true = more_value values line.1
 by_test values line false = ap stated_of (append-nil values)
 
-stated_more : (lines : List Line) (line : Line) → stated (lines ++ line ∷ []) ≡ cond (states_length line) (with_value (stated lines) (length_value line.1)) (stated lines)
+stated_more : (lines : List HeaderLine) (line : HeaderLine) → stated (lines ++ line ∷ []) ≡ cond (states_length line) (with_value (stated lines) (length_value line.1)) (stated lines)
 stated_more lines line =
-    ap (λ (kept : List Line). stated_of (map (λ (k : Line). k.1) kept)) (filter-append states_length lines (line ∷ []))
-    ∙ ap stated_of (map-append (λ (k : Line). k.1) (filter states_length lines) (filter states_length (line ∷ [])))
-    ∙ by_test (map (λ (k : Line). k.1) (filter states_length lines)) line (states_length line)
+    ap (λ (kept : List HeaderLine). stated_of (map (λ (k : HeaderLine). k.1) kept)) (filter-append states_length lines (line ∷ []))
+    ∙ ap stated_of (map-append (λ (k : HeaderLine). k.1) (filter states_length lines) (filter states_length (line ∷ [])))
+    ∙ by_test (map (λ (k : HeaderLine). k.1) (filter states_length lines)) line (states_length line)
 
 -- a span of nothing
 abbrev pub blank : HeaderSpan
 blank = record { name = record { start = 0; end = 0 }; value = record { start = 0; end = 0 } }
 
-abbrev pub lines_at : List ℕ → List HeaderSpan → List Line
+abbrev pub lines_at : List ℕ → List HeaderSpan → List HeaderLine
 lines_at head fields = map (header_bytes head) fields
 
 pub lines_more : (head : List ℕ) (fields : List HeaderSpan) (i : ℕ) → i < length fields → lines_at head (take (i + 1) fields) ≡ lines_at head (take i fields) ++ header_bytes head (get_or fields i blank) ∷ []

@@ -6,7 +6,7 @@ use Rattle.std.proofs.lemmas.List.{map-append}
 use Rattle.std.proofs.lemmas.Bool.{false≢true}
 use Rattle.std.proofs.lemmas.Slice.Eq.{bytes_eq-Decides}
 use Rattle.std.specs.Str.{bytes_eq}
-use Rattle.bridge_headers.specs.Lines.{Line, line_text, lines_text, lower, lower_line, is_passed, passed, same_name}
+use Rattle.bridge_headers.specs.Lines.{HeaderLine, line_text, lines_text, lower, lower_line, is_passed, passed, same_name}
 
 or_true : (a b : Bool) → b ≡ true → (a || b) ≡ true
 or_true true b h = refl
@@ -23,21 +23,21 @@ any_at p f (x ∷ xs) zero d within passes = ap (λ (b : Bool). b || list_any p 
 any_at p f (x ∷ xs) (suc i) d within passes = or_true (p (f x)) (list_any p (map f xs)) (any_at p f xs i d (omega arith) passes)
 
 -- the lines that are passed on of one line more
-passed-more : (names : List (List ℕ)) (lines : List Line) (line : Line) → lines_text (passed names (lines ++ line ∷ [])) ≡ lines_text (passed names lines) ++ lines_text (passed names (line ∷ []))
+passed-more : (names : List (List ℕ)) (lines : List HeaderLine) (line : HeaderLine) → lines_text (passed names (lines ++ line ∷ [])) ≡ lines_text (passed names lines) ++ lines_text (passed names (line ∷ []))
 passed-more names lines line =
     ap (λ kept. lines_text (map lower_line kept)) (filter-append (λ sent. is_passed names sent.0) lines (line ∷ []))
     ∙ ap lines_text (map-append lower_line (filter (λ sent. is_passed names sent.0) lines) (filter (λ sent. is_passed names sent.0) (line ∷ [])))
     ∙ flat_map-append line_text (passed names lines) (passed names (line ∷ []))
 
 -- pieces that were appended one after another
-pub one_line : (new old : List ℕ) (line : Line) → new ≡ old ++ line_text line → new ≡ old ++ lines_text (line ∷ [])
+pub one_line : (new old : List ℕ) (line : HeaderLine) → new ≡ old ++ line_text line → new ≡ old ++ lines_text (line ∷ [])
 one_line new old line e = e ∙ ap (λ (xs : List ℕ). old ++ xs) (sym (append-nil (line_text line)))
 
-pub more_lines : (new mid old : List ℕ) (a b : List Line) → mid ≡ old ++ lines_text a → new ≡ mid ++ lines_text b → new ≡ old ++ lines_text (a ++ b)
+pub more_lines : (new mid old : List ℕ) (a b : List HeaderLine) → mid ≡ old ++ lines_text a → new ≡ mid ++ lines_text b → new ≡ old ++ lines_text (a ++ b)
 more_lines new mid old a b first second =
     second ∙ ap (λ (xs : List ℕ). xs ++ lines_text b) first ∙ append_assoc old (lines_text a) (lines_text b) ∙ ap (λ (xs : List ℕ). old ++ xs) (sym (flat_map-append line_text a b))
 
-pub more_line : (new mid old : List ℕ) (a : List Line) (line : Line) → mid ≡ old ++ lines_text a → new ≡ mid ++ line_text line → new ≡ old ++ lines_text (a ++ line ∷ [])
+pub more_line : (new mid old : List ℕ) (a : List HeaderLine) (line : HeaderLine) → mid ≡ old ++ lines_text a → new ≡ mid ++ line_text line → new ≡ old ++ lines_text (a ++ line ∷ [])
 more_line new mid old a line first second = more_lines new mid old a (line ∷ []) first (one_line new mid line second)
 
 -- each item of a list is in it
@@ -55,8 +55,8 @@ is_listed name (x ∷ xs) low same =
     ]
 
 -- one line more, of which the text is passed on
-pub passed_next : (names : List (List ℕ)) (new mid old : List ℕ) (lines more : List Line) (line : Line) → more ≡ lines ++ line ∷ [] → mid ≡ old ++ lines_text (passed names lines)
+pub passed_next : (names : List (List ℕ)) (new mid old : List ℕ) (lines more : List HeaderLine) (line : HeaderLine) → more ≡ lines ++ line ∷ [] → mid ≡ old ++ lines_text (passed names lines)
     → new ≡ mid ++ lines_text (passed names (line ∷ [])) → new ≡ old ++ lines_text (passed names more)
 passed_next names new mid old lines more line is first second =
     second ∙ ap (λ (xs : List ℕ). xs ++ lines_text (passed names (line ∷ []))) first ∙ append_assoc old _ _ ∙ ap (λ (xs : List ℕ). old ++ xs) (sym (passed-more names lines line))
-    ∙ ap (λ (ls : List Line). old ++ lines_text (passed names ls)) (sym is)
+    ∙ ap (λ (ls : List HeaderLine). old ++ lines_text (passed names ls)) (sym is)

@@ -8,8 +8,8 @@ use Rattle.std.proofs.lemmas.List.Elements.{All-nil, All-cons, All-append, All-h
 use Rattle.std.proofs.lemmas.Slice.Eq.{bytes_eq-Decides}
 use Rattle.host_base.specs.declared.permit.Permit.{Permit}
 use Rattle.host_base.specs.declared.request.Request.{Request}
-use Rattle.bridge_headers.specs.Lines.{Line, lower, lower_line, is_passed, passed, same_name}
-use Rattle.bridge_headers.specs.Text.{IsClientLine, IsListed, HasOnlyListed, client_lines, grain_text, length_line, length_lines, lines_of, request_names, server_lines}
+use Rattle.bridge_headers.specs.Lines.{HeaderLine, lower, lower_line, is_passed, passed, same_name}
+use Rattle.bridge_headers.specs.Text.{IsClientLine, IsPassedLine, HasOnlyListed, client_lines, grain_text, length_line, length_lines, lines_of, request_names, server_lines}
 use Rattle.bridge_headers.specs.Lines.{states_length}
 use Rattle.bridge_headers.proofs.LineLemmas.{all_contained, is_listed, true_or}
 
@@ -25,13 +25,13 @@ passes_listed name passes =
       | inr app ↦ inr (take-map to_ascii_lowercase 16 name ∙ (bytes_eq-Decides (lower (take 16 name)) (codes "x-sandstorm-app-")).0 app)
     ]
 
-by_test : (request : Request) (line : Line) (lines : List Line) → Contains (client_lines request.fields) line → (test : Bool) → test ≡ is_passed request_names line.0
+by_test : (request : Request) (line : HeaderLine) (lines : List HeaderLine) → Contains (client_lines request.fields) line → (test : Bool) → test ≡ is_passed request_names line.0
     → All (IsClientLine request) (map lower_line lines) → All (IsClientLine request) (map lower_line (cond test (line ∷ lines) lines))
 by_test request line lines sent true is rest =
     All-cons (IsClientLine request) (lower_line line) (map lower_line lines) (record { sent = line; was_sent = sent; lowered = refl; listed = passes_listed line.0 (sym is) }) rest
 by_test request line lines sent false is rest = rest
 
-all_client : (request : Request) (lines : List Line) → All (Contains (client_lines request.fields)) lines → All (IsClientLine request) (passed request_names lines)
+all_client : (request : Request) (lines : List HeaderLine) → All (Contains (client_lines request.fields)) lines → All (IsClientLine request) (passed request_names lines)
 all_client request [] sent = All-nil (IsClientLine request)
 all_client request (line ∷ lines) sent =
     by_test request line (filter (λ kept. is_passed request_names kept.0) lines) (All-head (Contains (client_lines request.fields)) line lines sent) (is_passed request_names line.0) refl (all_client request lines (All-tail (Contains (client_lines request.fields)) line lines sent))
@@ -40,13 +40,13 @@ all_length : (request : Request) (test : Bool) → All (λ line. line ≡ length
 all_length request true = All-cons (λ line. line ≡ length_line request) (length_line request) [] refl (All-nil (λ line. line ≡ length_line request))
 all_length request false = All-nil (λ line. line ≡ length_line request)
 
-all_listed : (permit : Permit) (request : Request) → All (IsListed permit request) (lines_of permit request)
+all_listed : (permit : Permit) (request : Request) → All (IsPassedLine permit request) (lines_of permit request)
 all_listed permit request =
-    All-append (IsListed permit request) (server_lines permit ++ passed request_names (client_lines request.fields)) (length_lines request)
-    (All-append (IsListed permit request) (server_lines permit) (passed request_names (client_lines request.fields))
-    (All-weaker (Contains (server_lines permit)) (IsListed permit request) (λ line own. inl own) (server_lines permit) (all_contained (server_lines permit)))
-    (All-weaker (IsClientLine request) (IsListed permit request) (λ line client. inr (inl client)) (passed request_names (client_lines request.fields)) (all_client request (client_lines request.fields) (all_contained (client_lines request.fields)))))
-    (All-weaker (λ line. line ≡ length_line request) (IsListed permit request) (λ line is. inr (inr is)) (length_lines request) (all_length request (list_any states_length (client_lines request.fields))))
+    All-append (IsPassedLine permit request) (server_lines permit ++ passed request_names (client_lines request.fields)) (length_lines request)
+    (All-append (IsPassedLine permit request) (server_lines permit) (passed request_names (client_lines request.fields))
+    (All-weaker (Contains (server_lines permit)) (IsPassedLine permit request) (λ line own. inl own) (server_lines permit) (all_contained (server_lines permit)))
+    (All-weaker (IsClientLine request) (IsPassedLine permit request) (λ line client. inr (inl client)) (passed request_names (client_lines request.fields)) (all_client request (client_lines request.fields) (all_contained (client_lines request.fields)))))
+    (All-weaker (λ line. line ≡ length_line request) (IsPassedLine permit request) (λ line is. inr (inr is)) (length_lines request) (all_length request (list_any states_length (client_lines request.fields))))
 
 pub only_listed : (permit : Permit) (request : Request) (text : List ℕ) → text ≡ grain_text permit request → HasOnlyListed permit request text
 only_listed permit request text is = record { lines = lines_of permit request; text_is = is; listed = all_listed permit request }

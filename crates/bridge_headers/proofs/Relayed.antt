@@ -7,18 +7,18 @@ use Rattle.httparse.proofs.GrammarLemmas.{response_unique}
 use Rattle.bridge_headers.specs.declared.fault.RelayFault.{RelayFault}
 use Rattle.bridge_headers.specs.declared.fault.RelayFault.TheVariants.{BadAnswer}
 use Rattle.bridge_headers.specs.declared.head.HeadSpans.{HeadSpans}
-use Rattle.bridge_headers.specs.Lines.{Line}
-use Rattle.bridge_headers.specs.Relay.{Head, IsHead, HasHead, Relays, end_of, relay, relay_to, relay_text, run_length}
+use Rattle.bridge_headers.specs.Lines.{HeaderLine}
+use Rattle.bridge_headers.specs.Relay.{Head, IsAnswerHead, HasHead, Relays, end_of, relay, relay_to, relay_text, run_length}
 use Rattle.bridge_headers.specs.Spans.{AreSpansOf, head_of}
 
-head_with : ℕ → List Line → ℕ → Head
+head_with : ℕ → List HeaderLine → ℕ → Head
 head_with status lines size = record { status = status; lines = lines; size = size }
 
 same_head : (a b : Head) → a.status ≡ b.status → a.lines ≡ b.lines → a.size ≡ b.size → a ≡ b
 unfolding head_with
-same_head a b status lines size = ap (λ (s : ℕ). head_with s a.lines a.size) status ∙ ap (λ (ls : List Line). head_with b.status ls a.size) lines ∙ ap (λ (n : ℕ). head_with b.status b.lines n) size
+same_head a b status lines size = ap (λ (s : ℕ). head_with s a.lines a.size) status ∙ ap (λ (ls : List HeaderLine). head_with b.status ls a.size) lines ∙ ap (λ (n : ℕ). head_with b.status b.lines n) size
 
-one_head : (bytes : List ℕ) (a b : Head) → IsHead bytes a → IsHead bytes b → a ≡ b
+one_head : (bytes : List ℕ) (a b : Head) → IsAnswerHead bytes a → IsAnswerHead bytes b → a ≡ b
 one_head bytes a b is_a is_b =
     let runs : Some a.size ≡ Some b.size = sym is_a.run ∙ is_b.run in
     let size : a.size ≡ b.size = cc in
@@ -46,7 +46,7 @@ relayed_to head bytes body text head_only end r by is ends rest written =
     ∙ ap (λ (t : Bool). cond t (Ok good) (Err (BadAnswer (min end (length bytes))))) (eq-eqb (length bytes) end ends)
     ∙ ap (λ (xs : List ℕ). Ok xs) (ap (λ (b : List ℕ). relay_text head b head_only) (sym rest) ∙ sym written)
 
-has_head : (bytes : List ℕ) (size : ℕ) (spans : HeadSpans) → size ≤ length bytes → run_length bytes ≡ Some size → AreSpansOf (take size bytes) spans → IsHead bytes (head_of (take size bytes) spans)
+has_head : (bytes : List ℕ) (size : ℕ) (spans : HeadSpans) → size ≤ length bytes → run_length bytes ≡ Some size → AreSpansOf (take size bytes) spans → IsAnswerHead bytes (head_of (take size bytes) spans)
 has_head bytes size spans within run are =
     let long : length (take size bytes) ≡ size = length-take-le size bytes within in
     record {

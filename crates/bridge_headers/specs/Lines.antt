@@ -4,15 +4,15 @@ use Rattle.std.specs.List.{flat_map, list_any}
 use Rattle.std.specs.Char.{to_ascii_lowercase}
 
 -- A header line: its name and its value.
-abbrev pub Line : Type 0
-Line = List ℕ × List ℕ
+abbrev pub HeaderLine : Type 0
+HeaderLine = List ℕ × List ℕ
 
 -- the text of a line
-unfoldable pub line_text : Line → List ℕ
+unfoldable pub line_text : HeaderLine → List ℕ
 line_text line = line.0 ++ codes ": " ++ line.1 ++ codes "\r\n"
 
 -- the text of lines, one after another
-abbrev pub lines_text : List Line → List ℕ
+abbrev pub lines_text : List HeaderLine → List ℕ
 lines_text lines = flat_map line_text lines
 
 -- a name in lower case
@@ -28,13 +28,13 @@ unfoldable pub is_passed : List (List ℕ) → List ℕ → Bool
 is_passed names name = list_any (same_name name) names || same_name (take 16 name) (codes "x-sandstorm-app-")
 
 -- whether a line states a length
-abbrev pub states_length : Line → Bool
+abbrev pub states_length : HeaderLine → Bool
 states_length line = same_name line.0 (codes "content-length")
 
 -- a line under its name in lower case
-abbrev pub lower_line : Line → Line
+abbrev pub lower_line : HeaderLine → HeaderLine
 lower_line line = (lower line.0, line.1)
 
 -- the lines that are passed on, in their order, under names in lower case
-abbrev pub passed : List (List ℕ) → List Line → List Line
+abbrev pub passed : List (List ℕ) → List HeaderLine → List HeaderLine
 passed names lines = map lower_line (filter (λ line. is_passed names line.0) lines)

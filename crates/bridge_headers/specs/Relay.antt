@@ -11,7 +11,7 @@ use Rattle.bridge_headers.specs.declared.stated.Stated.{Stated}
 use Rattle.bridge_headers.specs.declared.stated.Stated.TheVariants.{Nothing, Bytes, Bad}
 use Rattle.bridge_headers.specs.declared.fault.RelayFault.{RelayFault}
 use Rattle.bridge_headers.specs.declared.fault.RelayFault.TheVariants.{BadAnswer, NoLength}
-use Rattle.bridge_headers.specs.Lines.{Line, lines_text, same_name, states_length, passed}
+use Rattle.bridge_headers.specs.Lines.{HeaderLine, lines_text, same_name, states_length, passed}
 
 -- how long the shortest run is that ends with CR LF CR LF, if there is one
 abbrev pub run_length : List ℕ → Option ℕ
@@ -21,11 +21,11 @@ run_length (byte ∷ bytes) = if starts_with nat_eq (byte ∷ bytes) (codes "\r\
 -- The head of an answer: its status, its lines, and how many bytes it takes.
 pub record Head : Type 0 where
   pub status : ℕ
-  pub lines : List Line
+  pub lines : List HeaderLine
   pub size : ℕ
 
 -- The shortest run of the bytes that ends with CR LF CR LF is a response head, and this is what it says.
-pub record IsHead (bytes : List ℕ) (head : Head) : Type 0 where
+pub record IsAnswerHead (bytes : List ℕ) (head : Head) : Type 0 where
   pub response : ResponseHead
   pub run : run_length bytes ≡ Some head.size
   pub reads : ReadsResponse (take head.size bytes) response []
@@ -34,8 +34,8 @@ pub record IsHead (bytes : List ℕ) (head : Head) : Type 0 where
 
 -- which head an answer has, if any
 abbrev pub HasHead : List ℕ → Option Head → Type 0
-HasHead bytes None = (head : Head) → ¬ (IsHead bytes head)
-HasHead bytes (Some head) = IsHead bytes head
+HasHead bytes None = (head : Head) → ¬ (IsAnswerHead bytes head)
+HasHead bytes (Some head) = IsAnswerHead bytes head
 
 -- whether answers of a status are relayed
 abbrev pub is_relayed : ℕ → Bool
@@ -46,7 +46,7 @@ abbrev pub is_bodiless : ℕ → Bool
 is_bodiless status = status == 204 || status == 304
 
 -- whether a line names a transfer encoding
-abbrev pub states_encoding : Line → Bool
+abbrev pub states_encoding : HeaderLine → Bool
 states_encoding line = same_name line.0 (codes "transfer-encoding")
 
 -- whether a value is 1 to 10 digits
@@ -63,7 +63,7 @@ stated_of [] = Nothing
 stated_of (value ∷ []) = length_value value
 stated_of (value ∷ next ∷ values) = Bad
 
-abbrev pub stated : List Line → Stated
+abbrev pub stated : List HeaderLine → Stated
 stated lines = stated_of (map (λ line. line.1) (filter states_length lines))
 
 -- where an answer ends by what its head states, where that isn't bad
@@ -85,11 +85,11 @@ abbrev pub status_line : ℕ → List ℕ
 status_line status = codes "HTTP/1.1 " ++ decimal status ++ codes " " ++ unwrap_or (reason_phrase status) [] ++ codes "\r\n"
 
 -- the line of a length, but for a status without a body
-abbrev pub length_lines : ℕ → ℕ → List Line
+abbrev pub length_lines : ℕ → ℕ → List HeaderLine
 length_lines status n = if is_bodiless status then [] else (codes "Content-Length", decimal n) ∷ []
 
 -- the lines that a client gets of an answer with a body of that length
-abbrev pub relay_lines : Head → ℕ → List Line
+abbrev pub relay_lines : Head → ℕ → List HeaderLine
 relay_lines head n = length_lines head.status n ++ passed answer_names head.lines
 
 -- what a client gets of an answer of that head and body

@@ -82,7 +82,8 @@ fn put_server_lines(alloc: Global, text: &mut Vec<u8>, permit: &Permit) -> Resul
 }
 
 fn put_client_lines(text: &mut Vec<u8>, fields: &[Field]) -> Result<(), Memory>
-    ensures { OnOk result (text.new.items ≡ text.old.items ++ lines_text (passed request_names (client_lines fields.now))) }
+    ensures { OnOk result (text.new.items
+        ≡ text.old.items ++ lines_text (passed request_names (client_lines fields.now))) }
 {
     for field in fields {
         let (name, value) = (field.name.as_slice(), field.value.as_slice());

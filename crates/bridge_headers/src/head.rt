@@ -31,7 +31,8 @@ pub fn run_end(bytes: &[u8]) -> Option<usize>
 
 /// Reads bytes that are to be a response head and nothing else.
 pub fn read_head(alloc: Global, head: &[u8]) -> Result<Option<HeadSpans>, Memory>
-    ensures { IfOk result (λ found. MatchOption found ((response : ResponseHead) → ¬ (ReadsResponse head.now response [])) (λ spans. AreSpansOf head.now spans)) }
+    ensures { IfOk result (λ found. MatchOption found ((response : ResponseHead)
+        → ¬ (ReadsResponse head.now response [])) (λ spans. AreSpansOf head.now spans)) }
 {
     let mut fields = vec![in alloc; EMPTY_HEADER_SPAN; head.len() / 3]?;
     match parse_response(head, &mut fields) {

@@ -85,7 +85,9 @@ pub fn put_passed(
     name: &[u8],
     value: &[u8],
 ) -> Result<(), Memory>
-    ensures { OnOk result (text.new.items ≡ text.old.items ++ lines_text (passed (map (λ listed. listed.now) names.now) ((name.now, value.now) ∷ []))) }
+    ensures { OnOk result (text.new.items
+        ≡ text.old.items ++ lines_text
+        (passed (map (λ listed. listed.now) names.now) ((name.now, value.now) ∷ []))) }
 {
     if passes(name, names) {
         put_lower_line(text, name, value)

@@ -71,7 +71,9 @@ fn put_length(text: &mut Vec<u8>, status: u16, length: usize) -> Result<(), Memo
 
 fn put_answer_lines(text: &mut Vec<u8>, head: &[u8], fields: &[HeaderSpan]) -> Result<(), Memory>
     requires { All (IsHeaderWithin (length head.now)) fields.now }
-    ensures { OnOk result (text.new.items ≡ text.old.items ++ lines_text (passed answer_names (map (header_bytes head.now) fields.now))) }
+    ensures { OnOk result (text.new.items
+        ≡ text.old.items ++ lines_text
+        (passed answer_names (map (header_bytes head.now) fields.now))) }
 {
     for field in fields {
         let (name, value) = (field.name.of(head), field.value.of(head));
@@ -117,8 +119,10 @@ fn relay_by(
     requires front { size ≤ length bytes.now }
     requires short { length bytes.now ≤ 4194305 }
     requires within { All (IsHeaderWithin size) spans.now.fields.items }
-    ensures ok { IfOk result (λ text. relay (Some (head_of (take size bytes.now) spans.now)) bytes.now head_only ≡ Ok text.items) }
-    ensures err { IfErr result (λ fault. fault ≢ RelayFault.Memory → relay (Some (head_of (take size bytes.now) spans.now)) bytes.now head_only ≡ Err fault) }
+    ensures ok { IfOk result (λ text. relay (Some (head_of (take size bytes.now) spans.now)) bytes.now
+        head_only ≡ Ok text.items) }
+    ensures err { IfErr result (λ fault. fault ≢ RelayFault.Memory
+        → relay (Some (head_of (take size bytes.now) spans.now)) bytes.now head_only ≡ Err fault) }
 {
     let (head, body) = (&bytes[..size], &bytes[size..]);
     let end = match end_of(head, spans) {
@@ -138,7 +142,8 @@ fn relay_by(
 /// What a client gets of a grain's answer, or of its head alone, or why it gets nothing of it.
 pub fn answer_text(alloc: Global, answer: &Answer, head_only: bool) -> Result<Vec<u8>, RelayFault>
     ensures relayed { IfOk result (λ text. Relays answer.now head_only (Ok text.items)) }
-    ensures refused { IfErr result (λ fault. fault ≢ RelayFault.Memory → Relays answer.now head_only (Err fault)) }
+    ensures refused { IfErr result (λ fault. fault ≢ RelayFault.Memory
+        → Relays answer.now head_only (Err fault)) }
 {
     let bytes = answer.as_slice();
     let Some(size) = run_end(bytes) else {

@@ -39,7 +39,7 @@ impl Answers for Calls {
         let (word, rest) = row.split_once(' ').unwrap_or((row, ""));
         match word {
             "requests" | "digest" => made_by(alloc, word, rest),
-            "granted" | "named" | "upgrade" | "room" => given_by(alloc, word, rest),
+            "upgrade" | "room" => given_by(alloc, word, rest),
             "book" | "event" | "holds" | "admin" => self.book.answer(alloc, word, rest),
             _ => kept_by(alloc, &mut self.kept, word, rest),
         }

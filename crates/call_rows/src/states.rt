@@ -86,8 +86,8 @@ impl Book {
         if !is_well_formed(&self.state) {
             return Err(Fault::Unreadable);
         }
-        let solved = solve(alloc, &self.state.tables)?.into_solved();
-        match solved.access(node) {
+        let solution = solve(alloc, &self.state.tables)?;
+        match solution.solved().access(node) {
             Some(set) => Ok(format!(in alloc; "{}", set.bits())?),
             None => Ok(String::from_str(alloc, "none")?),
         }
@@ -99,8 +99,8 @@ impl Book {
         if !is_well_formed(&self.state) {
             return Err(Fault::Unreadable);
         }
-        let solved = solve(alloc, &self.state.tables)?.into_solved();
-        Ok(format!(in alloc; "{}", solved.met(&self.state.tables, &need))?)
+        let solution = solve(alloc, &self.state.tables)?;
+        Ok(format!(in alloc; "{}", solution.solved().met(&self.state.tables, &need))?)
     }
 
     /// What a row of a state gives.

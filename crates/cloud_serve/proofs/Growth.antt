@@ -7,11 +7,13 @@ use Rattle.host_base.specs.declared.verdict.Verdict.{Verdict}
 use Rattle.share_graph.specs.declared.event.Event.{Event}
 use Rattle.share_graph.specs.declared.state.State.{State}
 use Rattle.share_graph.specs.History.{replay}
+use Rattle.share_graph.specs.WellFormed.{IsWellFormed}
 use Rattle.session_table.specs.Verdict.{IsVerdict}
 use Rattle.grain_supervise.specs.declared.ask.Ask.{Ask}
 use Rattle.grain_supervise.specs.Line.{Line}
-use Rattle.hub_core.specs.Book.{Book, Later, Judged}
-use Rattle.cloud_serve.specs.Effects.{Grew, failures, AskedOf}
+use Rattle.hub_core.specs.Book.{Book, Later, Judged, TakesNone}
+use Rattle.cloud_serve.specs.Effects.{failures, AskedOf}
+use Rattle.host_base.specs.Outside.{Grew}
 
 pub later_trans : (old mid new : Book) → Later old mid → Later mid new → Later old new
 later_trans old mid new a b = record {
@@ -19,13 +21,27 @@ later_trans old mid new a b = record {
   start = b.start ∙ a.start;
   more = a.more ++ b.more;
   seen = b.seen ∙ ap (λ (xs : List Event). xs ++ b.more) a.seen ∙ append_assoc old.seen a.more b.more;
-  store = omega (arith, a.store, b.store);
-  secrets = omega (arith, a.secrets, b.secrets);
-  starts = omega (arith, a.starts, b.starts);
+  counts = record {
+    store = omega (arith, a.counts.store, b.counts.store);
+    secrets = omega (arith, a.counts.secrets, b.counts.secrets);
+    starts = omega (arith, a.counts.starts, b.counts.starts);
+  };
+  stored = λ has. b.stored (a.stored has);
 }
 
 pub later_refl : (book : Book) → Later book book
-later_refl book = record { law = refl; start = refl; more = []; seen = sym (append-nil book.seen); store = omega arith; secrets = omega arith; starts = omega arith }
+later_refl book = record {
+  law = refl;
+  start = refl;
+  more = [];
+  seen = sym (append-nil book.seen);
+  counts = record { store = omega arith; secrets = omega arith; starts = omega arith };
+  stored = λ has. has;
+}
+
+-- nothing was done
+pub none_taken : (book : Book) → TakesNone book book
+none_taken book = record { later = later_refl book; accepted = refl; undrawn = refl; untold = record { starts = refl; stops = refl } }
 
 pub later_longer : (old new : Book) → Later old new → length old.seen ≤ length new.seen
 later_longer old new a = omega (arith, ap length a.seen, length-append old.seen a.more)
@@ -54,6 +70,7 @@ judged_later old new low lower key place verdict later less j = record {
   seen = later.seen ∙ ap (λ (xs : List Event). xs ++ later.more) j.seen ∙ append_assoc j.before j.rest later.more;
   place_is = j.place_is;
   low_is = omega (arith, j.low_is);
+  formed = subst (λ (start : State). IsWellFormed (replay start j.before)) (sym later.start) j.formed;
   verdict_is = subst (λ (start : State). IsVerdict (replay start j.before) key verdict) (sym later.start) j.verdict_is;
 }
 

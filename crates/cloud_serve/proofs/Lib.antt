@@ -4,3 +4,4 @@ pub mod Taking
 pub mod Serving
 pub mod Runs
 pub mod Stated
+pub mod Sharing

@@ -1,11 +1,16 @@
 -- Orders one after another, and what stands at their places.
-use Rattle.std.proofs.Common.{◌≡◌, ℕ, ◌+◌, ◌≤◌, ◌++◌, Bool, List, [], ◌∷◌, cond, Option, Result, Ok, Err, length, count_by, refl, sym, ◌∙◌, ap, subst, arith, append_assoc, append-nil, length-append}
+use Rattle.std.proofs.Common.{◌≡◌, ℕ, ◌+◌, ◌≤◌, ◌++◌, Bool, List, [], ◌∷◌, cond, Option, Some, Result, Ok, Err, length, count_by, refl, sym, ◌∙◌, ap, subst, arith, append_assoc, append-nil, length-append}
+use Rattle.host_base.specs.Drawing.{Coming}
 use Rattle.std.specs.List.{flat_map}
 use Rattle.std.proofs.lemmas.Grind.{flat_map-append}
 use Rattle.std.proofs.lemmas.List.Sums.{sum_by-append}
 use Rattle.share_graph.specs.declared.event.Event.{Event}
 use Rattle.share_graph.specs.declared.state.State.{State}
 use Rattle.share_graph.specs.History.{replay}
+use Rattle.share_graph.specs.WellFormed.{IsWellFormed}
+use Rattle.grain_supervise.specs.Spawning.{Spawns}
+use Rattle.grain_supervise.specs.declared.start.Start.{Start}
+use Rattle.host_base.specs.declared.ids.RunId.{RunId}
 use Rattle.desk_orders.specs.declared.reply.OrderFault.{OrderFault}
 use Rattle.desk_orders.specs.declared.reply.OrderFault.TheVariants as fault
 use Rattle.desk_orders.specs.declared.reply.Reply.{Reply}
@@ -14,13 +19,15 @@ use Rattle.desk_orders.specs.Commands.{Asked}
 use Rattle.desk_orders.specs.Secrets.{DrawsAll}
 use Rattle.site_caps.specs.Law.{Law}
 use Rattle.hub_core.specs.Book.{Book, Later, TakesNone, IsFoundFor, Placed, IsCounted, Ordered}
-use Rattle.cloud_serve.specs.Acts.{Act, added_by, drawn_by, is_store, is_secrets, is_start, store_failures, secret_failures, start_failures}
-use Rattle.cloud_serve.specs.Effects.{Grew, OrderedOf}
-use Rattle.cloud_serve.proofs.Growth.{later_trans, later_refl, later_longer, grew_trans}
+use Rattle.hub_core.specs.Spawning.{Spawned, starts_by, stops_by, token_of}
+use Rattle.cloud_serve.specs.Acts.{Act, added_by, drawn_by, started_by, stopped_by, is_store, is_secrets, is_start, store_failures, secret_failures, start_failures}
+use Rattle.cloud_serve.specs.Effects.{SpawnedOf, OrderedOf}
+use Rattle.host_base.specs.Outside.{Grew}
+use Rattle.cloud_serve.proofs.Growth.{later_trans, later_refl, later_longer, none_taken, grew_trans}
 
 -- what was drawn in two parts
-pub draws_trans : (a b c : Option (ℕ → Option (List ℕ))) (xs ys : List (List ℕ)) → DrawsAll a b xs → DrawsAll b c ys → DrawsAll a c (xs ++ ys)
-draws_trans a b c [] ys f h = subst (λ (o : Option (ℕ → Option (List ℕ))). DrawsAll o c ys) f h
+pub draws_trans : (a b c : Option Coming) (xs ys : List (List ℕ)) → DrawsAll a b xs → DrawsAll b c ys → DrawsAll a c (xs ++ ys)
+draws_trans a b c [] ys f h = subst (λ (o : Option Coming). DrawsAll o c ys) f h
 draws_trans a b c (x ∷ xs) ys (mid, first, more) h = (mid, first, draws_trans mid b c xs ys more h)
 
 length_none : (xs : List Event) → length xs ≡ 0 → xs ≡ []
@@ -43,26 +50,50 @@ pub ordered_none : (old new : Book) → TakesNone old new → OrderedOf old new 
 ordered_none old new none = record {
   later = none.later;
   accepted = omega (arith, none.accepted);
-  draws = none.coming;
-  store = λ lt. omega (arith, none.later.store);
-  secrets = λ lt. omega (arith, none.later.secrets);
-  starts = λ lt. omega (arith, none.later.starts);
+  draws = none.undrawn;
+  spawned = record {
+    starts = λ told was. none.untold.starts ∙ was ∙ ap (λ (xs : List Start). Some xs) (sym (append-nil told));
+    stops = λ told was. none.untold.stops ∙ was ∙ ap (λ (xs : List RunId). Some xs) (sym (append-nil told));
+  };
+  store = λ lt. omega (arith, none.later.counts.store);
+  secrets = λ lt. omega (arith, none.later.counts.secrets);
+  starts = λ lt. omega (arith, none.later.counts.starts);
   grows = omega (arith, later_longer old new none.later);
   alone = λ same. none.later.seen ∙ ap (λ (xs : List Event). old.seen ++ xs) (length_none none.later.more (omega (arith, same, ap length none.later.seen, length-append old.seen none.later.more)));
 }
 
 -- nothing was taken twice
 pub none_trans : (old mid new : Book) → TakesNone old mid → TakesNone mid new → TakesNone old new
-none_trans old mid new a b = record { later = later_trans old mid new a.later b.later; accepted = b.accepted ∙ a.accepted; coming = b.coming ∙ a.coming }
+none_trans old mid new a b = record {
+  later = later_trans old mid new a.later b.later;
+  accepted = b.accepted ∙ a.accepted;
+  undrawn = b.undrawn ∙ a.undrawn;
+  untold = record { starts = b.untold.starts ∙ a.untold.starts; stops = b.untold.stops ∙ a.untold.stops };
+}
 
 pub ordered_refl : (book : Book) → OrderedOf book book []
-ordered_refl book = ordered_none book book (record { later = later_refl book; accepted = refl; coming = refl })
+ordered_refl book = ordered_none book book (none_taken book)
 
 abbrev fails_of : (Result Reply OrderFault → Bool) → List Act → ℕ
 fails_of is acts = count_by (λ (act : Act). is act.answer) acts
 
 fails_trans : (is : Result Reply OrderFault → Bool) (a b c : ℕ) (xs ys : List Act) → b ≤ c → Grew a b (fails_of is xs) → Grew b c (fails_of is ys) → Grew a c (fails_of is (xs ++ ys))
 fails_trans is a b c xs ys less f h = subst (λ (n : ℕ). Grew a c n) (sym (sum_by-append (λ (act : Act). cond (is act.answer) 1 0) xs ys)) (grew_trans a b c (fails_of is xs) (fails_of is ys) less f h)
+
+-- what the spawner was told in two parts
+spawned_trans : (a b c : Spawns) (xs ys : List Act) → SpawnedOf a b xs → SpawnedOf b c ys → SpawnedOf a c (xs ++ ys)
+spawned_trans a b c xs ys f h = record {
+  starts = λ told was.
+      h.starts (told ++ started_by xs) (f.starts told was)
+      ∙ ap (λ (list : List Start). Some list)
+      (append_assoc told (started_by xs) (started_by ys)
+      ∙ ap (λ (list : List Start). told ++ list) (sym (flat_map-append (λ (act : Act). starts_by (token_of act.order act.drawn) act.added) xs ys)));
+  stops = λ told was.
+      h.stops (told ++ stopped_by xs) (f.stops told was)
+      ∙ ap (λ (list : List RunId). Some list)
+      (append_assoc told (stopped_by xs) (stopped_by ys)
+      ∙ ap (λ (list : List RunId). told ++ list) (sym (flat_map-append (λ (act : Act). stops_by act.added) xs ys)));
+}
 
 pub ordered_trans : (old mid new : Book) (xs ys : List Act) → OrderedOf old mid xs → OrderedOf mid new ys → OrderedOf old new (xs ++ ys)
 ordered_trans old mid new xs ys f h =
@@ -72,10 +103,11 @@ ordered_trans old mid new xs ys f h =
     record {
       later = later_trans old mid new f.later h.later;
       accepted = omega (arith, f.accepted, h.accepted, long);
-      draws = subst (λ (ds : List (List ℕ)). DrawsAll old.coming new.coming ds) (sym drawn) (draws_trans old.coming mid.coming new.coming (drawn_by xs) (drawn_by ys) f.draws h.draws);
-      store = fails_trans is_store old.store_faults mid.store_faults new.store_faults xs ys h.later.store f.store h.store;
-      secrets = fails_trans is_secrets old.secret_faults mid.secret_faults new.secret_faults xs ys h.later.secrets f.secrets h.secrets;
-      starts = fails_trans is_start old.start_faults mid.start_faults new.start_faults xs ys h.later.starts f.starts h.starts;
+      draws = subst (λ (ds : List (List ℕ)). DrawsAll old.holds.drawer.coming new.holds.drawer.coming ds) (sym drawn) (draws_trans old.holds.drawer.coming mid.holds.drawer.coming new.holds.drawer.coming (drawn_by xs) (drawn_by ys) f.draws h.draws);
+      spawned = spawned_trans old.holds.spawns mid.holds.spawns new.holds.spawns xs ys f.spawned h.spawned;
+      store = fails_trans is_store old.holds.keeping.faults mid.holds.keeping.faults new.holds.keeping.faults xs ys h.later.counts.store f.store h.store;
+      secrets = fails_trans is_secrets old.holds.drawer.faults mid.holds.drawer.faults new.holds.drawer.faults xs ys h.later.counts.secrets f.secrets h.secrets;
+      starts = fails_trans is_start old.holds.spawns.faults mid.holds.spawns.faults new.holds.spawns.faults xs ys h.later.counts.starts f.starts h.starts;
       grows = omega (arith, f.grows, h.grows, long);
       alone = λ same.
           let first : length mid.seen ≡ length old.seen + length (added_by xs) = omega (arith, f.grows, h.grows, long, same) in
@@ -87,21 +119,21 @@ ordered_trans old mid new xs ys f h =
 abbrev pub act_of : Asked → ℕ → Result Reply OrderFault → List (List ℕ) → List Event → Act
 act_of order place answer drawn added = record { order = order; place = place; answer = answer; drawn = drawn; added = added }
 
-store_one : (old new : Book) (order : Asked) (place : ℕ) (drawn : List (List ℕ)) (added : List Event) (answer : Result Reply OrderFault) → old.store_faults ≤ new.store_faults → IsCounted old new answer → Grew old.store_faults new.store_faults (store_failures (act_of order place answer drawn added ∷ []))
+store_one : (old new : Book) (order : Asked) (place : ℕ) (drawn : List (List ℕ)) (added : List Event) (answer : Result Reply OrderFault) → old.holds.keeping.faults ≤ new.holds.keeping.faults → IsCounted old.holds new.holds answer → Grew old.holds.keeping.faults new.holds.keeping.faults (store_failures (act_of order place answer drawn added ∷ []))
 store_one old new order place drawn added (Ok reply) less counted = λ lt. omega (arith, less)
 store_one old new order place drawn added (Err fault.Store) less counted = λ lt. omega (arith, less, counted (omega (arith, less, lt)))
 store_one old new order place drawn added (Err fault.Secrets) less counted = λ lt. omega (arith, less)
 store_one old new order place drawn added (Err fault.Start) less counted = λ lt. omega (arith, less)
 store_one old new order place drawn added (Err fault.Memory) less counted = λ lt. omega (arith, less)
 
-secret_one : (old new : Book) (order : Asked) (place : ℕ) (drawn : List (List ℕ)) (added : List Event) (answer : Result Reply OrderFault) → old.secret_faults ≤ new.secret_faults → IsCounted old new answer → Grew old.secret_faults new.secret_faults (secret_failures (act_of order place answer drawn added ∷ []))
+secret_one : (old new : Book) (order : Asked) (place : ℕ) (drawn : List (List ℕ)) (added : List Event) (answer : Result Reply OrderFault) → old.holds.drawer.faults ≤ new.holds.drawer.faults → IsCounted old.holds new.holds answer → Grew old.holds.drawer.faults new.holds.drawer.faults (secret_failures (act_of order place answer drawn added ∷ []))
 secret_one old new order place drawn added (Ok reply) less counted = λ lt. omega (arith, less)
 secret_one old new order place drawn added (Err fault.Secrets) less counted = λ lt. omega (arith, less, counted (omega (arith, less, lt)))
 secret_one old new order place drawn added (Err fault.Store) less counted = λ lt. omega (arith, less)
 secret_one old new order place drawn added (Err fault.Start) less counted = λ lt. omega (arith, less)
 secret_one old new order place drawn added (Err fault.Memory) less counted = λ lt. omega (arith, less)
 
-start_one : (old new : Book) (order : Asked) (place : ℕ) (drawn : List (List ℕ)) (added : List Event) (answer : Result Reply OrderFault) → old.start_faults ≤ new.start_faults → IsCounted old new answer → Grew old.start_faults new.start_faults (start_failures (act_of order place answer drawn added ∷ []))
+start_one : (old new : Book) (order : Asked) (place : ℕ) (drawn : List (List ℕ)) (added : List Event) (answer : Result Reply OrderFault) → old.holds.spawns.faults ≤ new.holds.spawns.faults → IsCounted old.holds new.holds answer → Grew old.holds.spawns.faults new.holds.spawns.faults (start_failures (act_of order place answer drawn added ∷ []))
 start_one old new order place drawn added (Ok reply) less counted = λ lt. omega (arith, less)
 start_one old new order place drawn added (Err fault.Start) less counted = λ lt. omega (arith, less, counted (omega (arith, less, lt)))
 start_one old new order place drawn added (Err fault.Store) less counted = λ lt. omega (arith, less)
@@ -117,6 +149,13 @@ alone_one seen now before added rest more is also less long =
     let (same, _) = same_front before seen added more (sym whole ∙ also) (omega (arith, all, long, less)) in
     whole ∙ ap (λ (zs : List Event). zs ++ added) same
 
+-- what the spawner was told of one order
+spawned_one : (old new : Spawns) (order : Asked) (place : ℕ) (answer : Result Reply OrderFault) (drawn : List (List ℕ)) (added : List Event) → Spawned old new (token_of order drawn) added → SpawnedOf old new (act_of order place answer drawn added ∷ [])
+spawned_one old new order place answer drawn added is = record {
+  starts = λ told was. is.starts told was ∙ ap (λ (list : List Start). Some (told ++ list)) (sym (append-nil (starts_by (token_of order drawn) added)));
+  stops = λ told was. is.stops told was ∙ ap (λ (list : List RunId). Some (told ++ list)) (sym (append-nil (stops_by added)));
+}
+
 -- one order
 pub ordered_one : (old new : Book) (order : Asked) (place : ℕ) (answer : Result Reply OrderFault) → (o : Ordered old new order place answer) → OrderedOf old new (act_of order place answer o.drawn o.added ∷ [])
 ordered_one old new order place answer o =
@@ -127,10 +166,11 @@ ordered_one old new order place answer o =
     record {
       later = o.later;
       accepted = o.accepted ∙ ap (λ (zs : List Event). old.accepted + length zs) (sym added);
-      draws = subst (λ (ds : List (List ℕ)). DrawsAll old.coming new.coming ds) (sym (append-nil o.drawn)) o.draws;
-      store = store_one old new order place o.drawn o.added answer o.later.store o.counted;
-      secrets = secret_one old new order place o.drawn o.added answer o.later.secrets o.counted;
-      starts = start_one old new order place o.drawn o.added answer o.later.starts o.counted;
+      draws = subst (λ (ds : List (List ℕ)). DrawsAll old.holds.drawer.coming new.holds.drawer.coming ds) (sym (append-nil o.drawn)) o.draws;
+      spawned = spawned_one old.holds.spawns new.holds.spawns order place answer o.drawn o.added o.spawned;
+      store = store_one old new order place o.drawn o.added answer o.later.counts.store o.counted;
+      secrets = secret_one old new order place o.drawn o.added answer o.later.counts.secrets o.counted;
+      starts = start_one old new order place o.drawn o.added answer o.later.counts.starts o.counted;
       grows = omega (arith, all, less, ap length added);
       alone = λ same. alone_one old.seen new.seen placed.before o.added placed.rest o.later.more placed.seen o.later.seen less (omega (arith, same, ap length added)) ∙ ap (λ (zs : List Event). old.seen ++ zs) (sym added);
     }
@@ -144,6 +184,7 @@ placed_later old new low lower order place answer drawn added later less p = rec
   seen = later.seen ∙ ap (λ (xs : List Event). xs ++ later.more) p.seen ∙ append_assoc (p.before ++ added) p.rest later.more;
   place_is = p.place_is;
   low_is = omega (arith, p.low_is);
+  formed = subst (λ (start : State). IsWellFormed (replay start p.before)) (sym later.start) p.formed;
   found = p.found;
   found_is = subst (λ (law : Law). IsFoundFor law (replay new.start p.before) order answer p.found) (sym later.law)
       (subst (λ (start : State). IsFoundFor old.law (replay start p.before) order answer p.found) (sym later.start) p.found_is);

@@ -5,7 +5,7 @@ use Rattle.std.proofs.lemmas.List.{length-map}
 use Rattle.std.proofs.lemmas.Bool.{cases_lt}
 use Rattle.std.specs.List.{flat_map}
 use Rattle.std.proofs.lemmas.Grind.{flat_map-append}
-use Rattle.host_base.specs.Outside.{Inlet, Outlet, Rose}
+use Rattle.host_base.specs.Outside.{Inlet, Outlet, Rose, CountStands}
 use Rattle.host_base.specs.declared.request.Request.{Request}
 use Rattle.front_http.specs.Reading.{Reading, unread}
 use Rattle.front_http.specs.Stream.{Requests, Bad, IsStream}
@@ -20,11 +20,9 @@ use Rattle.cloud_serve.specs.Effects.{AskedOf, OrderedOf}
 use Rattle.desk_orders.specs.Commands.{Asked}
 use Rattle.site_caps.specs.Law.{Law}
 use Rattle.host_base.specs.declared.key.Key.{Key}
-use Rattle.cloud_serve.specs.Turns.{Turn, Follows, IsKeyed, passed_to, IsMade, MakesOne, MakesBoth, EndsWith, IsLawfulBy, IsLawful, AreLawful, past}
-use Rattle.cloud_serve.specs.Served.{World, InHand, Nothing, Refusing, Answering, Broken, NoRoom, request_in, asked_in, acts_in, HandAt, CauseAt, IsOver, StreamAt, Stands, Complete, limit, Splits, Served}
-use Rattle.cloud_serve.specs.Serving.{ClosesWith, OneMore, Stops, SoFar}
-use Rattle.reply_texts.specs.Texts.{memory_text}
-use Rattle.cloud_serve.proofs.Serving.{stops_no_room}
+use Rattle.cloud_serve.specs.Turns.{Turn, FollowsVerdict, IsKeyed, passed_to, IsMade, MakesOne, MakesBoth, EndsWith, IsLawfulBy, IsLawful, AreLawful, past}
+use Rattle.cloud_serve.specs.Served.{World, InHand, Nothing, Refusing, Answering, Broken, NoRoom, request_in, asked_in, acts_in, HandAt, CauseAt, IsOver, StreamAt, Complete, limit, Splits, Served}
+use Rattle.cloud_serve.specs.Inner.Serving.{ClosesWith, OneMore, StopsServing, SoFar}
 use Rattle.cloud_serve.proofs.Growth.{later_longer, asked_none, asked_trans, judged_later, judged_within}
 use Rattle.cloud_serve.proofs.Orders.{ordered_refl, ordered_trans, placed_later, placed_within}
 
@@ -56,7 +54,7 @@ keyed_later old new later low key passed turn is = record {
   judged = judged_later old new low low key turn.place is.verdict later (omega arith) is.judged;
   reached_is = is.reached_is;
   unordered = is.unordered;
-  follows = subst (λ (law : Law). Follows law is.verdict passed turn) (sym later.law) is.follows;
+  follows = subst (λ (law : Law). FollowsVerdict law is.verdict passed turn) (sym later.law) is.follows;
 }
 
 -- what was lawful stays so when more is seen
@@ -113,6 +111,7 @@ so_far_none world from is = record {
   served_is = refl;
   asked_of = asked_none world.line;
   forwarded_is = refl;
+  closes = λ is. cc;
   stream = λ input told. (input, told, λ all means. (all, means, record { list = refl; end = refl }));
   written = λ text told. told ∙ ap Some (sym (append-nil text));
   reads = omega arith;
@@ -133,6 +132,7 @@ so_far_more old now new reading reading' from last places served forwarded forwa
   served_is = omega (arith, s.served_is, length-append s.turns (o.turn ∷ []));
   asked_of = subst (λ (xs : List Ask). AskedOf old.line new.line xs) (more_pieces (λ (t : Turn). t.asked) s.turns o.turn) (asked_trans old.line now.line new.line (flat_map (λ (t : Turn). t.asked) s.turns) o.turn.asked s.asked_of o.asked_of);
   forwarded_is = o.counts_is ∙ ap (λ (n : ℕ). n + length o.turn.asked) s.forwarded_is ∙ sym (length-append (flat_map (λ (t : Turn). t.asked) s.turns) o.turn.asked) ∙ ap length (more_pieces (λ (t : Turn). t.asked) s.turns o.turn);
+  closes = λ is. (s.turns, o.turn, refl, o.closes is);
   stream = λ input told.
       let before = s.stream input told in
       let after = o.stream before.0 before.1 in (
@@ -164,7 +164,7 @@ cause_from end.Spent i i1 i2 o o1 o2 ri ri2 ro ro2 l = tt
 cause_from end.Memory i i1 i2 o o1 o2 ri ri2 ro ro2 l = tt
 
 pub served_when : (old now new : World) (reading : Reading) (from last : ℕ) (places : List ℕ) (served forwarded forwarded' : ℕ) (e : End) → from ≡ length old.book.seen → (s : SoFar old now reading from last places served forwarded)
-    → (o : Stops s.high last forwarded forwarded' reading now new e) → served < limit → now.inlet.faults ≤ new.inlet.faults → now.outlet.faults ≤ new.outlet.faults → Served old new e from places served forwarded'
+    → (o : StopsServing s.high last forwarded forwarded' reading now new e) → served < limit → now.inlet.faults ≤ new.inlet.faults → now.outlet.faults ≤ new.outlet.faults → Served old new e from places served forwarded'
 served_when old now new reading from last places served forwarded forwarded' e is s o less reads writes = record {
   turns = s.turns;
   hand = o.hand;
@@ -184,6 +184,7 @@ served_when old now new reading from last places served forwarded forwarded' e i
       let after = o.stream before.0 before.1 first.0 first.1 in
       (after.0, splits_trans all first.0 after.0 (map (λ (t : Turn). t.request) s.turns) (request_in o.hand) first.2 after.1, after.2);
   written = λ text told. o.written (text ++ flat_map (λ (t : Turn). t.answer) s.turns) (s.written text told);
+  done = λ is. elim (o.done is) [ inl ended ↦ inl ended | inr closed ↦ inr (s.closes closed) ];
   hand_at = o.hand_at;
   cause = cause_from e old.inlet now.inlet new.inlet old.outlet now.outlet new.outlet s.reads reads s.writes writes o.cause;
   count = o.count served less;
@@ -208,6 +209,7 @@ served_spent old now reading from last places forwarded is s = record {
       let first = (s.stream input told).2 all means in
       (first.0, subst (λ (rs : List Request). Splits all rs first.0) (sym (append-nil (map (λ (t : Turn). t.request) s.turns))) first.2, tt);
   written = λ text told. s.written text told ∙ ap Some (sym (append-nil (text ++ flat_map (λ (t : Turn). t.answer) s.turns)));
+  done = λ is. cc;
   hand_at = tt;
   cause = tt;
   count = refl;
@@ -246,7 +248,7 @@ complete_refused status at (Broken turn) h turns served is all more split ends =
 complete_refused status at NoRoom h turns served is all more split ends = absurd h
 
 pub complete_when : (old new : World) (e : End) (from : ℕ) (places : List ℕ) (served forwarded : ℕ) → Served old new e from places served forwarded → (input : List ℕ) (all : Requests) → old.inlet.left ≡ Some input → IsStream 0 input all
-    → length all.list < limit → Stands old.inlet.faults new.inlet.faults → Stands old.outlet.faults new.outlet.faults → (e ≡ end.Memory) ⊎ Complete all e served
+    → length all.list < limit → CountStands old.inlet.faults new.inlet.faults → CountStands old.outlet.faults new.outlet.faults → (e ≡ end.Memory) ⊎ Complete all e served
 complete_when old new end.Done from places served forwarded s input all told means few reads writes =
     let st = s.stream input told all means in
     let long = front_all all (map (λ (t : Turn). t.request) s.turns) (request_in s.hand) st.0 st.1 (bare_done s.hand s.hand_at) st.2.0 in
@@ -270,11 +272,3 @@ complete_when old new end.Spent from places served forwarded s input all told me
     let le : length requests ≤ length all.list = front_le all requests (request_in s.hand) st.0 st.1 in
     let spent : served ≡ 1000000 = s.count in
     absurd (omega (arith, few, s.served_is))
-
--- memory ran out before any request was read
-pub served_at_once : (old : World) (outlet : Outlet) (from : ℕ) (result : End) (text : List ℕ) → from ≡ length old.book.seen → text ≡ memory_text false → ClosesWith old.outlet outlet text end.Memory result
-    → old.outlet.faults ≤ outlet.faults → Served old (record { inlet = old.inlet; outlet = outlet; line = old.line; book = old.book }) result from [] 0 0
-served_at_once old outlet from result text is text_is closes writes =
-    let new : World = record { inlet = old.inlet; outlet = outlet; line = old.line; book = old.book } in
-    let so_far = so_far_none old from is in
-    served_when old old new unread from from [] 0 0 0 result is so_far (stops_no_room so_far.high from 0 unread old new result text refl refl text_is closes) (omega arith) (omega arith) writes

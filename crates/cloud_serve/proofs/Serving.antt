@@ -1,5 +1,5 @@
 -- What serving one request comes to, over plain values.
-use Rattle.std.proofs.Common.{◌≡◌, ℕ, ◌<◌, ◌++◌, Bool, true, false, List, [], ◌∷◌, Option, Some, None, Result, Ok, Err, take, refl, sym, ◌∙◌, ap, subst, arith, append-nil, inl, inr}
+use Rattle.std.proofs.Common.{◌≡◌, ◌⊎◌, ℕ, ◌<◌, ◌++◌, Bool, true, false, List, [], ◌∷◌, Option, Some, None, Result, Ok, Err, take, refl, sym, ◌∙◌, ap, subst, arith, append-nil, inl, inr}
 use Rattle.host_base.specs.Outside.{Outlet, Rose}
 use Rattle.host_base.specs.declared.request.Request.{Request}
 use Rattle.front_http.specs.declared.fault.FrontFault.{FrontFault}
@@ -14,13 +14,13 @@ use Rattle.cloud_serve.specs.declared.serve.End.TheVariants as end
 use Rattle.hub_core.specs.Book.{Book}
 use Rattle.cloud_serve.specs.Effects.{AskedOf, OrderedOf}
 use Rattle.reply_texts.specs.Texts.{wants_head, refusal_status, memory_text}
-use Rattle.cloud_serve.specs.Taking.{Answers, BreaksOff}
+use Rattle.cloud_serve.specs.Inner.Taking.{TookTurn, BreaksOff}
 use Rattle.cloud_serve.specs.Served.{World, InHand, Nothing, Refusing, Answering, Broken, NoRoom, request_in, asked_in, acts_in, text_in, IsLawfulIn, HandAt, CauseAt, IsOver, IsRefusedIn, StreamAt, WrittenAt, CountAt, limit, Splits}
-use Rattle.cloud_serve.specs.Serving.{ClosesWith, RefusesBy, Halts, TookOne, StopsOne, TakesOne, Stops, Steps}
+use Rattle.cloud_serve.specs.Inner.Serving.{ClosesWith, RefusesBy, Halts, TookOne, StopsOne, TakesOne, StopsServing, Steps}
 use Rattle.cloud_serve.proofs.Growth.{asked_none}
 use Rattle.cloud_serve.proofs.Orders.{ordered_refl}
 
-pub took_one : (low last counted counts : ℕ) (request : Request) (out out' : Outlet) (line line' : Line) (old new : Book) (place : ℕ) (text : List ℕ) → Answers old new line line' counted counts low last request place text
+pub took_one : (low last counted counts : ℕ) (request : Request) (out out' : Outlet) (line line' : Line) (old new : Book) (place : ℕ) (text : List ℕ) → TookTurn old new line line' counted counts low last request place text
     → ((before : List ℕ) → out.written ≡ Some before → out'.written ≡ Some (before ++ text)) → TookOne low last counted counts request out out' line line' old new place
 took_one low last counted counts request out out' line line' old new place text a wrote = record {
   turn = a.turn;
@@ -33,7 +33,7 @@ took_one low last counted counts request out out' line line' old new place text 
   written = λ before is. wrote before is ∙ ap (λ (xs : List ℕ). Some (before ++ xs)) (sym a.answer_is);
 }
 
-pub stops_answer : (low last counted counts : ℕ) (request : Request) (out out' : Outlet) (line line' : Line) (old new : Book) (place : ℕ) (text : List ℕ) → Answers old new line line' counted counts low last request place text
+pub stops_answer : (low last counted counts : ℕ) (request : Request) (out out' : Outlet) (line line' : Line) (old new : Book) (place : ℕ) (text : List ℕ) → TookTurn old new line line' counted counts low last request place text
     → ((before : List ℕ) → out.written ≡ Some before → (n : ℕ) × (out'.written ≡ Some (before ++ take n text))) → Rose out.faults out'.faults → StopsOne low last counted counts request out out' line line' old new end.WriteFault
 stops_answer low last counted counts request out out' line line' old new place text a wrote rose = record {
   hand = Answering a.turn;
@@ -88,16 +88,25 @@ gave_splits reading reading' left request told g all is =
 splits_by : (all more : Requests) (front back : List Request) → front ≡ back → Splits all front more → Splits all back more
 splits_by all more front back same s = subst (λ (rs : List Request). Splits all rs more) same s
 
+-- a connection isn't done with a request in hand
+never_done : (e : End) (hand : InHand) (request : Request) → e ≡ end.Done → request_in hand ≡ request ∷ [] → HandAt e hand → ⊥
+never_done e Nothing request is has at = cc
+never_done e (Refusing why place) request is has at = cc
+never_done e (Answering turn) request is has at = subst (λ (x : End). HandAt x (Answering turn)) is at
+never_done e (Broken turn) request is has at = subst (λ (x : End). HandAt x (Broken turn)) is at
+never_done e NoRoom request is has at = cc
+
 pub steps_one : (low last counted counts : ℕ) (reading reading' : Reading) (old new : World) (request : Request) (result : Result ℕ End)
-    → ((left : List ℕ) → old.inlet.left ≡ Some left → Gave reading left request reading' new.inlet.left)
+    → ((left : List ℕ) → old.inlet.left ≡ Some left → Gave reading left request reading' new.inlet.left) → (reading'.closed ≡ true → request.last ≡ true)
     → TakesOne low last counted counts request old.outlet new.outlet old.line new.line old.book new.book result → Steps low last counted counts reading reading' old new result
-steps_one low last counted counts reading reading' old new request (Ok place) gives t = record {
+steps_one low last counted counts reading reading' old new request (Ok place) gives closes t = record {
   turn = t.turn;
   place_is = t.place_is;
   lawful = t.lawful;
   ordered_of = t.ordered_of;
   asked_of = t.asked_of;
   counts_is = t.counts_is;
+  closes = λ is. subst (λ (r : Request). r.last ≡ true) (sym t.request_is) (closes is);
   stream = λ left is.
       let g = gives left is in (
         g.rest,
@@ -108,7 +117,7 @@ steps_one low last counted counts reading reading' old new request (Ok place) gi
       );
   written = t.written;
 }
-steps_one low last counted counts reading reading' old new request (Err e) gives t = record {
+steps_one low last counted counts reading reading' old new request (Err e) gives closes t = record {
   hand = t.hand;
   lawful = t.lawful;
   ordered_of = t.ordered_of;
@@ -118,6 +127,7 @@ steps_one low last counted counts reading reading' old new request (Err e) gives
       let s = gave_splits reading reading' left request new.inlet.left (gives left is) all remains in
       (s.0, splits_by all s.0 (request ∷ []) (request_in t.hand) (sym t.request_is) s.2, t.free s.0);
   written = t.written;
+  done = λ is. absurd (never_done e t.hand request is t.request_is t.hand_at);
   hand_at = t.hand_at;
   cause = t.cause old.inlet new.inlet;
   count = t.count;
@@ -143,8 +153,8 @@ bare_refusing why at = record { request = refl; asked = refl; acts = refl; lawfu
 stops_bare : (low last counted : ℕ) (reading : Reading) (old new : World) (e : End) (hand : InHand) → IsBare hand → old.line ≡ new.line → old.book ≡ new.book
     → ((left : List ℕ) → old.inlet.left ≡ Some left → (all : Requests) → IsRemaining reading left all → StreamAt e hand all)
     → ((text : List ℕ) → old.outlet.written ≡ Some text → WrittenAt e text (text_in hand) new.outlet.written) → HandAt e hand → CauseAt e old.inlet new.inlet old.outlet new.outlet
-    → ((served : ℕ) → served < limit → CountAt e served) → Stops low last counted counted reading old new e
-stops_bare low last counted reading old new e hand bare line book stream written at cause count = record {
+    → ((served : ℕ) → served < limit → CountAt e served) → (e ≡ end.Done → (new.inlet.ended ≡ true) ⊎ (reading.closed ≡ true)) → StopsServing low last counted counted reading old new e
+stops_bare low last counted reading old new e hand bare line book stream written at cause count done = record {
   hand = hand;
   lawful = bare.lawful new.book low last;
   ordered_of = rw bare.acts (subst (λ (b : Book). OrderedOf old.book b []) book (ordered_refl old.book));
@@ -152,6 +162,7 @@ stops_bare low last counted reading old new e hand bare line book stream written
   counts_is = rw bare.asked (omega arith);
   stream = λ left is all remains. (all, rw bare.request (record { list = refl; end = refl }), stream left is all remains);
   written = written;
+  done = done;
   hand_at = at;
   cause = cause;
   count = count;
@@ -159,26 +170,26 @@ stops_bare low last counted reading old new e hand bare line book stream written
 
 -- memory ran out with no request in hand
 pub stops_no_room : (low last counted : ℕ) (reading : Reading) (old new : World) (result : End) (text : List ℕ) → old.line ≡ new.line → old.book ≡ new.book → text ≡ memory_text false
-    → ClosesWith old.outlet new.outlet text end.Memory result → Stops low last counted counted reading old new result
-stops_no_room low last counted reading old new result text line book is (inl whole) = subst (λ (e : End). Stops low last counted counted reading old new e) (sym whole.0)
+    → ClosesWith old.outlet new.outlet text end.Memory result → StopsServing low last counted counted reading old new result
+stops_no_room low last counted reading old new result text line book is (inl whole) = subst (λ (e : End). StopsServing low last counted counted reading old new e) (sym whole.0)
     (stops_bare low last counted reading old new end.Memory NoRoom bare_no_room line book (λ left told all remains. tt)
-    (λ before told. whole.1 before told ∙ ap (λ (xs : List ℕ). Some (before ++ xs)) is) tt tt (λ served less. less))
-stops_no_room low last counted reading old new result text line book is (inr part) = subst (λ (e : End). Stops low last counted counted reading old new e) (sym part.0)
+    (λ before told. whole.1 before told ∙ ap (λ (xs : List ℕ). Some (before ++ xs)) is) tt tt (λ served less. less) (λ q. cc))
+stops_no_room low last counted reading old new result text line book is (inr part) = subst (λ (e : End). StopsServing low last counted counted reading old new e) (sym part.0)
     (stops_bare low last counted reading old new end.WriteFault NoRoom bare_no_room line book (λ left told all remains. tt)
-    (λ before told. let w = part.2 before told in (w.0, w.1 ∙ ap (λ (xs : List ℕ). Some (before ++ take w.0 xs)) is)) tt part.1 (λ served less. less))
+    (λ before told. let w = part.2 before told in (w.0, w.1 ∙ ap (λ (xs : List ℕ). Some (before ++ take w.0 xs)) is)) tt part.1 (λ served less. less) (λ q. cc))
 
 refused_all : (reading : Reading) (left : List ℕ) (why : Refusal) (at : ℕ) → Ended reading left (Bad why at) → (all : Requests) → IsRemaining reading left all → IsRefusedIn (Refusing why at) all
 refused_all reading left why at ended all remains = let same = ended.only all remains in (ap (λ (r : Requests). r.list) same, ap (λ (r : Requests). r.end) same)
 
 -- what is refused at a place was answered
 stops_refused : (low last counted : ℕ) (reading : Reading) (old new : World) (why : Refusal) (at : ℕ) (result : End) → old.line ≡ new.line → old.book ≡ new.book
-    → ((left : List ℕ) → old.inlet.left ≡ Some left → Ended reading left (Bad why at)) → RefusesBy old.outlet new.outlet why at result → Stops low last counted counted reading old new result
-stops_refused low last counted reading old new why at result line book ended (inl (inl whole)) = subst (λ (e : End). Stops low last counted counted reading old new e) (sym whole.0)
+    → ((left : List ℕ) → old.inlet.left ≡ Some left → Ended reading left (Bad why at)) → RefusesBy old.outlet new.outlet why at result → StopsServing low last counted counted reading old new result
+stops_refused low last counted reading old new why at result line book ended (inl (inl whole)) = subst (λ (e : End). StopsServing low last counted counted reading old new e) (sym whole.0)
     (stops_bare low last counted reading old new (end.Refused (refusal_status why) at) (Refusing why at) (bare_refusing why at) line book
-    (λ left told all remains. refused_all reading left why at (ended left told) all remains) whole.1 (refl, refl) tt (λ served less. less))
-stops_refused low last counted reading old new why at result line book ended (inl (inr part)) = subst (λ (e : End). Stops low last counted counted reading old new e) (sym part.0)
+    (λ left told all remains. refused_all reading left why at (ended left told) all remains) whole.1 (refl, refl) tt (λ served less. less) (λ q. cc))
+stops_refused low last counted reading old new why at result line book ended (inl (inr part)) = subst (λ (e : End). StopsServing low last counted counted reading old new e) (sym part.0)
     (stops_bare low last counted reading old new end.WriteFault (Refusing why at) (bare_refusing why at) line book
-    (λ left told all remains. refused_all reading left why at (ended left told) all remains) part.2 tt part.1 (λ served less. less))
+    (λ left told all remains. refused_all reading left why at (ended left told) all remains) part.2 tt part.1 (λ served less. less) (λ q. cc))
 stops_refused low last counted reading old new why at result line book ended (inr memory) = stops_no_room low last counted reading old new result (memory_text false) line book refl memory
 
 -- nothing is in hand and nothing was written
@@ -191,11 +202,16 @@ over_is_over false ending is = rw is tt
 
 -- the stream is over
 pub stops_done : (low last counted : ℕ) (reading : Reading) (old new : World) → old.line ≡ new.line → old.book ≡ new.book → new.outlet ≡ old.outlet
-    → ((left : List ℕ) → old.inlet.left ≡ Some left → Ended reading left (over reading.closed)) → Stops low last counted counted reading old new end.Done
-stops_done low last counted reading old new line book out ended =
+    → ((left : List ℕ) → old.inlet.left ≡ Some left → Ended reading left (over reading.closed)) → (new.inlet.ended ≡ true) ⊎ (reading.closed ≡ true) → StopsServing low last counted counted reading old new end.Done
+stops_done low last counted reading old new line book out ended done =
     stops_bare low last counted reading old new end.Done Nothing bare_nothing line book
     (λ left told all remains. let same = (ended left told).only all remains in (ap (λ (r : Requests). r.list) same, over_is_over reading.closed all.end (ap (λ (r : Requests). r.end) same)))
-    (unwritten old.outlet new.outlet out) tt tt (λ served less. less)
+    (unwritten old.outlet new.outlet out) tt tt (λ served less. less) (λ q. done)
+
+-- no further request comes only where the source told its end, or the reader was closed
+pub none_ended : (closed ended : Bool) (result : Result (Option Request) FrontFault) → (closed ≡ false → EndsRead result ended) → result ≡ Ok None → (ended ≡ true) ⊎ (closed ≡ true)
+none_ended true ended result ends is = inr refl
+none_ended false ended result ends is = inl (subst (λ (r : Result (Option Request) FrontFault). EndsRead r ended) is (ends refl))
 
 -- a request that is cut off comes only where the source told its end
 pub cut_ended : (closed ended : Bool) (result : Result (Option Request) FrontFault) (n : ℕ) → (closed ≡ true → result ≡ Ok None) → (closed ≡ false → EndsRead result ended) → result ≡ Err (fault.CutOff n) → ended ≡ true
@@ -205,15 +221,15 @@ cut_ended false ended result n none ends is = subst (λ (r : Result (Option Requ
 -- the reader answered a fault
 pub stops_halted : (low last counted : ℕ) (reading reading' : Reading) (old new : World) (f : FrontFault) (result : End) → old.line ≡ new.line → old.book ≡ new.book
     → ((left : List ℕ) → old.inlet.left ≡ Some left → Next reading left (Err f) reading' new.inlet.left) → (f ≡ fault.ReadFault → Rose old.inlet.faults new.inlet.faults) → ((n : ℕ) → f ≡ fault.CutOff n → new.inlet.ended ≡ true)
-    → Halts old.outlet new.outlet f result → Stops low last counted counted reading old new result
+    → Halts old.outlet new.outlet f result → StopsServing low last counted counted reading old new result
 stops_halted low last counted reading reading' old new (fault.BadHead at) result line book next rose cut h = stops_refused low last counted reading old new refusal.BadHead at result line book next h
 stops_halted low last counted reading reading' old new (fault.LongHead at) result line book next rose cut h = stops_refused low last counted reading old new refusal.LongHead at result line book next h
 stops_halted low last counted reading reading' old new (fault.NeedLength at) result line book next rose cut h = stops_refused low last counted reading old new refusal.NeedLength at result line book next h
 stops_halted low last counted reading reading' old new (fault.LongBody at) result line book next rose cut h = stops_refused low last counted reading old new refusal.LongBody at result line book next h
-stops_halted low last counted reading reading' old new (fault.CutOff n) result line book next rose cut h = subst (λ (e : End). Stops low last counted counted reading old new e) (sym h.0)
+stops_halted low last counted reading reading' old new (fault.CutOff n) result line book next rose cut h = subst (λ (e : End). StopsServing low last counted counted reading old new e) (sym h.0)
     (stops_bare low last counted reading old new (end.CutOff n) Nothing bare_nothing line book
     (λ left told all remains. let same = (next left told).only all remains in (ap (λ (r : Requests). r.list) same, ap (λ (r : Requests). r.end) same))
-    (unwritten old.outlet new.outlet h.1) tt (cut n refl) (λ served less. less))
-stops_halted low last counted reading reading' old new fault.ReadFault result line book next rose cut h = subst (λ (e : End). Stops low last counted counted reading old new e) (sym h.0)
-    (stops_bare low last counted reading old new end.ReadFault Nothing bare_nothing line book (λ left told all remains. tt) (unwritten old.outlet new.outlet h.1) tt (rose refl) (λ served less. less))
+    (unwritten old.outlet new.outlet h.1) tt (cut n refl) (λ served less. less) (λ q. cc))
+stops_halted low last counted reading reading' old new fault.ReadFault result line book next rose cut h = subst (λ (e : End). StopsServing low last counted counted reading old new e) (sym h.0)
+    (stops_bare low last counted reading old new end.ReadFault Nothing bare_nothing line book (λ left told all remains. tt) (unwritten old.outlet new.outlet h.1) tt (rose refl) (λ served less. less) (λ q. cc))
 stops_halted low last counted reading reading' old new fault.Memory result line book next rose cut h = stops_no_room low last counted reading old new result (memory_text false) line book refl h

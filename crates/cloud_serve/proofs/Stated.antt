@@ -5,7 +5,7 @@ use Rattle.front_http.specs.declared.route.Route.{Route}
 use Rattle.desk_bodies.specs.Answers.{Answers}
 use Rattle.desk_bodies.specs.declared.fault.BodyFault.{BodyFault}
 use Rattle.cloud_serve.specs.declared.showing.Showing.{Showing}
-use Rattle.cloud_serve.specs.Asking.{AnswersAt}
+use Rattle.cloud_serve.specs.Inner.Taking.{AnswersAt}
 use Rattle.cloud_serve.specs.Commands.{asked_at}
 
 -- the answer is of what a route asks for

@@ -19,7 +19,7 @@ use Rattle.desk_orders.specs.declared.reply.OrderFault.{OrderFault}
 use Rattle.desk_orders.specs.declared.reply.Reply.{Reply}
 use Rattle.desk_orders.specs.declared.reply.Reply.TheVariants as reply
 use Rattle.site_caps.specs.Law.{Law}
-use Rattle.hub_core.specs.Giving.{Gives}
+use Rattle.site_caps.specs.Answering.{GivesText}
 use Rattle.desk_orders.specs.Commands.{Asked}
 use Rattle.reply_texts.specs.declared.faults.OwnFault.TheVariants as own
 use Rattle.reply_texts.specs.Faults.{fault_text}
@@ -29,12 +29,12 @@ use Rattle.share_graph.specs.declared.refusal.Refusal.TheVariants as refusal
 use Rattle.share_graph.specs.declared.state.State.{State}
 use Rattle.hub_core.specs.Book.{Book, Later, TakesNone, Judged, Ordered}
 use Rattle.cloud_serve.specs.Routes.{Shows}
-use Rattle.cloud_serve.specs.Taking.{AsksBy, Asks, ForwardBy, Forwards, Answers, BreaksOff, ShowsKey, SiteBy, Takes, answered_at}
+use Rattle.cloud_serve.specs.Inner.Taking.{AsksBy, AsksOnce, Forwards, TookTurn, BreaksOff, ShowsKey, SiteBy, Takes, answered_at}
 use Rattle.reply_texts.specs.Texts.{wants_head, own_text, denial_text}
 use Rattle.cloud_serve.specs.Acts.{Act}
 use Rattle.cloud_serve.specs.Effects.{OrderedOf}
 use Rattle.cloud_serve.specs.Turns.{Turn, AnswersBack, AnswersOrder, IsMade, MakesOne, MakesBoth, IsKeyed, IsLawfulBy, IsLawful, IsAskedOnce, IsBegun, is_done, passed_to, past}
-use Rattle.cloud_serve.proofs.Growth.{later_refl, asked_none, judged_later}
+use Rattle.cloud_serve.proofs.Growth.{later_refl, none_taken, asked_none, judged_later}
 use Rattle.cloud_serve.proofs.Orders.{none_trans, ordered_none, ordered_refl, ordered_one, ordered_trans, act_of, placed_later, placed_within}
 
 -- one text was asked, and what came back is answered, or memory ran out
@@ -44,24 +44,13 @@ asks_by run grain text head_only back (Ok reply) is = (back, refl, is)
 asks_by run grain text head_only back (Err m) is = inr (back, refl)
 
 -- asking the text of a request is forwarding it
-forward_by : (permit : Permit) (passed : Request) (text : List ℕ) (head_only : Bool) (result : Result (List ℕ) Memory) (asked : List Ask) → text ≡ grain_text permit passed
-    → AsksBy permit.run permit.grain text head_only result asked → ForwardBy permit passed head_only result asked
-forward_by permit passed text head_only (Ok reply) asked is a = (a.0, a.1 ∙ ap (λ (xs : List ℕ). record { run = permit.run; grain = permit.grain; text = xs; back = a.0 } ∷ []) is, a.2)
-forward_by permit passed text head_only (Err m) asked is (inl none) = inl none
-forward_by permit passed text head_only (Err m) asked is (inr one) = inr (one.0, one.1 ∙ ap (λ (xs : List ℕ). record { run = permit.run; grain = permit.grain; text = xs; back = one.0 } ∷ []) is)
-
 pub forwards : (before after : Line) (counted counts : ℕ) (permit : Permit) (passed : Request) (text : List ℕ) (head_only : Bool) (result : Result (List ℕ) Memory) → text ≡ grain_text permit passed
-    → Asks before after counted counts permit.run permit.grain text head_only result → Forwards before after counted counts permit passed head_only result
-forwards before after counted counts permit passed text head_only result is a = record {
-  asked = a.asked;
-  asked_of = a.asked_of;
-  counts_is = a.counts_is;
-  forwarded = forward_by permit passed text head_only result a.asked is a.answered;
-}
+    → AsksOnce before after counted counts permit.run permit.grain text head_only result → Forwards before after counted counts permit passed head_only result
+forwards before after counted counts permit passed text head_only result is a = subst (λ (xs : List ℕ). AsksOnce before after counted counts permit.run permit.grain xs head_only result) is a
 
 -- no memory for the text: nothing was asked
 pub forwards_none : (line : Line) (counted : ℕ) (permit : Permit) (passed : Request) (head_only : Bool) (m : Memory) → Forwards line line counted counted permit passed head_only (Err m)
-forwards_none line counted permit passed head_only m = record { asked = []; asked_of = asked_none line; counts_is = omega arith; forwarded = inl refl }
+forwards_none line counted permit passed head_only m = record { asked = []; asked_of = asked_none line; counts_is = omega arith; answered = inl refl }
 
 -- a turn on which nothing was done
 abbrev nothing : ℕ → Request → Turn
@@ -79,13 +68,13 @@ breaks_first old new line counted low request none = record {
 }
 
 pub breaks_at_once : (book : Book) (line : Line) (counted low : ℕ) (request : Request) → BreaksOff book book line line counted counted low request
-breaks_at_once book line counted low request = breaks_first book book line counted low request (record { later = later_refl book; accepted = refl; coming = refl })
+breaks_at_once book line counted low request = breaks_first book book line counted low request (none_taken book)
 
 abbrev plain_turn : ℕ → ℕ → Request → List ℕ → Turn
 plain_turn low last request text = record { request = request; place = last; reached = low; asked = []; acts = []; answer = text }
 
 answers_plain : (text : List ℕ) (book : Book) (line : Line) (counted low last : ℕ) (request : Request) (r : Showing) → Shows request r
-    → IsLawfulBy r book low last (plain_turn low last request text) → Answers book book line line counted counted low last request last text
+    → IsLawfulBy r book low last (plain_turn low last request text) → TookTurn book book line line counted counted low last request last text
 answers_plain text book line counted low last request r is lawful = record {
   turn = plain_turn low last request text;
   request_is = refl;
@@ -142,7 +131,7 @@ module _ (low last : ℕ) (request : Request) (key : Key) (passed : Request) (sh
 
   -- the verdict was a denial
   pub answers_denied : (old new : Book) (line : Line) (counted : ℕ) (reason : Denial) (text : List ℕ) → low ≤ length old.seen
-      → TakesNone old new → Judged (length old.seen) new key place (verdict.Deny reason) → text ≡ denial_text reason (wants_head request) → Answers old new line line counted counted low last request place text
+      → TakesNone old new → Judged (length old.seen) new key place (verdict.Deny reason) → text ≡ denial_text reason (wants_head request) → TookTurn old new line line counted counted low last request place text
   answers_denied old new line counted reason text less none judged is = record {
     turn = turn_on [] text;
     request_is = refl;
@@ -157,7 +146,7 @@ module _ (low last : ℕ) (request : Request) (key : Key) (passed : Request) (sh
 
   -- the verdict was an item of a site, and what the site gave was answered
   pub answers_site : (old mid new : Book) (line : Line) (counted tag item : ℕ) (text : List ℕ) → low ≤ length old.seen
-      → TakesNone old mid → TakesNone mid new → Judged (length old.seen) mid key place (verdict.Site tag item) → SiteBy mid.law tag item (wants_head request) (Ok text) → Answers old new line line counted counted low last request place text
+      → TakesNone old mid → TakesNone mid new → Judged (length old.seen) mid key place (verdict.Site tag item) → SiteBy mid.law tag item (wants_head request) (Ok text) → TookTurn old new line line counted counted low last request place text
   answers_site old mid new line counted tag item text less none more judged (given, gives, answers) = record {
     turn = turn_on [] text;
     request_is = refl;
@@ -169,7 +158,7 @@ module _ (low last : ℕ) (request : Request) (key : Key) (passed : Request) (sh
           judged = judged_later mid new (length old.seen) low key place (verdict.Site tag item) more.later less judged;
           reached_is = refl;
           unordered = refl;
-          follows = (refl, (given, subst (λ (law : Law). Gives law tag item given) (sym more.later.law) gives, answers));
+          follows = (refl, (given, subst (λ (law : Law). GivesText law tag item given) (sym more.later.law) gives, answers));
         });
     asked_of = asked_none line;
     counts_is = omega arith;
@@ -178,20 +167,20 @@ module _ (low last : ℕ) (request : Request) (key : Key) (passed : Request) (sh
 
   -- the request went through, and was answered
   pub answers_forwarded : (old new : Book) (before after : Line) (counted counts : ℕ) (permit : Permit) (text : List ℕ) → low ≤ length old.seen
-      → TakesNone old new → Judged (length old.seen) new key place (verdict.Forward permit) → Forwards before after counted counts permit passed (wants_head request) (Ok text) → Answers old new before after counted counts low last request place text
+      → TakesNone old new → Judged (length old.seen) new key place (verdict.Forward permit) → Forwards before after counted counts permit passed (wants_head request) (Ok text) → TookTurn old new before after counted counts low last request place text
   answers_forwarded old new before after counted counts permit text less none judged f = record {
     turn = turn_on f.asked text;
     request_is = refl;
     place_is = refl;
     answer_is = refl;
     lawful = lawful_by new low last request key passed (turn_on f.asked text) shows refl
-        (record { verdict = verdict.Forward permit; judged = judged_later new new (length old.seen) low key place (verdict.Forward permit) (later_refl new) less judged; reached_is = refl; unordered = refl; follows = f.forwarded });
+        (record { verdict = verdict.Forward permit; judged = judged_later new new (length old.seen) low key place (verdict.Forward permit) (later_refl new) less judged; reached_is = refl; unordered = refl; follows = f.answered });
     asked_of = f.asked_of;
     counts_is = f.counts_is;
     ordered_of = ordered_none old new none;
   }
 
-  begun_ask : (book : Book) (permit : Permit) (head_only : Bool) (m : Memory) (asked : List Ask) → Judged low book key place (verdict.Forward permit) → ForwardBy permit passed head_only (Err m) asked → IsBegun book low (turn_on asked [])
+  begun_ask : (book : Book) (permit : Permit) (head_only : Bool) (m : Memory) (asked : List Ask) → Judged low book key place (verdict.Forward permit) → AsksBy permit.run permit.grain (grain_text permit passed) head_only (Err m) asked → IsBegun book low (turn_on asked [])
   begun_ask book permit head_only m asked judged (inl none) = inl (none, refl)
   begun_ask book permit head_only m asked judged (inr one) = begun_by book low request key passed (turn_on asked []) shows refl (permit, one.0, judged, one.1, refl)
 
@@ -201,7 +190,7 @@ module _ (low last : ℕ) (request : Request) (key : Key) (passed : Request) (sh
   breaks_forwarded old new before after counted counts permit head_only m less none judged f = record {
     turn = turn_on f.asked [];
     request_is = refl;
-    begun = begun_ask new permit head_only m f.asked (judged_later new new (length old.seen) low key place (verdict.Forward permit) (later_refl new) less judged) f.forwarded;
+    begun = begun_ask new permit head_only m f.asked (judged_later new new (length old.seen) low key place (verdict.Forward permit) (later_refl new) less judged) f.answered;
     asked_of = f.asked_of;
     counts_is = f.counts_is;
     ordered_of = ordered_none old new none;
@@ -226,7 +215,7 @@ makes_one old new low request order place answer text less o = record {
 
 -- the desk was given the order, and its answer was answered
 pub answers_ordered : (old new : Book) (line : Line) (counted low last : ℕ) (request : Request) (order : Asked) (place : ℕ) (answer : Result Reply OrderFault) (text : List ℕ) → low ≤ length old.seen → Shows request (showing.Wants order)
-    → Ordered old new order place answer → AnswersOrder answer (wants_head request) text → Answers old new line line counted counted low last request place text
+    → Ordered old new order place answer → AnswersOrder answer (wants_head request) text → TookTurn old new line line counted counted low last request place text
 answers_ordered old new line counted low last request order place answer text less r o is =
     let act : Act = act_of order place answer o.drawn o.added in
     record {
@@ -256,7 +245,7 @@ breaks_ordered old new line counted low request order place answer less r o =
 
 -- the first of two orders wasn't carried out, and its answer was answered
 pub answers_stopped : (old new : Book) (line : Line) (counted low last : ℕ) (request : Request) (first second : Asked) (place : ℕ) (answer : Result Reply OrderFault) (text : List ℕ) → low ≤ length old.seen
-    → Shows request (showing.Opens first second) → Ordered old new first place answer → is_done answer ≡ false → AnswersOrder answer (wants_head request) text → Answers old new line line counted counted low last request place text
+    → Shows request (showing.Opens first second) → Ordered old new first place answer → is_done answer ≡ false → AnswersOrder answer (wants_head request) text → TookTurn old new line line counted counted low last request place text
 answers_stopped old new line counted low last request first second place answer text less r o undone is =
     let act : Act = act_of first place answer o.drawn o.added in
     record {
@@ -307,7 +296,7 @@ module _ (old mid new : Book) (low : ℕ) (request : Request) (first second : As
 
   -- the first of two orders was carried out, and the second answered
   pub answers_opened : (line : Line) (counted last : ℕ) (text : List ℕ) → Shows request (showing.Opens first second) → is_done done ≡ true → AnswersOrder answer (wants_head request) text
-      → Answers old new line line counted counted low last request place text
+      → TookTurn old new line line counted counted low last request place text
   answers_opened line counted last text r is text_is = record {
     turn = turn_with request both (act_of second place answer o.drawn o.added) text;
     request_is = refl;

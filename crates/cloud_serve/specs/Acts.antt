@@ -1,14 +1,16 @@
 -- The orders that a request made.
-use Rattle.std.specs.Prelude.{ℕ, Bool, true, false, List, Result, Ok, Err, count_by}
+use Rattle.std.specs.Prelude.{ℕ, Bool, true, false, List, Result, Err, count_by}
 use Rattle.std.specs.List.{flat_map}
 use Rattle.share_graph.specs.declared.event.Event.{Event}
 use Rattle.desk_orders.specs.declared.reply.OrderFault.{OrderFault}
 use Rattle.desk_orders.specs.declared.reply.OrderFault.TheVariants as fault
 use Rattle.desk_orders.specs.declared.reply.Reply.{Reply}
 use Rattle.desk_orders.specs.Commands.{Asked}
+use Rattle.grain_supervise.specs.declared.start.Start.{Start}
+use Rattle.host_base.specs.declared.ids.RunId.{RunId}
+use Rattle.hub_core.specs.Spawning.{starts_by, stops_by, token_of}
 
--- An order with all that came of it: its place in the history, the answer, the secrets that were drawn for it, and the entries that
--- it added, which is one where it was accepted and changed something, and else none.
+-- An order with all that came of it: its place, the answer, the secrets drawn for it, and what it added, one entry or none.
 pub record Act : Type 0 where
   pub order : Asked
   pub place : ℕ
@@ -22,27 +24,25 @@ added_by acts = flat_map (λ act. act.added) acts
 abbrev pub drawn_by : List Act → List (List ℕ)
 drawn_by acts = flat_map (λ act. act.drawn) acts
 
+-- the starts and the stops that what was added wants, in their order
+abbrev pub started_by : List Act → List Start
+started_by acts = flat_map (λ act. starts_by (token_of act.order act.drawn) act.added) acts
+
+abbrev pub stopped_by : List Act → List RunId
+stopped_by acts = flat_map (λ act. stops_by act.added) acts
+
 -- whether an answer is a fault of the store, of the secrets, of the spawner
 abbrev pub is_store : Result Reply OrderFault → Bool
 is_store (Err fault.Store) = true
-is_store (Err fault.Secrets) = false
-is_store (Err fault.Start) = false
-is_store (Err fault.Memory) = false
-is_store (Ok reply) = false
+is_store _ = false
 
 abbrev pub is_secrets : Result Reply OrderFault → Bool
-is_secrets (Err fault.Store) = false
 is_secrets (Err fault.Secrets) = true
-is_secrets (Err fault.Start) = false
-is_secrets (Err fault.Memory) = false
-is_secrets (Ok reply) = false
+is_secrets _ = false
 
 abbrev pub is_start : Result Reply OrderFault → Bool
-is_start (Err fault.Store) = false
-is_start (Err fault.Secrets) = false
 is_start (Err fault.Start) = true
-is_start (Err fault.Memory) = false
-is_start (Ok reply) = false
+is_start _ = false
 
 -- how many of the answers are such faults
 abbrev pub store_failures : List Act → ℕ

@@ -1,9 +1,8 @@
 pub mod Acts
 pub mod Commands
-pub mod Asking
 pub mod Routes
 pub mod Turns
 pub mod Effects
-pub mod Taking
 pub mod Served
-pub mod Serving
+pub mod Inner
+pub mod Sharing

@@ -34,8 +34,7 @@ abbrev pub IsAtDesk : Route → Option Digest → List ℕ → Showing → Type 
 IsAtDesk found None body shown = shown ≡ showing.NoCredential
 IsAtDesk found (Some who) body shown = IsAskedAt (asked_at found who body) shown
 
--- what is shown on `/use/{n}/`: the handle of that number of the run whose token is the credential, and what is passed on, which is a slash and all
--- that stands behind the slash of the target
+-- what is shown on `/use/{n}/`: that handle of the run with the token, and the target from the slash behind the number on
 abbrev pub IsUsing : ℕ → List ℕ → Option Digest → Showing → Type 0
 IsUsing n target None shown = shown ≡ showing.NoCredential
 IsUsing n target (Some who) shown = (m : ℕ) × (rest : List ℕ) × IsUse m target rest × (shown ≡ showing.Used (key.Handle who n) (47 ∷ rest))

@@ -1,5 +1,5 @@
 -- What serving a connection comes to: its turns, what was in hand at the end, and the table of ends.
-use Rattle.std.specs.Prelude.{◌≡◌, ℕ, ◌<◌, ◌++◌, true, false, List, [], ◌∷◌, Option, Some, length, take, map}
+use Rattle.std.specs.Prelude.{◌≡◌, ◌⊎◌, ℕ, ◌<◌, ◌++◌, true, false, List, [], ◌∷◌, Option, Some, length, take, map}
 use Rattle.std.specs.List.{flat_map}
 use Rattle.host_base.specs.Outside.{Inlet, Outlet, Rose}
 use Rattle.host_base.specs.declared.request.Request.{Request}
@@ -15,12 +15,21 @@ use Rattle.cloud_serve.specs.Effects.{AskedOf, OrderedOf}
 use Rattle.reply_texts.specs.Texts.{wants_head, refusal_status, refused_text, memory_text}
 use Rattle.cloud_serve.specs.Turns.{Turn, IsLawful, IsBegun, AreLawful}
 
--- what source, sink, link and desk tell at one moment
+-- what the source, the sink and the link of a connection tell
+pub record Wired : Type 0 where
+  pub inlet : Inlet
+  pub outlet : Outlet
+  pub line : Line
+
+-- what they and the desk tell at one moment
 pub record World : Type 0 where
   pub inlet : Inlet
   pub outlet : Outlet
   pub line : Line
   pub book : Book
+
+abbrev pub with_book : Wired → Book → World
+with_book wired book = record { inlet = wired.inlet; outlet = wired.outlet; line = wired.line; book = book }
 
 -- What was in hand when a connection ended: nothing; the answer to what is refused, and its place; a turn whose answer was being
 -- written; a turn that memory ran out on; or nothing but the want of memory, met while no request was in hand.
@@ -34,23 +43,17 @@ pub data InHand : Type 0 where
 abbrev pub request_in : InHand → List Request
 request_in (Answering turn) = turn.request ∷ []
 request_in (Broken turn) = turn.request ∷ []
-request_in Nothing = []
-request_in (Refusing refusal at) = []
-request_in NoRoom = []
+request_in _ = []
 
 abbrev pub asked_in : InHand → List Ask
 asked_in (Answering turn) = turn.asked
 asked_in (Broken turn) = turn.asked
-asked_in Nothing = []
-asked_in (Refusing refusal at) = []
-asked_in NoRoom = []
+asked_in _ = []
 
 abbrev pub acts_in : InHand → List Act
 acts_in (Answering turn) = turn.acts
 acts_in (Broken turn) = turn.acts
-acts_in Nothing = []
-acts_in (Refusing refusal at) = []
-acts_in NoRoom = []
+acts_in _ = []
 
 -- the text that was being written
 abbrev pub text_in : InHand → List ℕ
@@ -63,9 +66,7 @@ text_in NoRoom = memory_text false
 abbrev pub IsLawfulIn : InHand → Book → ℕ → ℕ → Type 0
 IsLawfulIn (Answering turn) book low last = IsLawful book low last turn
 IsLawfulIn (Broken turn) book low last = IsBegun book low turn
-IsLawfulIn Nothing book low last = Unit {0}
-IsLawfulIn (Refusing refusal at) book low last = Unit {0}
-IsLawfulIn NoRoom book low last = Unit {0}
+IsLawfulIn _ book low last = Unit {0}
 
 -- The table of ends, first part: what may be in hand at each.
 abbrev pub HandAt : End → InHand → Type 0
@@ -86,26 +87,19 @@ HandAt _ _ = ⊥
 abbrev pub CauseAt : End → Inlet → Inlet → Outlet → Outlet → Type 0
 CauseAt end.ReadFault inlet inlet' outlet outlet' = Rose inlet.faults inlet'.faults
 CauseAt end.WriteFault inlet inlet' outlet outlet' = Rose outlet.faults outlet'.faults
-CauseAt end.Done inlet inlet' outlet outlet' = Unit {0}
 CauseAt (end.CutOff n) inlet inlet' outlet outlet' = inlet'.ended ≡ true
-CauseAt end.Spent inlet inlet' outlet outlet' = Unit {0}
-CauseAt (end.Refused status at) inlet inlet' outlet outlet' = Unit {0}
-CauseAt end.Memory inlet inlet' outlet outlet' = Unit {0}
+CauseAt _ inlet inlet' outlet outlet' = Unit {0}
 
 -- the stream goes on with nothing, or ended with a request that is the last one
 abbrev pub IsOver : Ending → Type 0
 IsOver Done = Unit {0}
 IsOver Last = Unit {0}
-IsOver (Cut n) = ⊥
-IsOver (Bad refusal at) = ⊥
+IsOver _ = ⊥
 
 -- what is refused is what the rest of the stream ends with
 abbrev pub IsRefusedIn : InHand → Requests → Type 0
 IsRefusedIn (Refusing refusal at) more = (more.list ≡ []) × (more.end ≡ Bad refusal at)
-IsRefusedIn (Answering turn) more = Unit {0}
-IsRefusedIn (Broken turn) more = Unit {0}
-IsRefusedIn Nothing more = Unit {0}
-IsRefusedIn NoRoom more = Unit {0}
+IsRefusedIn _ more = Unit {0}
 
 -- Third part: how the rest of the stream stands at each end.
 abbrev pub StreamAt : End → InHand → Requests → Type 0
@@ -113,19 +107,12 @@ StreamAt end.Done hand more = (more.list ≡ []) × IsOver more.end
 StreamAt (end.CutOff n) hand more = (more.list ≡ []) × (more.end ≡ Cut n)
 StreamAt (end.Refused status at) hand more = IsRefusedIn hand more
 StreamAt end.WriteFault hand more = IsRefusedIn hand more
-StreamAt end.ReadFault hand more = Unit {0}
-StreamAt end.Spent hand more = Unit {0}
-StreamAt end.Memory hand more = Unit {0}
+StreamAt _ hand more = Unit {0}
 
 -- Fourth part: the text in hand is written whole, but for a write fault, which leaves a prefix of it.
 abbrev pub WrittenAt : End → List ℕ → List ℕ → Option (List ℕ) → Type 0
 WrittenAt end.WriteFault before text written = (n : ℕ) × (written ≡ Some (before ++ take n text))
-WrittenAt end.Done before text written = written ≡ Some (before ++ text)
-WrittenAt (end.Refused status at) before text written = written ≡ Some (before ++ text)
-WrittenAt (end.CutOff n) before text written = written ≡ Some (before ++ text)
-WrittenAt end.ReadFault before text written = written ≡ Some (before ++ text)
-WrittenAt end.Spent before text written = written ≡ Some (before ++ text)
-WrittenAt end.Memory before text written = written ≡ Some (before ++ text)
+WrittenAt _ before text written = written ≡ Some (before ++ text)
 
 -- how many requests one connection may have
 abbrev pub limit : ℕ
@@ -134,17 +121,20 @@ limit = 1000000
 -- Fifth part: a connection is spent exactly where so many requests were answered.
 abbrev pub CountAt : End → ℕ → Type 0
 CountAt end.Spent served = served ≡ limit
-CountAt end.Done served = served < limit
-CountAt (end.Refused status at) served = served < limit
-CountAt (end.CutOff n) served = served < limit
-CountAt end.ReadFault served = served < limit
-CountAt end.WriteFault served = served < limit
-CountAt end.Memory served = served < limit
+CountAt _ served = served < limit
 
 -- the requests of a stream are these, and then more
 pub record Splits (all : Requests) (front : List Request) (more : Requests) : Type 0 where
   pub list : all.list ≡ front ++ more.list
   pub end : all.end ≡ more.end
+
+-- the end where every request was answered
+abbrev pub all_answered : End
+all_answered = end.Done
+
+-- the last of the turns is of a request that is the last one
+abbrev pub EndsLast : List Turn → Type 0
+EndsLast turns = (front : List Turn) × (turn : Turn) × (turns ≡ front ++ turn ∷ []) × (turn.request.last ≡ true)
 
 -- THE HEADLINE. There is a list of turns, one for each answered request, and something in hand at the end.
 pub record Served (old new : World) (end : End) (from : ℕ) (places : List ℕ) (served forwarded : ℕ) : Type 0 where
@@ -166,31 +156,26 @@ pub record Served (old new : World) (end : End) (from : ℕ) (places : List ℕ)
   pub forwarded_is : forwarded ≡ length (flat_map (λ turn. turn.asked) turns ++ asked_in hand)
   -- Where the source tells what is left: the requests of it are the turns', the one in hand, and more. A stream has one meaning: no
   -- two by `HasOneMeaning`, and not none by `HasMeaning`, which are clauses of the reader of requests.
-  pub stream : (input : List ℕ) → old.inlet.left ≡ Some input → (all : Requests) → IsStream 0 input all → (more : Requests)
-      × Splits all (map (λ turn. turn.request) turns ++ request_in hand) more × StreamAt end hand more
+  pub stream : (input : List ℕ) → old.inlet.left ≡ Some input → (all : Requests) → IsStream 0 input all
+      → (more : Requests) × Splits all (map (λ turn. turn.request) turns ++ request_in hand) more × StreamAt end hand more
   -- Where the sink tells what was written: the turns' answers, and the text in hand.
-  pub written : (text : List ℕ) → old.outlet.written ≡ Some text → WrittenAt end (text ++ flat_map (λ turn. turn.answer) turns) (text_in hand) new.outlet.written
+  pub written : (text : List ℕ) → old.outlet.written ≡ Some text
+      → WrittenAt end (text ++ flat_map (λ turn. turn.answer) turns) (text_in hand) new.outlet.written
+  -- Every request was answered only where the source told its end, or the last request was the last one.
+  pub done : end ≡ all_answered → (new.inlet.ended ≡ true) ⊎ EndsLast turns
   -- What was in hand, what caused the end, and after how many requests it came.
   pub hand_at : HandAt end hand
   pub cause : CauseAt end old.inlet new.inlet old.outlet new.outlet
   pub count : CountAt end served
 
 -- the end of a connection that the stream's end asks for
-abbrev pub IsEndOf : End → Ending → Type 0
-IsEndOf end.Done ending = IsOver ending
-IsEndOf (end.CutOff n) ending = ending ≡ Cut n
-IsEndOf (end.Refused status at) ending = (refusal : Refusal) × (status ≡ refusal_status refusal) × (ending ≡ Bad refusal at)
-IsEndOf end.ReadFault ending = ⊥
-IsEndOf end.WriteFault ending = ⊥
-IsEndOf end.Spent ending = ⊥
-IsEndOf end.Memory ending = ⊥
-
--- a count below its last value that stands
-pub record Stands (before after : ℕ) : Type 0 where
-  pub small : before < 18446744073709551615
-  pub same : after ≡ before
+abbrev pub IsConnectionEnd : End → Ending → Type 0
+IsConnectionEnd end.Done ending = IsOver ending
+IsConnectionEnd (end.CutOff n) ending = ending ≡ Cut n
+IsConnectionEnd (end.Refused status at) ending = (refusal : Refusal) × (status ≡ refusal_status refusal) × (ending ≡ Bad refusal at)
+IsConnectionEnd _ ending = ⊥
 
 -- every request was answered, and the connection ends as the stream does
 pub record Complete (requests : Requests) (end : End) (served : ℕ) : Type 0 where
   pub all : served ≡ length requests.list
-  pub ends : IsEndOf end requests.end
+  pub ends : IsConnectionEnd end requests.end

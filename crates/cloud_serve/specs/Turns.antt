@@ -24,7 +24,7 @@ use Rattle.site_caps.specs.Law.{Law}
 use Rattle.site_caps.specs.declared.fault.SiteFault.{SiteFault}
 use Rattle.site_caps.specs.declared.fault.SiteFault.TheVariants as site_fault
 use Rattle.hub_core.specs.Book.{Book, Judged, Placed}
-use Rattle.hub_core.specs.Giving.{Gives}
+use Rattle.site_caps.specs.Answering.{GivesText}
 use Rattle.reply_texts.specs.declared.done.Handed.{Handed}
 use Rattle.reply_texts.specs.declared.done.Handed.TheVariants as handed
 use Rattle.reply_texts.specs.declared.faults.OwnFault.TheVariants as own
@@ -73,17 +73,16 @@ abbrev pub AnswersSite : Result (List ℕ) SiteFault → Bool → List ℕ → T
 AnswersSite (Ok text) head_only answer = answer ≡ site_text text head_only
 AnswersSite (Err (site_fault.NoDriver tag)) head_only answer = answer ≡ fault_text (own.NoDriver tag) head_only
 AnswersSite (Err (site_fault.NotOffered tag item)) head_only answer = answer ≡ fault_text (own.NotOffered tag item) head_only
-AnswersSite (Err (site_fault.TwoDrivers tag)) head_only answer = ⊥
-AnswersSite (Err site_fault.Memory) head_only answer = ⊥
+AnswersSite _ head_only answer = ⊥
 
 -- What follows from a verdict: a denial is answered and nothing is asked; a request that goes through is asked once, as it is passed on, and
 -- answered by what came back; and an item of a site is answered by what the law of the sites allows for it.
-abbrev pub Follows : Law → Verdict → Request → Turn → Type 0
-Follows law (verdict.Deny reason) passed turn = (turn.asked ≡ []) × (turn.answer ≡ denial_text reason (wants_head turn.request))
-Follows law (verdict.Forward permit) passed turn =
+abbrev pub FollowsVerdict : Law → Verdict → Request → Turn → Type 0
+FollowsVerdict law (verdict.Deny reason) passed turn = (turn.asked ≡ []) × (turn.answer ≡ denial_text reason (wants_head turn.request))
+FollowsVerdict law (verdict.Forward permit) passed turn =
     (back : Option (List ℕ)) × (turn.asked ≡ ask_of permit passed back ∷ []) × AnswersBack (wants_head turn.request) back turn.answer
-Follows law (verdict.Site tag item) passed turn =
-    (turn.asked ≡ []) × ((given : Result (List ℕ) SiteFault) × Gives law tag item given × AnswersSite given (wants_head turn.request) turn.answer)
+FollowsVerdict law (verdict.Site tag item) passed turn =
+    (turn.asked ≡ []) × ((given : Result (List ℕ) SiteFault) × GivesText law tag item given × AnswersSite given (wants_head turn.request) turn.answer)
 
 -- what an answer hands out, beside numbers: the key of the session that was opened, or a token
 abbrev pub handed_by : Option ℕ → List ℕ → Handed
@@ -118,14 +117,12 @@ pub record IsKeyed (book : Book) (low : ℕ) (key : Key) (passed : Request) (tur
   pub judged : Judged low book key turn.place verdict
   pub reached_is : turn.reached ≡ turn.place
   pub unordered : turn.acts ≡ []
-  pub follows : Follows book.law verdict passed turn
+  pub follows : FollowsVerdict book.law verdict passed turn
 
 -- whether an order was carried out
 abbrev pub is_done : Result Reply OrderFault → Bool
 is_done (Ok (reply.Made made text)) = true
-is_done (Ok (reply.Refused why)) = false
-is_done (Ok (reply.Options list)) = false
-is_done (Err fault) = false
+is_done _ = false
 
 -- THE ORDER is made: its answer is lawful at its place, and what it adds is the entry at that place.
 pub record IsMade (book : Book) (low : ℕ) (order : Asked) (act : Act) : Type 0 where
@@ -195,10 +192,7 @@ IsBegunBy (showing.Keyed key) book low turn = IsAskedOnce book low key turn.requ
 IsBegunBy (showing.Used key target) book low turn = IsAskedOnce book low key (passed_to target turn.request) turn
 IsBegunBy (showing.Wants order) book low turn = MakesOne book low order turn
 IsBegunBy (showing.Opens first second) book low turn = MakesOne book low first turn ⊎ MakesBoth book low first second turn
-IsBegunBy showing.NoRoute book low turn = ⊥
-IsBegunBy showing.NoCredential book low turn = ⊥
-IsBegunBy (showing.BadBody field) book low turn = ⊥
-IsBegunBy (showing.BadManifest bad) book low turn = ⊥
+IsBegunBy _ book low turn = ⊥
 
 abbrev pub IsBegun : Book → ℕ → Turn → Type 0
 IsBegun book low turn =

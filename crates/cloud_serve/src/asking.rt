@@ -2,7 +2,7 @@
 ghost use Rattle.std.specs.Prelude.{◌≡◌, IfOk, None, MatchOption, Result};
 ghost use Rattle.desk_bodies.specs.declared.fault.BodyFault.{BodyFault};
 ghost use Rattle.desk_bodies.specs.Answers.{Answers};
-ghost use Rattle.cloud_serve.specs.Asking.{AnswersAt};
+ghost use Rattle.cloud_serve.specs.Inner.Taking.{AnswersAt};
 ghost use Rattle.cloud_serve.specs.Commands.{asked_at};
 ghost use Rattle.cloud_serve.specs.Routes.{IsAsked, IsAskedAt};
 ghost use Rattle.cloud_serve.specs.declared.showing.Showing.{Showing};
@@ -27,7 +27,8 @@ fn stated(
     who: Digest,
     body: &[u8],
 ) -> Option<Result<Showing, BodyFault>>
-    ensures { MatchOption result (asked_at route who body.now ≡ None) (AnswersAt (asked_at route who body.now)) }
+    ensures { MatchOption result (asked_at route who body.now ≡ None)
+        (AnswersAt (asked_at route who body.now)) }
 {
     let login = Caller::Login(who);
     let bearer = Caller::Bearer(who);

@@ -19,7 +19,9 @@ use std::alloc::Global;
 
 /// A new account.
 pub fn new_account(alloc: Global, who: Digest, body: &[u8]) -> Result<Showing, BodyFault>
-    ensures { Answers (stating (λ fields. wants (caller.Login who) (command.AddAccount fields.handle fields.name)) (account_body body.now)) result }
+    ensures { Answers (stating
+        (λ fields. wants (caller.Login who) (command.AddAccount fields.handle fields.name))
+        (account_body body.now)) result }
 {
     let AccountFields { handle, name } = account_fields(alloc, body)?;
     Ok(Showing::Wants(Order::new(Caller::Login(who), Command::AddAccount(handle, name))))
@@ -32,7 +34,9 @@ pub fn admin_mark(
     account: AccountId,
     body: &[u8],
 ) -> Result<Showing, BodyFault>
-    ensures { Answers (stating (λ on. wants (caller.Login who) (command.SetAdmin account on)) (mark_body body.now)) result }
+    ensures { Answers (stating
+        (λ on. wants (caller.Login who) (command.SetAdmin account on))
+        (mark_body body.now)) result }
 {
     let on = mark_field(alloc, body)?;
     Ok(Showing::Wants(Order::new(Caller::Login(who), Command::SetAdmin(account, on))))
@@ -45,7 +49,9 @@ pub fn enabled_mark(
     account: AccountId,
     body: &[u8],
 ) -> Result<Showing, BodyFault>
-    ensures { Answers (stating (λ on. wants (caller.Login who) (command.SetEnabled account on)) (mark_body body.now)) result }
+    ensures { Answers (stating
+        (λ on. wants (caller.Login who) (command.SetEnabled account on))
+        (mark_body body.now)) result }
 {
     let on = mark_field(alloc, body)?;
     Ok(Showing::Wants(Order::new(Caller::Login(who), Command::SetEnabled(account, on))))
@@ -53,7 +59,9 @@ pub fn enabled_mark(
 
 /// A new application.
 pub fn new_app(alloc: Global, who: Digest, body: &[u8]) -> Result<Showing, BodyFault>
-    ensures { Answers (stating (λ manifest. wants (caller.Login who) (command.AddApp manifest)) (manifest_body body.now)) result }
+    ensures { Answers (stating
+        (λ manifest. wants (caller.Login who) (command.AddApp manifest))
+        (manifest_body body.now)) result }
 {
     let manifest = manifest_field(alloc, body)?;
     Ok(Showing::Wants(Order::new(Caller::Login(who), Command::AddApp(manifest))))
@@ -61,7 +69,9 @@ pub fn new_app(alloc: Global, who: Digest, body: &[u8]) -> Result<Showing, BodyF
 
 /// A new grain.
 pub fn new_grain(alloc: Global, who: Digest, body: &[u8]) -> Result<Showing, BodyFault>
-    ensures { Answers (stating (λ fields. wants (caller.Login who) (command.NewGrain fields.app fields.title)) (grain_body body.now)) result }
+    ensures { Answers (stating
+        (λ fields. wants (caller.Login who) (command.NewGrain fields.app fields.title))
+        (grain_body body.now)) result }
 {
     let GrainFields { app, title } = grain_fields(alloc, body)?;
     Ok(Showing::Wants(Order::new(Caller::Login(who), Command::NewGrain(app, title))))
@@ -83,7 +93,9 @@ pub fn new_share(
     grain: GrainId,
     body: &[u8],
 ) -> Result<Showing, BodyFault>
-    ensures { Answers (stating (λ fields. wants (caller.Login who) (command.Share grain fields.to fields.assignment fields.needs)) (share_body body.now)) result }
+    ensures { Answers (stating
+        (λ fields. wants (caller.Login who) (command.Share grain fields.to fields.assignment fields.needs))
+        (share_body body.now)) result }
 {
     let ShareFields {
         to,
@@ -109,7 +121,10 @@ pub fn new_token(
     for_sharing: bool,
     body: &[u8],
 ) -> Result<Showing, BodyFault>
-    ensures { Answers (stating (λ fields. wants (caller.Login who) (command.MakeToken grain for_sharing fields.assignment fields.needs)) (token_body body.now)) result }
+    ensures { Answers (stating
+        (λ fields.
+        wants (caller.Login who) (command.MakeToken grain for_sharing fields.assignment fields.needs))
+        (token_body body.now)) result }
 {
     let TokenFields { assignment, needs } = token_fields(alloc, body)?;
     Ok(Showing::Wants(Order::new(
@@ -125,7 +140,10 @@ pub fn new_token(
 
 /// A further token from a bearer's.
 pub fn new_child(alloc: Global, who: Digest, body: &[u8]) -> Result<Showing, BodyFault>
-    ensures { Answers (stating (λ fields. wants (caller.Bearer who) (command.Child fields.for_sharing fields.assignment fields.needs)) (child_body body.now)) result }
+    ensures { Answers (stating
+        (λ fields.
+        wants (caller.Bearer who) (command.Child fields.for_sharing fields.assignment fields.needs))
+        (child_body body.now)) result }
 {
     let ChildFields {
         for_sharing,
@@ -144,7 +162,9 @@ pub fn new_child(alloc: Global, who: Digest, body: &[u8]) -> Result<Showing, Bod
 
 /// A link is redeemed.
 pub fn redemption(alloc: Global, who: Digest, body: &[u8]) -> Result<Showing, BodyFault>
-    ensures { Answers (stating (λ token. wants (caller.Login who) (command.Redeem token)) (redeem_body body.now)) result }
+    ensures { Answers (stating
+        (λ token. wants (caller.Login who) (command.Redeem token))
+        (redeem_body body.now)) result }
 {
     let token = token_field(alloc, body)?;
     Ok(Showing::Wants(Order::new(Caller::Login(who), Command::Redeem(token))))

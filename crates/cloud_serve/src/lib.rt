@@ -4,10 +4,14 @@
 mod asking;
 mod commands;
 mod ending;
+mod pass_desk;
 mod passing;
 mod powerbox;
 mod serve;
 mod showing;
 mod turn;
+mod wire;
 
+pub use pass_desk::PassDesk;
 pub use serve::{ConnEnd, End, Places, REQUEST_LIMIT, serve_conn};
+pub use wire::Wire;

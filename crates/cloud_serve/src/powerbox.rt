@@ -22,7 +22,9 @@ pub fn options(
     grain: GrainId,
     body: &[u8],
 ) -> Result<Showing, BodyFault>
-    ensures { Answers (stating (λ query. wants (caller.Login who) (command.Options grain query)) (query_body body.now)) result }
+    ensures { Answers (stating
+        (λ query. wants (caller.Login who) (command.Options grain query))
+        (query_body body.now)) result }
 {
     let query = query_field(alloc, body)?;
     Ok(Showing::Wants(Order::new(Caller::Login(who), Command::Options(grain, query))))
@@ -30,7 +32,10 @@ pub fn options(
 
 /// Something is chosen for a grain.
 pub fn choice(alloc: Global, who: Digest, grain: GrainId, body: &[u8]) -> Result<Showing, BodyFault>
-    ensures { Answers (stating (λ fields. wants (caller.Login who) (command.Choose grain fields.offer fields.query fields.assignment)) (choose_body body.now)) result }
+    ensures { Answers (stating
+        (λ fields.
+        wants (caller.Login who) (command.Choose grain fields.offer fields.query fields.assignment))
+        (choose_body body.now)) result }
 {
     let ChooseFields {
         offer,
@@ -50,7 +55,9 @@ pub fn choice(alloc: Global, who: Digest, grain: GrainId, body: &[u8]) -> Result
 
 /// A run claims what was chosen for its grain.
 pub fn claim(alloc: Global, who: Digest, body: &[u8]) -> Result<Showing, BodyFault>
-    ensures { Answers (stating (λ fields. wants (caller.Run who) (command.Claim fields.token fields.permissions)) (claim_body body.now)) result }
+    ensures { Answers (stating
+        (λ fields. wants (caller.Run who) (command.Claim fields.token fields.permissions))
+        (claim_body body.now)) result }
 {
     let ClaimFields { token, permissions } = claim_fields(alloc, body)?;
     Ok(Showing::Wants(Order::new(Caller::Run(who), Command::Claim { token, permissions })))
@@ -58,7 +65,9 @@ pub fn claim(alloc: Global, who: Digest, body: &[u8]) -> Result<Showing, BodyFau
 
 /// A run saves what one of its handles stands for.
 pub fn reference(alloc: Global, who: Digest, body: &[u8]) -> Result<Showing, BodyFault>
-    ensures { Answers (stating (λ fields. wants (caller.Run who) (command.Save fields.handle fields.label)) (save_body body.now)) result }
+    ensures { Answers (stating
+        (λ fields. wants (caller.Run who) (command.Save fields.handle fields.label))
+        (save_body body.now)) result }
 {
     let SaveFields { handle, label } = save_fields(alloc, body)?;
     Ok(Showing::Wants(Order::new(Caller::Run(who), Command::Save { handle, label })))
@@ -66,7 +75,9 @@ pub fn reference(alloc: Global, who: Digest, body: &[u8]) -> Result<Showing, Bod
 
 /// A run restores a saved reference.
 pub fn restoration(alloc: Global, who: Digest, body: &[u8]) -> Result<Showing, BodyFault>
-    ensures { Answers (stating (λ token. wants (caller.Run who) (command.Restore token)) (redeem_body body.now)) result }
+    ensures { Answers (stating
+        (λ token. wants (caller.Run who) (command.Restore token))
+        (redeem_body body.now)) result }
 {
     let token = token_field(alloc, body)?;
     Ok(Showing::Wants(Order::new(Caller::Run(who), Command::Restore(token))))
@@ -74,7 +85,9 @@ pub fn restoration(alloc: Global, who: Digest, body: &[u8]) -> Result<Showing, B
 
 /// A run drops a saved reference.
 pub fn drop_reference(alloc: Global, who: Digest, body: &[u8]) -> Result<Showing, BodyFault>
-    ensures { Answers (stating (λ token. wants (caller.Run who) (command.DropSaved token)) (redeem_body body.now)) result }
+    ensures { Answers (stating
+        (λ token. wants (caller.Run who) (command.DropSaved token))
+        (redeem_body body.now)) result }
 {
     let token = token_field(alloc, body)?;
     Ok(Showing::Wants(Order::new(Caller::Run(who), Command::DropSaved(token))))

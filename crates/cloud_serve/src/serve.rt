@@ -1,14 +1,15 @@
 //! One connection: its requests, one after another, and how it ends.
 ghost use Rattle.std.specs.Prelude.{◌≡◌, ℕ, ◌⊎◌, ◌+◌, ◌<◌, ◌≤◌, List, None, Some, length, OnOk, vec_len, vec_capacity};
-ghost use Rattle.host_base.specs.Outside.{Inlet, Outlet};
+ghost use Rattle.host_base.specs.Outside.{Inlet, Outlet, CountStands};
 ghost use Rattle.front_http.specs.Stream.{Requests, IsStream};
 ghost use Rattle.grain_supervise.specs.Line.{Line};
 ghost use Rattle.hub_core.specs.Book.{Book};
-ghost use Rattle.cloud_serve.specs.Served.{World, Served, Stands, Complete, limit};
-ghost use Rattle.cloud_serve.specs.Serving.{TakesOne, Steps};
+ghost use Rattle.cloud_serve.specs.Served.{Served, Complete, limit, with_book};
+ghost use Rattle.cloud_serve.specs.Inner.Serving.{TakesOne, Steps};
 
 use crate::ending::{close_with, halt};
 use crate::turn::take_turn;
+use crate::wire::Wire;
 use front_http::{RequestReader, Routes, memory_reply};
 use grain_supervise::Link;
 use host_base::{Memory, Request, Sink, Source, WriteFailed};
@@ -67,8 +68,10 @@ fn answer_one<O: Sink, D: Desk, L: Link>(
     requires { forwarded.old < 18446744073709551615 }
     ensures few { forwarded.new ≤ forwarded.old + 1 }
     ensures writes { (O.outlet out.old).faults ≤ (O.outlet out.new).faults }
-    ensures takes { (low : ℕ) → low ≤ length (D.book desk.old).seen → TakesOne low last forwarded.old forwarded.new request.now
-        (O.outlet out.old) (O.outlet out.new) (L.line link.old) (L.line link.new) (D.book desk.old) (D.book desk.new) result }
+    ensures takes { (low : ℕ) → low ≤ length (D.book desk.old).seen
+        → TakesOne low last forwarded.old forwarded.new request.now (O.outlet out.old)
+        (O.outlet out.new) (L.line link.old) (L.line link.new) (D.book desk.old) (D.book desk.new)
+        result }
 {
     match take_turn(alloc, routes, request, last, desk, link, forwarded) {
         Ok(answered) => match out.put(answered.text.as_slice()) {
@@ -86,10 +89,8 @@ fn serve_one<I: Source, O: Sink, D: Desk, L: Link>(
     reader: &mut RequestReader,
     places: &mut Vec<u64>,
     last: u64,
-    input: &mut I,
-    out: &mut O,
+    wire: &mut Wire<I, O, L>,
     desk: &mut D,
-    link: &mut L,
     forwarded: &mut u64,
 ) -> Result<u64, End>
     requires running { reader.old.stopped ≡ None }
@@ -98,28 +99,43 @@ fn serve_one<I: Source, O: Sink, D: Desk, L: Link>(
     ensures room { OnOk result (vec_len places.new < vec_capacity places.new) }
     ensures running { OnOk result (reader.new.stopped ≡ None) }
     ensures few { forwarded.new ≤ forwarded.old + 1 }
-    ensures reads { (I.inlet input.old).faults ≤ (I.inlet input.new).faults }
-    ensures whole { (I.inlet input.new).whole ≡ (I.inlet input.old).whole }
-    ensures writes { (O.outlet out.old).faults ≤ (O.outlet out.new).faults }
-    ensures steps { (low : ℕ) → low ≤ length (D.book desk.old).seen → Steps low last forwarded.old forwarded.new reader.old reader.new
-        (record { inlet = I.inlet input.old; outlet = O.outlet out.old; line = L.line link.old; book = D.book desk.old })
-        (record { inlet = I.inlet input.new; outlet = O.outlet out.new; line = L.line link.new; book = D.book desk.new }) result }
+    ensures reads { wire.old.inlet.faults ≤ wire.new.inlet.faults }
+    ensures whole { wire.new.inlet.whole ≡ wire.old.inlet.whole }
+    ensures writes { wire.old.outlet.faults ≤ wire.new.outlet.faults }
+    ensures steps { (low : ℕ) → low ≤ length (D.book desk.old).seen
+        → Steps low last forwarded.old forwarded.new reader.old reader.new
+        (with_book wire.old (D.book desk.old)) (with_book wire.new (D.book desk.new)) result }
 {
     if places.reserve(1).is_err() {
-        return Err(close_with(out, memory_reply(false), End::Memory));
+        return Err(close_with(&mut wire.out, memory_reply(false), End::Memory));
     }
-    match reader.next(alloc, input) {
+    match reader.next(alloc, &mut wire.input) {
         Ok(next) => match next {
-            Some(request) => answer_one(alloc, routes, &request, last, out, desk, link, forwarded),
+            Some(request) => answer_one(
+                alloc,
+                routes,
+                &request,
+                last,
+                &mut wire.out,
+                desk,
+                &mut wire.link,
+                forwarded,
+            ),
             None => Err(End::Done),
         },
-        Err(fault) => Err(halt(alloc, fault, out)),
+        Err(fault) => Err(halt(alloc, fault, &mut wire.out)),
     }
 }
 
 // How a connection ended, with the list of its places.
 fn ended(end: End, from: u64, places: Vec<u64>, served: u64, forwarded: u64) -> ConnEnd
-    ensures { result ≡ record { end = end; from = from; places = places.items; served = served; forwarded = forwarded } }
+    ensures { result ≡ record {
+      end = end;
+      from = from;
+      places = places.items;
+      served = served;
+      forwarded = forwarded;
+    } }
 {
     ConnEnd {
         end,
@@ -131,32 +147,27 @@ fn ended(end: End, from: u64, places: Vec<u64>, served: u64, forwarded: u64) -> 
 }
 
 /// Serves one connection: reads a request, answers it, writes the answer whole, and goes on. Want of memory is answered too.
-pub fn serve_conn<I: Source, O: Sink, D: Desk, L: Link>(
+pub fn serve_conn<I: Source, O: Sink, L: Link, D: Desk>(
     alloc: Global,
-    input: &mut I,
-    out: &mut O,
+    routes: &Routes,
+    wire: &mut Wire<I, O, L>,
     desk: &mut D,
-    link: &mut L,
 ) -> ConnEnd
-    ensures whole { (I.inlet input.new).whole ≡ (I.inlet input.old).whole }
-    ensures reads { (I.inlet input.old).faults ≤ (I.inlet input.new).faults }
-    ensures writes { (O.outlet out.old).faults ≤ (O.outlet out.new).faults }
-    ensures served { Served
-        (record { inlet = I.inlet input.old; outlet = O.outlet out.old; line = L.line link.old; book = D.book desk.old })
-        (record { inlet = I.inlet input.new; outlet = O.outlet out.new; line = L.line link.new; book = D.book desk.new })
+    ensures whole { wire.new.inlet.whole ≡ wire.old.inlet.whole }
+    ensures reads { wire.old.inlet.faults ≤ wire.new.inlet.faults }
+    ensures writes { wire.old.outlet.faults ≤ wire.new.outlet.faults }
+    ensures served { Served (with_book wire.old (D.book desk.old)) (with_book wire.new (D.book desk.new))
         result.end result.from result.places result.served result.forwarded }
 
-    // Where neither the source's count rises nor the sink's, every request of a stream below the limit is answered, and the connection
-    // ends as the stream does, or for want of memory.
-    ensures complete { (bytes : List ℕ) (requests : Requests) → (I.inlet input.old).left ≡ Some bytes → IsStream 0 bytes requests → length requests.list < limit →
-        Stands (I.inlet input.old).faults (I.inlet input.new).faults → Stands (O.outlet out.old).faults (O.outlet out.new).faults →
-        (result.end ≡ End.Memory) ⊎ Complete requests result.end result.served }
+    // Where neither the source's count rises nor the sink's, every request of a stream below the limit is answered, and the
+    // connection ends as the stream does, or for want of memory.
+    ensures complete { (bytes : List ℕ) (requests : Requests) → wire.old.inlet.left ≡ Some bytes
+        → IsStream 0 bytes requests → length requests.list < limit
+        → CountStands wire.old.inlet.faults wire.new.inlet.faults
+        → CountStands wire.old.outlet.faults wire.new.outlet.faults
+        → (result.end ≡ End.Memory) ⊎ Complete requests result.end result.served }
 {
     let from = desk.place();
-    let Ok(routes) = Routes::new(alloc) else {
-        let end = close_with(out, memory_reply(false), End::Memory);
-        return ended(end, from, Vec::new(alloc), 0, 0);
-    };
     let mut reader = RequestReader::new(alloc);
     let mut places = Vec::new(alloc);
     let mut last = from;
@@ -164,14 +175,12 @@ pub fn serve_conn<I: Source, O: Sink, D: Desk, L: Link>(
     'requests: for served in 0..REQUEST_LIMIT {
         match serve_one(
             alloc,
-            &routes,
+            routes,
             &mut reader,
             &mut places,
             last,
-            input,
-            out,
+            wire,
             desk,
-            link,
             &mut forwarded,
         ) {
             Ok(place) => {

@@ -3,7 +3,7 @@ ghost use Rattle.std.specs.Prelude.{◌≡◌, ℕ, ◌+◌, ◌<◌, ◌≤◌,
 ghost use Rattle.hub_core.specs.Book.{Book};
 ghost use Rattle.cloud_serve.specs.Routes.{Shows};
 ghost use Rattle.grain_supervise.specs.Line.{Line};
-ghost use Rattle.cloud_serve.specs.Taking.{Asks, Forwards, ShowsKey, SiteBy, Takes, answered_at};
+ghost use Rattle.cloud_serve.specs.Inner.Taking.{AsksOnce, Forwards, ShowsKey, SiteBy, Takes, answered_at};
 ghost use Rattle.cloud_serve.specs.Turns.{AnswersBack, AnswersOrder, handed_of, is_done};
 ghost use Rattle.hub_core.specs.Book.{TakesNone};
 ghost use Rattle.cloud_serve.specs.declared.showing.Showing.TheVariants as shown;
@@ -61,7 +61,8 @@ fn ask<L: Link>(
 ) -> Result<Bytes, Memory>
     requires { forwarded.old < 18446744073709551615 }
     ensures few { forwarded.new ≤ forwarded.old + 1 }
-    ensures asks { Asks (L.line link.old) (L.line link.new) forwarded.old forwarded.new run grain text.now head_only result }
+    ensures asks { AsksOnce (L.line link.old) (L.line link.new) forwarded.old forwarded.new run grain text.now
+        head_only result }
 {
     match link.ask(alloc, run, grain, text) {
         Ok(back) => {
@@ -87,7 +88,8 @@ fn forward<L: Link>(
 ) -> Result<Bytes, Memory>
     requires { forwarded.old < 18446744073709551615 }
     ensures few { forwarded.new ≤ forwarded.old + 1 }
-    ensures forwards { Forwards (L.line link.old) (L.line link.new) forwarded.old forwarded.new permit.now passed.now head_only result }
+    ensures forwards { Forwards (L.line link.old) (L.line link.new) forwarded.old forwarded.new permit.now
+        passed.now head_only result }
 {
     match grain_text(alloc, permit, passed) {
         Err(Memory) => Err(Memory),
@@ -141,7 +143,8 @@ fn keyed<D: Desk, L: Link>(
     requires room { forwarded.old < 18446744073709551615 }
     ensures few { forwarded.new ≤ forwarded.old + 1 }
     ensures takes { (low last : ℕ) → low ≤ length (D.book desk.old).seen →
-        Takes (D.book desk.old) (D.book desk.new) (L.line link.old) (L.line link.new) forwarded.old forwarded.new low last request.now result }
+        Takes (D.book desk.old) (D.book desk.new) (L.line link.old) (L.line link.new)
+        forwarded.old forwarded.new low last request.now result }
 {
     let head_only = wants_head(request);
     match desk.verdict(alloc, key) {
@@ -283,7 +286,8 @@ pub fn take_turn<D: Desk, L: Link>(
     requires { forwarded.old < 18446744073709551615 }
     ensures few { forwarded.new ≤ forwarded.old + 1 }
     ensures takes { (low : ℕ) → low ≤ length (D.book desk.old).seen →
-        Takes (D.book desk.old) (D.book desk.new) (L.line link.old) (L.line link.new) forwarded.old forwarded.new low last request.now result }
+        Takes (D.book desk.old) (D.book desk.new) (L.line link.old) (L.line link.new)
+        forwarded.old forwarded.new low last request.now result }
 {
     let head_only = wants_head(request);
     match find_showing(alloc, routes, request) {

@@ -7,7 +7,7 @@ use Rattle.std.specs.declared.alloc.Global.{Global}
 use Rattle.std.proofs.lemmas.List.Elements.{All-cons, All-nil}
 use Rattle.std.proofs.lemmas.Str.Parse.{digit_from_value}
 use Rattle.command_line.specs.declared.line.Line.TheVariants as line
-use Rattle.command_line.specs.Words.{IsCheck, IsGen, IsGrain, IsNoLine, IsOne, IsPath, IsPlay, IsServe}
+use Rattle.command_line.specs.Words.{IsCheck, IsGen, IsGrainLine, IsNoLine, IsOneOfLines, IsPath, IsPlay, IsServe}
 
 begins : (x : ℕ) (xs : List ℕ) → x ≢ 45 → IsPath (x ∷ xs)
 begins x xs other e = other cc
@@ -68,7 +68,7 @@ module _ (words : List (String Global)) where
   check_plain : IsCheck words → AllPaths (map string_bytes words)
   check_plain is = subst AllPaths (sym is.words_are) (two_paths (codes "check") is.file check_path is.path)
 
-  grain_plain : (count : ℕ) → IsGrain words count → AllPaths (map string_bytes words)
+  grain_plain : (count : ℕ) → IsGrainLine words count → AllPaths (map string_bytes words)
   grain_plain count is = subst AllPaths (sym is.words_are)
       (three_paths (codes "grain") is.socket is.count_digits grain_path is.path (digits_path is.count_digits is.count_is.number.numeral))
 
@@ -83,7 +83,7 @@ module _ (words : List (String Global)) where
   }
 
 -- words are one line at most
-pub one_line : (words : List (String Global)) → IsOne words
+pub one_line : (words : List (String Global)) → IsOneOfLines words
 one_line words line.Play line.Play a b = refl
 one_line words line.Play (line.Serve p n) a b = cc (a, b.words_are)
 one_line words line.Play (line.Gen n s) a b = cc (a, b.words_are)

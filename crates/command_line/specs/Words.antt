@@ -6,14 +6,14 @@ use Rattle.command_line.specs.declared.line.Line.{Line}
 use Rattle.command_line.specs.declared.line.Line.TheVariants as line
 
 -- 1 to 10 decimal digits, leading zeros among them, and their number
-pub record IsNumber (digits : List ℕ) (number : ℕ) : Type 0 where
+pub record IsDecimalOf (digits : List ℕ) (number : ℕ) : Type 0 where
   pub numeral : IsNumeral 10 digits
   pub few : length digits ≤ 10
   pub value : number ≡ digits_value 10 digits
 
 -- such digits of a number from 1 to a limit
 pub record IsCount (limit : ℕ) (digits : List ℕ) (count : ℕ) : Type 0 where
-  pub number : IsNumber digits count
+  pub number : IsDecimalOf digits count
   pub some : 1 ≤ count
   pub within : count ≤ limit
 
@@ -41,7 +41,7 @@ pub record IsGen (words : List (String Global)) (count seed : ℕ) : Type 0 wher
   pub seed_digits : List ℕ
   pub words_are : map string_bytes words ≡ codes "gen" ∷ count_digits ∷ seed_digits ∷ []
   pub count_is : IsCount 100000 count_digits count
-  pub seed_is : IsNumber seed_digits seed
+  pub seed_is : IsDecimalOf seed_digits seed
 
 -- The words `check FILE`.
 pub record IsCheck (words : List (String Global)) : Type 0 where
@@ -50,7 +50,7 @@ pub record IsCheck (words : List (String Global)) : Type 0 where
   pub path : IsPath file
 
 -- The words `grain SOCKET COUNT`.
-pub record IsGrain (words : List (String Global)) (count : ℕ) : Type 0 where
+pub record IsGrainLine (words : List (String Global)) (count : ℕ) : Type 0 where
   pub socket : List ℕ
   pub count_digits : List ℕ
   pub words_are : map string_bytes words ≡ codes "grain" ∷ socket ∷ count_digits ∷ []
@@ -63,7 +63,7 @@ pub record IsNoLine (words : List (String Global)) : Type 0 where
   pub serve : (port count : ℕ) → IsServe words port count → ⊥
   pub gen : (count seed : ℕ) → IsGen words count seed → ⊥
   pub check : IsCheck words → ⊥
-  pub grain : (count : ℕ) → IsGrain words count → ⊥
+  pub grain : (count : ℕ) → IsGrainLine words count → ⊥
 
 -- the line that words are
 abbrev pub IsLine : List (String Global) → Line → Type 0
@@ -71,9 +71,9 @@ IsLine words line.Play = IsPlay words
 IsLine words (line.Serve port count) = IsServe words port count
 IsLine words (line.Gen count seed) = IsGen words count seed
 IsLine words line.Check = IsCheck words
-IsLine words (line.Grain count) = IsGrain words count
+IsLine words (line.Grain count) = IsGrainLine words count
 IsLine words line.Unknown = IsNoLine words
 
 -- words are one line at most
-abbrev pub IsOne : List (String Global) → Type 0
-IsOne words = (one other : Line) → IsLine words one → IsLine words other → one ≡ other
+abbrev pub IsOneOfLines : List (String Global) → Type 0
+IsOneOfLines words = (one other : Line) → IsLine words one → IsLine words other → one ≡ other

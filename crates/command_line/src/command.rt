@@ -108,8 +108,10 @@ fn program_command<'a>(alloc: Global) -> Result<Command<'a>, AllocError>
 
 /// Whether the command takes the words.
 pub(crate) fn is_taken(alloc: Global, words: &[String]) -> Result<bool, Memory>
-    ensures taken { IfOk result (λ taken. taken ≡ true → fault_of specs.program (map string_bytes words.now) ≡ []) }
-    ensures refused { IfOk result (λ taken. taken ≡ false → fault_of specs.program (map string_bytes words.now) ≢ []) }
+    ensures taken { IfOk result (λ taken. taken ≡ true
+        → fault_of specs.program (map string_bytes words.now) ≡ []) }
+    ensures refused { IfOk result (λ taken. taken ≡ false
+        → fault_of specs.program (map string_bytes words.now) ≢ []) }
 {
     let command = program_command(alloc)?;
     match command.try_get_matches_from(words) {

@@ -1,7 +1,7 @@
 //! The lines that the program's words may be.
 
 ghost use Rattle.std.specs.Prelude.{◌≡◌, ◌↔◌, ℕ, Some, All, map, string_bytes, slice_get, codes, IsTrue, IfOk, MatchOption};
-ghost use Rattle.command_line.specs.Words.{IsCheck, IsCount, IsGen, IsGrain, IsLine, IsNoLine, IsNumber, IsOne, IsPath, IsPlay, IsServe};
+ghost use Rattle.command_line.specs.Words.{IsCheck, IsCount, IsGen, IsGrainLine, IsLine, IsNoLine, IsDecimalOf, IsOneOfLines, IsPath, IsPlay, IsServe};
 
 use crate::command::is_taken;
 use crate::number::{count_of, number_of};
@@ -80,8 +80,8 @@ fn serve_numbers(port: &str, count: &str) -> Option<(u16, u32)>
 // The numbers of `gen`.
 fn gen_numbers(count: &str, seed: &str) -> Option<(u32, u64)>
     ensures { MatchOption result
-        ((n s : ℕ) → IsCount 100000 count.now n → IsNumber seed.now s → ⊥)
-        (λ numbers. IsCount 100000 count.now numbers.0 × IsNumber seed.now numbers.1) }
+        ((n s : ℕ) → IsCount 100000 count.now n → IsDecimalOf seed.now s → ⊥)
+        (λ numbers. IsCount 100000 count.now numbers.0 × IsDecimalOf seed.now numbers.1) }
 {
     match (count_of(count, MOST_MADE), number_of(seed)) {
         (Some(count), Some(seed)) => Some((count, seed)),
@@ -136,7 +136,7 @@ fn check_line(words: &[String]) -> Option<Line>
 }
 
 fn grain_line(words: &[String]) -> Option<Line>
-    ensures { MatchOption result ((count : ℕ) → IsGrain words.now count → ⊥) (IsLine words.now) }
+    ensures { MatchOption result ((count : ℕ) → IsGrainLine words.now count → ⊥) (IsLine words.now) }
 {
     match words {
         [word, socket, count] if says(word.as_str(), "grain") && is_path(socket.as_str()) => {
@@ -177,7 +177,7 @@ pub fn line_of(alloc: Global, words: &[String]) -> Result<Line, Memory>
     ensures line { IfOk result (IsLine words.now) }
 
     // The words are one line at most.
-    ensures one { IsOne words.now }
+    ensures one { IsOneOfLines words.now }
 {
     if !are_plain(words) {
         return Ok(Line::Unknown);

@@ -1,14 +1,14 @@
 //! Numbers among the words.
 
 ghost use Rattle.std.specs.Prelude.{◌≡◌, ◌<◌, ◌^◌, ℕ, MatchOption};
-ghost use Rattle.command_line.specs.Words.{IsCount, IsNumber};
+ghost use Rattle.command_line.specs.Words.{IsCount, IsDecimalOf};
 
 // The most digits that a number has.
 const MOST_DIGITS: usize = 10;
 
 /// The number that a word of 1 to 10 decimal digits says, leading zeros among them.
 pub(crate) fn number_of(word: &str) -> Option<u64>
-    ensures { MatchOption result ((n : ℕ) → IsNumber word.now n → ⊥) (IsNumber word.now) }
+    ensures { MatchOption result ((n : ℕ) → IsDecimalOf word.now n → ⊥) (IsDecimalOf word.now) }
 {
     if word.len() > MOST_DIGITS || word.starts_with('+') {
         return None;

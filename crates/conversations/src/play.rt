@@ -4,11 +4,10 @@ use crate::comparing::{Difference, compare_asked, compare_rows, compare_told};
 use crate::conversation::{Conversation, Round};
 use crate::keepers::{database, first_rows, list_of, store_rows};
 use crate::rounds::{Objects, Part, play_otherwise, play_round};
-use admin_run::{Back, book_keeper};
+use admin_run::book_keeper;
 use cloud_keeper::Keeper;
 use grain_supervise::{CannedLink, EchoLink, FakeSpawner, Link};
 use host_base::{Answer, ListSecrets, Secrets, SeqSecrets};
-use host_clock::StillClock;
 use plain_data::List;
 use std::alloc::Global;
 use test_words::Fault;
@@ -84,12 +83,11 @@ fn over_book<L: Link + Drop, S: Secrets + Drop>(
     let spawner = spawner_of(alloc, conversation)?;
     let fails = List::new(conversation.failing.store.clone()?);
     let keeper = book_keeper(alloc, fails)?;
-    let objects = Back {
+    let objects = Objects {
         link,
         keeper,
         secrets,
         spawner,
-        clock: StillClock::new(0),
     };
     let objects = play_round(alloc, conversation, round, part, objects, found)?;
     play_from(alloc, conversation, 1, objects, found)
@@ -104,12 +102,11 @@ fn over_any<L: Link + Drop, K: Keeper + Drop, S: Secrets + Drop>(
     found: &mut Vec<Difference>,
 ) -> Result<L, Fault> {
     let spawner = spawner_of(alloc, conversation)?;
-    let objects = Back {
+    let objects = Objects {
         link,
         keeper,
         secrets,
         spawner,
-        clock: StillClock::new(0),
     };
     play_from(alloc, conversation, 0, objects, found)
 }

@@ -1,13 +1,13 @@
 //! One run of the program over the objects of a conversation.
 
 ghost use Rattle.std.specs.Prelude.{◌≡◌};
-ghost use Rattle.admin_run.specs.Book.{HasBook};
+ghost use Rattle.admin_run.specs.Connection.{HasBook};
 ghost use Rattle.admin_run.specs.Program.{BeginWithBook};
 
 use crate::comparing::{Difference, compare_bytes, compare_numbers};
 use crate::conversation::{Conversation, Round};
 use crate::door::door_of;
-use admin_run::{Back, Ran, World, run};
+use admin_run::{Ran, World, run, world_of};
 use cloud_keeper::Keeper;
 use club_site::plain_sites;
 use command_line::{Line, line_of};
@@ -15,12 +15,19 @@ use conn_door::MemDoor;
 use grain_supervise::{FakeSpawner, Link};
 use host_base::{MemSink, MemSource, Secrets};
 use host_clock::StillClock;
+use hub_core::Held;
 use plain_data::List;
 use std::alloc::Global;
 use test_words::Fault;
 
-/// The objects around the server.
-pub type Objects<L, K, S> = Back<L, K, S, FakeSpawner, StillClock>;
+/// The objects around the server, which go on from run to run.
+#[derive(Drop)]
+pub struct Objects<L, K, S> {
+    pub link: L,
+    pub keeper: K,
+    pub secrets: S,
+    pub spawner: FakeSpawner,
+}
 
 /// How a run is played: what its client sends, how often what must come back comes, and the status that it must have.
 #[derive(Debug, Drop)]
@@ -85,18 +92,6 @@ fn source(alloc: Global, conversation: &Conversation, part: &Part) -> Result<Mem
     }
 }
 
-// Takes apart what a run hands back.
-fn came_of<L: Link + Drop, K: Keeper + Drop, S: Secrets + Drop>(
-    ran: Ran<L, K, S, FakeSpawner, StillClock, MemDoor>,
-    out: MemSink,
-) -> Result<(Came, Objects<L, K, S>), Fault> {
-    let Ran { status, door, back } = ran;
-    match back {
-        Some(back) => Ok((Came { out, door, status }, back)),
-        None => Err(Fault::Memory),
-    }
-}
-
 /// Plays a run, and compares what comes of it. The objects are handed back.
 pub fn play_round<L: Link + Drop, K: Keeper + Drop, S: Secrets + Drop>(
     alloc: Global,
@@ -108,23 +103,41 @@ pub fn play_round<L: Link + Drop, K: Keeper + Drop, S: Secrets + Drop>(
 ) -> Result<Objects<L, K, S>, Fault>
     requires { BeginWithBook round.now.words.items → HasBook (K.keeping objects.keeper) }
 {
-    let mut input = source(alloc, conversation, part)?;
+    let input = source(alloc, conversation, part)?;
     let sites = plain_sites(alloc)?;
-    let mut out = MemSink::new(alloc, List::new(conversation.failing.sink.clone()?));
+    let out = MemSink::new(alloc, List::new(conversation.failing.sink.clone()?));
     let door = door_of(alloc, round.streams.as_slice())?;
-    let world = World {
-        link: objects.link,
-        keeper: objects.keeper,
-        secrets: objects.secrets,
-        spawner: objects.spawner,
-        clock: objects.clock,
+    let world = world_of(
+        input,
+        out,
+        objects.link,
+        objects.keeper,
+        objects.secrets,
+        objects.spawner,
+        StillClock::new(0),
         door,
-        sites,
-    };
-    let ran = run(alloc, round.words.as_slice(), &mut input, &mut out, world);
-    let (came, objects) = came_of(ran, out)?;
-    compare(alloc, round, part, found, &came)?;
-    Ok(objects)
+    );
+    let Ran { status, world } = run(alloc, round.words.as_slice(), world, sites);
+    let World {
+        input: _,
+        out,
+        link,
+        held,
+        clock: _,
+        door,
+    } = world;
+    compare(alloc, round, part, found, &Came { out, door, status })?;
+    let Held {
+        keeper,
+        secrets,
+        spawner,
+    } = held;
+    Ok(Objects {
+        link,
+        keeper,
+        secrets,
+        spawner,
+    })
 }
 
 /// The same of a run over any keeper, of which the words may not be those that begin with the small book.

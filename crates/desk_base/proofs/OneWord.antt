@@ -4,17 +4,21 @@ use Rattle.share_graph.specs.declared.desk.Caller.{Caller}
 use Rattle.host_base.specs.declared.ids.AccountId.{AccountId}
 use Rattle.host_base.specs.declared.ids.AppId.{AppId}
 use Rattle.host_base.specs.declared.ids.GrainId.{GrainId}
+use Rattle.host_base.specs.declared.ids.GrantId.{GrantId}
+use Rattle.share_graph.specs.declared.facts.Node.TheVariants as node
+use Rattle.share_graph.specs.declared.grants.Grant.{Grant}
 use Rattle.share_graph.specs.declared.rows.Account.{Account}
 use Rattle.share_graph.specs.declared.rows.App.{App}
 use Rattle.share_graph.specs.declared.rows.Grain.{Grain}
 use Rattle.share_graph.specs.declared.state.State.{State}
 use Rattle.share_graph.specs.Forms.{IsOne}
 use Rattle.share_graph.specs.WellFormed.{IsWellFormed}
-use Rattle.share_graph.proofs.Apart.{login_one}
+use Rattle.share_graph.proofs.Apart.{login_one, bearer_one}
+use Rattle.share_graph.proofs.MissingOne.{entry_one}
 use Rattle.share_graph.proofs.OneAnswer.{unless_one, some_of_one, found_or_none_one}
 use Rattle.desk_base.specs.Limits.{adds}
-use Rattle.desk_base.specs.Steps.{Step}
-use Rattle.desk_base.specs.Wording.{secret_of, by_account, by_admin, known_account, known_app, known_grain}
+use Rattle.desk_base.specs.Steps.{Step, denies}
+use Rattle.desk_base.specs.Wording.{secret_of, by_account, by_admin, by_bearer, known_account, known_app, known_grain, known_grant}
 
 pub by_account_one : (s : State) → IsWellFormed s → (who : Caller) {Rest : Account → Step → Type 0} → ((account : Account) → IsOne (Rest account)) → IsOne (by_account s who Rest)
 by_account_one s formed who rest = some_of_one (login_one s formed (secret_of who)) (λ account. unless_one (rest account))
@@ -22,8 +26,11 @@ by_account_one s formed who rest = some_of_one (login_one s formed (secret_of wh
 pub by_admin_one : (s : State) → IsWellFormed s → (who : Caller) {Rest : Account → Step → Type 0} → ((account : Account) → IsOne (Rest account)) → IsOne (by_admin s who Rest)
 by_admin_one s formed who rest = by_account_one s formed who (λ account. unless_one (rest account))
 
+pub by_bearer_one : (s : State) → IsWellFormed s → (who : Caller) {Rest : Grant → Step → Type 0} → ((grant : Grant) → IsOne (Rest grant)) → IsOne (by_bearer s who Rest)
+by_bearer_one s formed who rest = some_of_one (bearer_one s formed (secret_of who)) (λ grant. entry_one denies s.tables (node.Grant grant.num) (rest grant))
+
 -- a row of a number is one
-numbered_one : {X : Type 0} (o : Option X) → IsOne (λ (x : X). o ≡ Some x)
+pub numbered_one : {X : Type 0} (o : Option X) → IsOne (λ (x : X). o ≡ Some x)
 numbered_one o = record { one = λ a b x y. (let same : Some a ≡ Some b = sym x ∙ y in cc) }
 
 pub known_account_one : (s : State) (a : AccountId) {Rest : Account → Step → Type 0} → ((account : Account) → IsOne (Rest account)) → IsOne (known_account s a Rest)
@@ -34,6 +41,9 @@ known_app_one s p rest = found_or_none_one (numbered_one _) rest
 
 pub known_grain_one : (s : State) (n : GrainId) {Rest : Grain → Step → Type 0} → ((grain : Grain) → IsOne (Rest grain)) → IsOne (known_grain s n Rest)
 known_grain_one s n rest = found_or_none_one (numbered_one _) rest
+
+pub known_grant_one : (s : State) (g : GrantId) {Rest : Grant → Step → Type 0} → ((grant : Grant) → IsOne (Rest grant)) → IsOne (known_grant s g Rest)
+known_grant_one s g rest = found_or_none_one (numbered_one _) rest
 
 adds_cases : (s : State) (change : Step) (a b : Step) → adds s change a → adds s change b → a ≡ b
 adds_cases s change a b (inl (r, x, is)) (inl (q, y, also)) = let same : Some r ≡ Some q = sym is ∙ also in cc

@@ -1,12 +1,10 @@
--- Where the checks of a command stop at a refusal.
-use Rattle.std.proofs.Common.{◌≡◌, Result, Ok, Err, IsErrAnd, sym, subst, inl}
-use Rattle.host_base.specs.declared.digest.Digest.{Digest}
-use Rattle.share_graph.specs.declared.state.State.{State}
+-- Where the checks of a command stop.
+use Rattle.std.proofs.Common.{◌≡◌, Result, Ok, Err, IsErrAnd, sym, subst}
 use Rattle.share_graph.specs.declared.refusal.Refusal.{Refusal}
+use Rattle.desk_base.specs.declared.outcome.Outcome.{Outcome}
 use Rattle.desk_base.specs.declared.stop.Stop.{Stop}
 use Rattle.desk_base.specs.declared.stop.Stop.TheVariants as stop
-use Rattle.desk_base.specs.Outcomes.{Stops, Checks, IsReady, IsCarried, IsCarriedAt}
-use Rattle.desk_base.specs.Stopping.{outcome_of, readiness_of}
+use Rattle.desk_base.specs.Outcomes.{Stops, Checks, IsCarriedExactly, IsCarried}
 use Rattle.desk_base.specs.Steps.{Step, Refuses}
 
 -- a test's refusal is that of the command
@@ -14,15 +12,14 @@ pub stopped : {X : Type 0} (Row : Step → Type 0) (makes : X → Step) (result 
 stopped Row makes (Ok x) r odd is = absurd odd
 stopped Row makes (Err s) r same is = subst (λ (one : Stop). Stops Row one) (sym same) is
 
--- and where the checks stop, the desk answers by the row
-pub carried_stop : (Row : Step → Type 0) (s : Stop) → Stops Row s → IsCarried Row (outcome_of s)
-carried_stop Row (stop.Refused r) is = is
-carried_stop Row (stop.Same made) is = is
+-- where the checks stop, the command does
+pub halted : {X : Type 0} (Row : Step → Type 0) (makes : X → Step) (result : Result X Stop) (s : Stop) → IsErrAnd result (λ e. e ≡ s) → Stops Row s → Checks Row makes result
+halted Row makes (Ok x) s odd is = absurd odd
+halted Row makes (Err e) s same is = subst (λ (one : Stop). Stops Row one) (sym same) is
 
-pub carried_at_stop : (s : State) (d : Digest) (Row : Step → Type 0) (end : Stop) → Stops Row end → IsCarriedAt s d Row (outcome_of end)
-carried_at_stop s d Row (stop.Refused r) is = inl is
-carried_at_stop s d Row (stop.Same made) is = is
-
-pub ready_stop : (Row : Step → Type 0) (s : Stop) → Stops Row s → IsReady Row (readiness_of s)
-ready_stop Row (stop.Refused r) is = is
-ready_stop Row (stop.Same made) is = is
+-- what is carried out exactly is carried out
+pub loosely : (Row : Step → Type 0) (result : Result Outcome Stop) → IsCarriedExactly Row result → IsCarried Row result
+loosely Row (Ok out) is = is
+loosely Row (Err (stop.Refused r)) is = is
+loosely Row (Err (stop.Same made)) is = is
+loosely Row (Err stop.Memory) is = tt

@@ -1,13 +1,25 @@
 -- From what a test establishes into the row that begins with it, and from its refusals.
-use Rattle.std.proofs.Common.{inl, inr, ap}
+use Rattle.std.proofs.Common.{◌≡◌, ◌∙◌, ◌↔◌, Bool, IsTrue, Some, Result, Ok, Err, IsErrAnd, MatchResult, sym, inl, inr, ap, subst}
+use Rattle.host_base.specs.declared.ids.GrantId.{GrantId}
 use Rattle.share_graph.specs.declared.desk.Caller.{Caller}
+use Rattle.share_graph.specs.declared.facts.Node.{Node}
+use Rattle.share_graph.specs.declared.grants.Grant.{Grant}
+use Rattle.share_graph.specs.declared.grants.Target.{Target}
+use Rattle.share_graph.specs.declared.grants.Target.TheVariants as target
 use Rattle.share_graph.specs.declared.refusal.Refusal.{Refusal}
+use Rattle.share_graph.specs.declared.refusal.Refusal.TheVariants.{Denied}
 use Rattle.share_graph.specs.declared.rows.Account.{Account}
 use Rattle.share_graph.specs.declared.state.State.{State}
-use Rattle.share_graph.specs.Forms.{none, found◌or◌then◌, must◌or◌then◌}
+use Rattle.share_graph.specs.declared.state.Tables.{Tables}
+use Rattle.share_graph.specs.Callers.{LacksEntry}
+use Rattle.share_graph.specs.Forms.{none, found◌or◌then◌}
+use Rattle.share_graph.specs.Keys.{IsBearer}
+use Rattle.share_graph.specs.Parents.{IsNoUser}
+use Rattle.share_graph.specs.Rows.{IsGrant}
 use Rattle.desk_base.specs.Calling.{IsCaller, IsNoCaller, IsAdminCaller, IsNoAdminCaller}
-use Rattle.desk_base.specs.Steps.{Step, Refuses}
-use Rattle.desk_base.specs.Wording.{secret_of, by_account, by_admin}
+use Rattle.desk_base.specs.Passing.{Passes, Fails}
+use Rattle.desk_base.specs.Steps.{Step, Refuses, denies}
+use Rattle.desk_base.specs.Wording.{secret_of, by_account, by_admin, by_bearer}
 
 pub account_calls : (s : State) (who : Caller) (Rest : Account → Step → Type 0) (account : Account) (step : Step) → IsCaller s (secret_of who) account → Rest account step → by_account s who Rest step
 account_calls s who Rest account step is rest = inr (account, is.one, inr (is.enabled, rest))
@@ -30,3 +42,41 @@ found_row P gone Rest x step is rest = inr (x, is, rest)
 
 pub missing_row : {X : Type 0} (P : X → Type 0) (gone : Refusal) (Rest : X → Step → Type 0) (r : Refusal) → none P gone r → (found P or none P (Refuses gone) then Rest) (Refuses r)
 missing_row P gone Rest r (same, never) = inl (ap Refuses same, never)
+
+-- a bearer is no account
+pub bearer_is_no_user : (to : Target) → IsBearer to → IsNoUser to
+bearer_is_no_user (target.Bearer for_sharing) is = tt
+bearer_is_no_user (target.User a) is = absurd is
+bearer_is_no_user (target.Claim h) is = absurd is
+bearer_is_no_user (target.Grain h) is = absurd is
+
+-- a refusal that is handed on
+pub handed_on : {X : Type 0} (P : X → Type 0) (Q : Refusal → Type 0) (result : Result X Refusal) (r : Refusal) → IsErrAnd result (λ e. e ≡ r) → Q r → MatchResult result P Q
+handed_on P Q (Ok x) r odd is = absurd odd
+handed_on P Q (Err e) r same is = subst Q (sym same) is
+
+-- the denial of a node without entry
+pub lacking : (t : Tables) (at : Node) (r : Refusal) → LacksEntry Denied t at r → LacksEntry denies t at (Refuses r)
+lacking t at r (reason, same, missing) = (reason, ap Refuses same, missing)
+
+module _ (s : State) (who : Caller) where
+  -- the rest may be more
+  pub bearer_more : (Rest More : Grant → Step → Type 0) (step : Step) → ((grant : Grant) → Rest grant step → More grant step) → by_bearer s who Rest step → by_bearer s who More step
+  bearer_more Rest More step more (inl none) = inl none
+  bearer_more Rest More step more (inr (grant, one, inl lacks)) = inr (grant, one, inl lacks)
+  bearer_more Rest More step more (inr (grant, one, inr (held, rest))) = inr (grant, one, inr (held, more grant rest))
+
+module _ (s : State) (who : Caller) where
+  -- whoever the test lets through goes on, and whoever it refuses is refused
+  pub bearer_passes : (Rest : Grant → Step → Type 0) (grant : Grant) (step : Step) → Passes (by_bearer s who) grant → Rest grant step → by_bearer s who Rest step
+  bearer_passes Rest grant step passes rest = bearer_more s who (λ other any. other ≡ grant) Rest step (λ other same. subst (λ (x : Grant). Rest x step) (sym same) rest) (passes step)
+
+  pub bearer_fails : (Rest : Grant → Step → Type 0) (r : Refusal) → Fails (by_bearer s who) r → by_bearer s who Rest (Refuses r)
+  bearer_fails Rest r fails = bearer_more s who (λ other any. ⊥) Rest (Refuses r) (λ other never. absurd never) fails
+
+-- what a test tells of a grant's row it tells of the grant
+pub for_grant : (t : Tables) (g : GrantId) (P : Grant → Type 0) (row : Grant) (test : Bool) → IsGrant t g row → IsTrue test ↔ P row → IsTrue test ↔ ((grant : Grant) × IsGrant t g grant × P grant)
+for_grant t g P row test is tells = (
+  λ yes. (row, is, tells.0 yes),
+  λ f. (let both : Some f.0 ≡ Some row = sym f.1 ∙ is in let same : f.0 ≡ row = cc in tells.1 (subst P same f.2)),
+)

@@ -10,11 +10,12 @@ use Rattle.share_graph.specs.declared.refusal.Refusal.{Refusal}
 use Rattle.share_graph.specs.declared.refusal.Refusal.TheVariants.{TooMany, TokenClash}
 use Rattle.share_graph.specs.declared.state.State.{State}
 use Rattle.share_graph.specs.Kinds.{HasDigest, IsUnused}
+use Rattle.desk_base.specs.Limits.{most_entries}
 use Rattle.desk_base.specs.Steps.{Step, Refuses, Keeps, Makes, Change, Plain, Drawn}
 
 -- the refusal where there are as many entries as there may be
 abbrev pub full : Refusal
-full = TooMany kind.Entry 1000000
+full = TooMany kind.Entry most_entries
 
 -- some change is made
 abbrev pub Changes : (Step → Type 0) → Type 0
@@ -22,9 +23,9 @@ Changes Row = (change : Change) × ((made : Made) × Row (Makes change made))
 
 -- READY, at n entries: what the checks come to, and then the limit of entries. It has no digest.
 abbrev pub Ready : ℕ → (Step → Type 0) → Step → Type 0
-Ready n Row (Refuses r) = Row (Refuses r) ⊎ ((r ≡ full) × (1000000 ≤ n) × Changes Row)
+Ready n Row (Refuses r) = Row (Refuses r) ⊎ ((r ≡ full) × (most_entries ≤ n) × Changes Row)
 Ready n Row (Keeps made) = Row (Keeps made)
-Ready n Row (Makes change made) = Row (Makes change made) × (n < 1000000)
+Ready n Row (Makes change made) = Row (Makes change made) × (n < most_entries)
 
 -- a change that wants a secret is ready
 abbrev pub WantsSecret : ℕ → (Step → Type 0) → Type 0

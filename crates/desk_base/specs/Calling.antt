@@ -2,6 +2,8 @@
 use Rattle.std.specs.Prelude.{◌≡◌, ◌⊎◌, true}
 use Rattle.host_base.specs.declared.digest.Digest.{Digest}
 use Rattle.host_base.specs.declared.verdict.Denial.TheVariants.{UnknownKey, AccountDisabled}
+use Rattle.share_graph.specs.declared.desk.Caller.{Caller}
+use Rattle.share_graph.specs.declared.desk.Caller.TheVariants as caller
 use Rattle.share_graph.specs.declared.refusal.Refusal.{Refusal}
 use Rattle.share_graph.specs.declared.refusal.Refusal.TheVariants.{Denied, NotAdmin}
 use Rattle.share_graph.specs.declared.rows.Account.{Account}
@@ -27,3 +29,20 @@ pub record IsAdminCaller (s : State) (d : Digest) (account : Account) : Type 0 w
 -- the caller is no enabled account, or one that is no admin
 abbrev pub IsNoAdminCaller : State → Digest → Refusal → Type 0
 IsNoAdminCaller s d r = IsNoCaller s d r ⊎ ((account : Account) × (r ≡ NotAdmin) × IsCaller s d account × (account.admin ≡ true → ⊥))
+
+-- the caller shows a login; a bearer's token; one of the two; a run's token
+abbrev pub ByLogin : Caller → Type 0
+ByLogin (caller.Login d) = Unit {0}
+ByLogin _ = ⊥
+
+abbrev pub ByBearer : Caller → Type 0
+ByBearer (caller.Bearer d) = Unit {0}
+ByBearer _ = ⊥
+
+abbrev pub ByEither : Caller → Type 0
+ByEither (caller.Either d) = Unit {0}
+ByEither _ = ⊥
+
+abbrev pub ByRun : Caller → Type 0
+ByRun (caller.Run d) = Unit {0}
+ByRun _ = ⊥

@@ -1,9 +1,12 @@
 pub mod Steps
 pub mod Limits
 pub mod Made
+pub mod Granting
+pub mod Roles
+pub mod Needs
 pub mod Wording
+pub mod Passing
 pub mod Outcomes
 pub mod Accepting
 pub mod Calling
 pub mod Fitting
-pub mod Stopping

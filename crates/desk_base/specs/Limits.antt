@@ -13,9 +13,28 @@ use Rattle.share_graph.specs.History.{is_open_of}
 use Rattle.state_step.specs.NewRows.{handles_of}
 use Rattle.desk_base.specs.Steps.{Change, Plain, Drawn, Step, Refuses, Keeps, Makes}
 
+-- the most rows of a kind; handles are those of one run, and open sessions are meant. Of runs there may be any number.
+abbrev pub most_entries : ℕ
+most_entries = 1000000
+
+abbrev pub most_of : Kind → Option ℕ
+most_of kind.Account = Some 4096
+most_of kind.App = Some 256
+most_of kind.Grain = Some 16384
+most_of kind.Grant = Some 65536
+most_of kind.Saved = Some 65536
+most_of kind.Session = Some 4096
+most_of kind.Handle = Some 4096
+most_of kind.Run = None
+most_of kind.Entry = Some most_entries
+
 -- the refusal where so many of a kind are there already
-abbrev pub too_many : Kind → ℕ → ℕ → Option Refusal
-too_many k limit count = if nat_le limit count then Some (TooMany k limit) else None
+abbrev pub over : Kind → Option ℕ → ℕ → Option Refusal
+over k (Some limit) count = if nat_le limit count then Some (TooMany k limit) else None
+over k None count = None
+
+abbrev pub too_many : Kind → ℕ → Option Refusal
+too_many k count = over k (most_of k) count
 
 abbrev pub first_of : Option Refusal → Option Refusal → Option Refusal
 first_of (Some r) other = Some r
@@ -26,15 +45,15 @@ is_open session = not session.closed
 
 -- A root with 32 open sessions may open another one, since one of its own is closed for it.
 abbrev pub limit_of : State → Event → Option Refusal
-limit_of s (event.AccountAdded account) = too_many kind.Account 4096 (length s.tables.accounts)
-limit_of s (event.AppAdded app) = too_many kind.App 256 (length s.tables.apps)
-limit_of s (event.GrainAdded grain) = too_many kind.Grain 16384 (length s.tables.grains)
-limit_of s (event.GrantAdded grant) = too_many kind.Grant 65536 (length s.tables.grants)
-limit_of s (event.SavedAdded saved) = too_many kind.Saved 65536 (length s.tables.saved)
-limit_of s (event.Claimed grant handle) = first_of (too_many kind.Grant 65536 (length s.tables.grants)) (too_many kind.Handle 4096 (handles_of s.handles handle))
-limit_of s (event.HandleMade handle) = too_many kind.Handle 4096 (handles_of s.handles handle)
+limit_of s (event.AccountAdded account) = too_many kind.Account (length s.tables.accounts)
+limit_of s (event.AppAdded app) = too_many kind.App (length s.tables.apps)
+limit_of s (event.GrainAdded grain) = too_many kind.Grain (length s.tables.grains)
+limit_of s (event.GrantAdded grant) = too_many kind.Grant (length s.tables.grants)
+limit_of s (event.SavedAdded saved) = too_many kind.Saved (length s.tables.saved)
+limit_of s (event.Claimed grant handle) = first_of (too_many kind.Grant (length s.tables.grants)) (too_many kind.Handle (handles_of s.handles handle))
+limit_of s (event.HandleMade handle) = too_many kind.Handle (handles_of s.handles handle)
 limit_of s (event.SessionOpened session) =
-    if nat_lt (count_by (is_open_of session.root) s.sessions) 32 then too_many kind.Session 4096 (count_by is_open s.sessions) else None
+    if nat_lt (count_by (is_open_of session.root) s.sessions) 32 then too_many kind.Session (count_by is_open s.sessions) else None
 limit_of s (event.AdminSet a on) = None
 limit_of s (event.EnabledSet a on) = None
 limit_of s (event.TrashedSet n on) = None

@@ -1,60 +1,64 @@
 -- What a desk answers, by the row of its command.
-use Rattle.std.specs.Prelude.{◌≡◌, ◌⊎◌, ℕ, Result, Ok, Err}
+use Rattle.std.specs.Prelude.{◌≡◌, ℕ, Some, Result, Ok, Err}
 use Rattle.host_base.specs.declared.digest.Digest.{Digest}
-use Rattle.share_graph.specs.declared.desk.DeskFault.{DeskFault}
-use Rattle.share_graph.specs.declared.desk.DeskFault.TheVariants as fault
 use Rattle.share_graph.specs.declared.desk.Made.{Made}
-use Rattle.share_graph.specs.declared.desk.Outcome.{Outcome}
-use Rattle.share_graph.specs.declared.desk.Outcome.TheVariants as outcome
-use Rattle.share_graph.specs.declared.desk.Readiness.{Readiness}
-use Rattle.share_graph.specs.declared.desk.Readiness.TheVariants as readiness
 use Rattle.share_graph.specs.declared.event.Event.{Event}
+use Rattle.share_graph.specs.declared.event.Event.TheVariants as event
+use Rattle.share_graph.specs.declared.fault.Kind.{Kind}
 use Rattle.share_graph.specs.declared.refusal.Refusal.{Refusal}
-use Rattle.share_graph.specs.declared.refusal.Refusal.TheVariants as refusal
+use Rattle.share_graph.specs.declared.refusal.Refusal.TheVariants.{TokenClash}
 use Rattle.share_graph.specs.declared.state.State.{State}
 use Rattle.share_graph.specs.Kinds.{HasDigest, IsUnused}
+use Rattle.desk_base.specs.declared.outcome.Draft.{Draft}
+use Rattle.desk_base.specs.declared.outcome.Outcome.{Outcome}
+use Rattle.desk_base.specs.declared.outcome.Outcome.TheVariants as outcome
 use Rattle.desk_base.specs.declared.stop.Stop.{Stop}
 use Rattle.desk_base.specs.declared.stop.Stop.TheVariants as stop
 use Rattle.desk_base.specs.Steps.{Step, Refuses, Keeps, Makes, Plain, Drawn}
 
--- How far the checks of a command come: they stop at a refusal or where things are as it asks, or they find what its change is made of.
+-- the event with a digest, where its row has one
+abbrev pub with_digest : Event → Digest → Event
+with_digest (event.AccountAdded account) d = event.AccountAdded (record account { login = d })
+with_digest (event.GrantAdded grant) d = event.GrantAdded (record grant { digest = Some d })
+with_digest (event.SavedAdded saved) d = event.SavedAdded (record saved { digest = d })
+with_digest (event.RunStarted run) d = event.RunStarted (record run { digest = d })
+with_digest (event.SessionOpened session) d = event.SessionOpened (record session { digest = d })
+with_digest e d = e
+
+-- the step that an outcome is: a draft is completed by the digest of a secret
+abbrev pub draft_step : Draft → Step
+draft_step draft = Makes (Drawn (with_digest draft.event)) draft.made
+
+abbrev pub step_of : Outcome → Step
+step_of (outcome.Change e made) = Makes (Plain e) made
+step_of (outcome.Draft draft) = draft_step draft
+
+-- a command stops by its row; no row says that memory runs out
 abbrev pub Stops : (Step → Type 0) → Stop → Type 0
 Stops Row (stop.Refused r) = Row (Refuses r)
 Stops Row (stop.Same made) = Row (Keeps made)
+Stops Row stop.Memory = ⊥
 
+-- how far the checks of a command come: they stop, or find what its change is made of
 abbrev pub Checks : {X : Type 0} → (Step → Type 0) → (X → Step) → Result X Stop → Type 0
 Checks Row makes (Ok x) = Row (makes x)
 Checks Row makes (Err s) = Stops Row s
 
--- a change that wants a digest
-abbrev pub IsToDraw : (Step → Type 0) → Type 0
-IsToDraw Row = (f : Digest → Event) × ((made : Made) × Row (Makes (Drawn f) made))
+-- THE ANSWER of a desk to a command, where it takes no memory
+abbrev pub IsCarriedExactly : (Step → Type 0) → Result Outcome Stop → Type 0
+IsCarriedExactly Row result = Checks Row step_of result
 
--- what a call without a secret says: whether the command gets as far as a draw
-abbrev pub IsReady : (Step → Type 0) → Result Readiness DeskFault → Type 0
-IsReady Row (Ok readiness.Draw) = IsToDraw Row
-IsReady Row (Ok (readiness.Same made)) = Row (Keeps made)
-IsReady Row (Err (fault.Refused r)) = Row (Refuses r)
-IsReady Row (Err fault.Memory) = Unit {0}
+-- and where memory may run out
+abbrev pub IsCarried : (Step → Type 0) → Result Outcome Stop → Type 0
+IsCarried Row (Err stop.Memory) = Unit {0}
+IsCarried Row (Err (stop.Refused r)) = Row (Refuses r)
+IsCarried Row (Err (stop.Same made)) = Row (Keeps made)
+IsCarried Row (Ok out) = Row (step_of out)
 
--- the answer to a command that needs no secret
-abbrev pub IsCarried : (Step → Type 0) → Result Outcome DeskFault → Type 0
-IsCarried Row (Ok (outcome.Change e made)) = Row (Makes (Plain e) made)
-IsCarried Row (Ok (outcome.Same made)) = Row (Keeps made)
-IsCarried Row (Err (fault.Refused r)) = Row (Refuses r)
-IsCarried Row (Err fault.Memory) = Unit {0}
+-- the digest, which no row has, completes the draft
+abbrev pub Completes : State → Digest → Draft → Event × Made → Type 0
+Completes s d draft (e, made) = (e ≡ with_digest draft.event d) × (made ≡ draft.made) × IsUnused s d
 
--- the change that the digest completes
-abbrev pub IsDrawn : (Step → Type 0) → Digest → Event → Made → Type 0
-IsDrawn Row d e made = (f : Digest → Event) × Row (Makes (Drawn f) made) × (e ≡ f d)
-
--- a row has the drawn digest, where the command gets as far as that
-abbrev pub Clashes : State → Digest → (Step → Type 0) → Refusal → Type 0
-Clashes s d Row r = (k : _) × ((n : ℕ) × (r ≡ refusal.TokenClash k n) × HasDigest s d k n × IsToDraw Row)
-
--- the answer to a command with the digest of a drawn secret
-abbrev pub IsCarriedAt : State → Digest → (Step → Type 0) → Result Outcome DeskFault → Type 0
-IsCarriedAt s d Row (Ok (outcome.Change e made)) = IsUnused s d × IsDrawn Row d e made
-IsCarriedAt s d Row (Ok (outcome.Same made)) = Row (Keeps made)
-IsCarriedAt s d Row (Err (fault.Refused r)) = Row (Refuses r) ⊎ Clashes s d Row r
-IsCarriedAt s d Row (Err fault.Memory) = Unit {0}
+-- a row has the digest
+abbrev pub HasClash : State → Digest → Refusal → Type 0
+HasClash s d r = (k : Kind) × ((i : ℕ) × (r ≡ TokenClash k i) × HasDigest s d k i)

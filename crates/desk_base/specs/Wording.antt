@@ -1,21 +1,31 @@
 -- The words of the table of commands.
-use Rattle.std.specs.Prelude.{◌≡◌, true}
+use Rattle.std.specs.Prelude.{◌≡◌, ◌⊎◌, List, true}
 use Rattle.host_base.specs.declared.digest.Digest.{Digest}
 use Rattle.host_base.specs.declared.ids.AccountId.{AccountId}
 use Rattle.host_base.specs.declared.ids.AppId.{AppId}
 use Rattle.host_base.specs.declared.ids.GrainId.{GrainId}
+use Rattle.host_base.specs.declared.ids.GrantId.{GrantId}
+use Rattle.perm_roles.specs.declared.roles.Assignment.{Assignment}
 use Rattle.share_graph.specs.declared.desk.Caller.{Caller}
 use Rattle.share_graph.specs.declared.desk.Caller.TheVariants as caller
+use Rattle.share_graph.specs.declared.desk.Made.{Made}
+use Rattle.share_graph.specs.declared.facts.Node.{Node}
 use Rattle.share_graph.specs.declared.fault.Kind.TheVariants as kind
+use Rattle.share_graph.specs.declared.grants.Grant.{Grant}
+use Rattle.share_graph.specs.declared.grants.Need.{Need}
 use Rattle.share_graph.specs.declared.refusal.Refusal.TheVariants.{NotAdmin, Unknown}
 use Rattle.share_graph.specs.declared.rows.Account.{Account}
 use Rattle.share_graph.specs.declared.rows.App.{App}
 use Rattle.share_graph.specs.declared.rows.Grain.{Grain}
 use Rattle.share_graph.specs.declared.state.State.{State}
-use Rattle.share_graph.specs.Callers.{by_login}
-use Rattle.share_graph.specs.Forms.{unless◌then◌else◌, found◌or◌then◌, none}
-use Rattle.share_graph.specs.Rows.{IsAccount, IsApp, IsGrain}
-use Rattle.desk_base.specs.Steps.{Step, Refuses, denies}
+use Rattle.share_graph.specs.Callers as callers
+use Rattle.share_graph.specs.Callers.{by_login, entry}
+use Rattle.share_graph.specs.Forms.{unless◌then◌else◌, must◌or◌then◌, found◌or◌then◌, none}
+use Rattle.share_graph.specs.Keys.{IsFirstOf, IsNoneOf}
+use Rattle.share_graph.specs.Rows.{IsAccount, IsApp, IsGrain, IsGrant}
+use Rattle.desk_base.specs.Needs.{AreGood, HasBadNeed}
+use Rattle.desk_base.specs.Roles.{MayGiveOn, HasRoleFaultOn}
+use Rattle.desk_base.specs.Steps.{Step, Refuses, Keeps, refusing, denies}
 
 -- the digest of the secret by which a caller is known
 abbrev pub secret_of : Caller → Digest
@@ -35,6 +45,10 @@ by_admin s who Rest =
     unless account.admin ≡ true then (Refuses NotAdmin) else
     Rest account
 
+-- the grant whose token the caller bears: Denied(UnknownKey), and Denied of the first step that is missing for its entry
+abbrev pub by_bearer : State → Caller → (Grant → Step → Type 0) → Step → Type 0
+by_bearer s who Rest = callers.by_bearer denies s (secret_of who) Rest
+
 -- Unknown, else the row of that number
 abbrev pub known_account : State → AccountId → (Account → Step → Type 0) → Step → Type 0
 known_account s a Rest = found (IsAccount s.tables a) or (none (IsAccount s.tables a) (Refuses (Unknown kind.Account a.0))) then Rest
@@ -44,3 +58,27 @@ known_app s p Rest = found (IsApp s.tables p) or (none (IsApp s.tables p) (Refus
 
 abbrev pub known_grain : State → GrainId → (Grain → Step → Type 0) → Step → Type 0
 known_grain s n Rest = found (IsGrain s.tables n) or (none (IsGrain s.tables n) (Refuses (Unknown kind.Grain n.0))) then Rest
+
+abbrev pub known_grant : State → GrantId → (Grant → Step → Type 0) → Step → Type 0
+known_grant s g Rest = found (IsGrant s.tables g) or (none (IsGrant s.tables g) (Refuses (Unknown kind.Grant g.0))) then Rest
+
+-- access: Denied of the first step that is missing for the node's entry
+abbrev pub access◌of◌then◌ : Node → State → (Step → Type 0) → Step → Type 0
+access◌of◌then◌ at s Rest = entry denies s.tables at Rest
+
+infixr 10 access◌of◌then◌
+-- role: BadRole, ObsoleteRole, LongSet, for the assignment and the grain's application
+abbrev pub role◌on◌of◌then◌ : Assignment → GrainId → State → (Step → Type 0) → Step → Type 0
+role◌on◌of◌then◌ a n s Rest = must (MayGiveOn s.tables n a) or refusing (HasRoleFaultOn s.tables n a) then Rest
+
+infixr 10 role◌on◌of◌then◌
+-- needs: BadNeed(i) for the first index i at or above 8, or whose need can't be had
+abbrev pub needs◌of◌then◌ : List Need → State → (Step → Type 0) → Step → Type 0
+needs◌of◌then◌ wanted s Rest = must (AreGood s.tables wanted) or refusing (HasBadNeed s.tables wanted) then Rest
+
+infixr 10 needs◌of◌then◌
+-- same where some row of the list is so, and the reply shows the first one; else the rest
+abbrev pub keeps◌of◌showing◌else◌ : {X : Type 0} → (X → Type 0) → List X → (X → Made) → (Step → Type 0) → Step → Type 0
+keeps◌of◌showing◌else◌ {X} P rows shown Rest step = ((x : X) × (step ≡ Keeps (shown x)) × IsFirstOf rows P x) ⊎ (IsNoneOf rows P × Rest step)
+
+infixr 10 keeps◌of◌showing◌else◌

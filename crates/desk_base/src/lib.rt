@@ -1,14 +1,22 @@
-//! What all desks share: how a command is defined, who calls, the rows that it names, limits, and how far its checks come.
+//! What all desks share: how a command is defined, who calls, the rows that it names, limits, the grants that it adds, and how far it comes.
 #![tactic(auto)]
 
 mod callers;
+mod grants;
 mod known;
 mod limits;
 mod made;
+mod needs;
+mod outcome;
+mod roles;
 mod stop;
 
-pub use callers::{caller_account, caller_admin, secret_of};
-pub use known::{known_account, known_app, known_grain};
-pub use limits::{has_account_room, has_app_room, has_grain_room};
-pub use made::NOTHING;
+pub use callers::{caller_account, caller_admin, caller_grant, has_entry, secret_of};
+pub use grants::{add_grant, all_access, draft_grant, new_grant};
+pub use known::{known_account, known_app, known_grain, known_grant};
+pub use limits::{has_grant_room, has_room, most_of};
+pub use made::{BLANK, NOTHING, shown_grant};
+pub use needs::{good_needs, set_fits};
+pub use outcome::{Draft, Outcome};
+pub use roles::given_role;
 pub use stop::Stop;

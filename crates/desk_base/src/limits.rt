@@ -1,43 +1,47 @@
+//! How many rows there may be.
+
 ghost use Rattle.std.specs.Prelude.{◌≡◌, Some, None, MatchResult, length};
 ghost use Rattle.share_graph.specs.declared.fault.Kind.TheVariants as kind;
-ghost use Rattle.desk_base.specs.Limits.{too_many};
+ghost use Rattle.desk_base.specs.Limits.{most_of, too_many};
 
 use share_graph::{Kind, Refusal, Tables};
 
-/// The most accounts, applications and grains that a server has.
-pub const ACCOUNTS: u32 = 4_096;
-
-pub const APPS: u32 = 256;
-
-pub const GRAINS: u32 = 16_384;
-
-// Whether there is room for one more of a kind.
-fn has_room(kind: Kind, limit: u32, count: usize) -> Result<(), Refusal>
-    ensures { MatchResult result (λ _. too_many kind limit count ≡ None) (λ refusal. too_many kind limit count ≡ Some refusal) }
+/// The most rows of a kind that there may be; handles are those of one run, and open sessions are meant. Of runs there may be
+/// any number.
+pub fn most_of(kind: Kind) -> Option<u32>
+    ensures { result ≡ most_of kind }
 {
-    if limit as usize <= count {
+    match kind {
+        Kind::Account => Some(4_096),
+        Kind::App => Some(256),
+        Kind::Grain => Some(16_384),
+        Kind::Grant => Some(65_536),
+        Kind::Saved => Some(65_536),
+        Kind::Session => Some(4_096),
+        Kind::Handle => Some(4_096),
+        Kind::Run => None,
+        Kind::Entry => Some(1_000_000),
+    }
+}
+
+/// Whether there is room for one more of a kind, where there are so many.
+pub fn has_room(kind: Kind, count: u64) -> Result<(), Refusal>
+    ensures { let over = too_many kind count in
+        MatchResult result (λ _. over ≡ None) (λ refusal. over ≡ Some refusal) }
+{
+    let Some(limit) = most_of(kind) else {
+        return Ok(());
+    };
+    if u64::from(limit) <= count {
         return Err(Refusal::TooMany(kind, limit));
     }
     Ok(())
 }
 
-/// Whether there is room for one more account.
-pub fn has_account_room(tables: &Tables) -> Result<(), Refusal>
-    ensures { MatchResult result (λ _. too_many kind.Account 4096 (length tables.now.accounts) ≡ None) (λ refusal. too_many kind.Account 4096 (length tables.now.accounts) ≡ Some refusal) }
+/// Whether there is room for one more grant.
+pub fn has_grant_room(tables: &Tables) -> Result<(), Refusal>
+    ensures { let over = too_many kind.Grant (length tables.now.grants) in
+        MatchResult result (λ _. over ≡ None) (λ refusal. over ≡ Some refusal) }
 {
-    has_room(Kind::Account, ACCOUNTS, tables.accounts.as_slice().len())
-}
-
-/// Whether there is room for one more application.
-pub fn has_app_room(tables: &Tables) -> Result<(), Refusal>
-    ensures { MatchResult result (λ _. too_many kind.App 256 (length tables.now.apps) ≡ None) (λ refusal. too_many kind.App 256 (length tables.now.apps) ≡ Some refusal) }
-{
-    has_room(Kind::App, APPS, tables.apps.as_slice().len())
-}
-
-/// Whether there is room for one more grain.
-pub fn has_grain_room(tables: &Tables) -> Result<(), Refusal>
-    ensures { MatchResult result (λ _. too_many kind.Grain 16384 (length tables.now.grains) ≡ None) (λ refusal. too_many kind.Grain 16384 (length tables.now.grains) ≡ Some refusal) }
-{
-    has_room(Kind::Grain, GRAINS, tables.grains.as_slice().len())
+    has_room(Kind::Grant, tables.grants.as_slice().len() as u64)
 }

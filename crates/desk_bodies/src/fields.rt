@@ -21,7 +21,8 @@ pub(crate) fn name_from(alloc: Global, value: Option<&Value>) -> Result<Option<N
 
 /// The handle that a field states, or none where it is missing or not of the shape.
 pub(crate) fn handle_from(alloc: Global, value: Option<&Value>) -> Result<Option<Name>, AllocError>
-    ensures stated { IfOk result (λ found. found ≡ fields.handle_of (option_map (λ v. view v.now) value.entry)) }
+    ensures stated { IfOk result (λ found. found
+        ≡ fields.handle_of (option_map (λ v. view v.now) value.entry)) }
     ensures form { IfOk result (λ found. IfSome found (λ name. is_handle name ≡ true)) }
 {
     match name_from(alloc, value)? {

@@ -79,7 +79,8 @@ pub(crate) fn needs_or_empty(
     alloc: Global,
     value: Option<&Value>,
 ) -> Result<Option<Needs>, AllocError>
-    ensures { IfOk result (λ found. found ≡ stated_or [] needs.needs_of (option_map (λ v. view v.now) value.entry)) }
+    ensures { IfOk result (λ found. found
+        ≡ stated_or [] needs.needs_of (option_map (λ v. view v.now) value.entry)) }
 {
     match value {
         Some(value) => needs_from(alloc, value),

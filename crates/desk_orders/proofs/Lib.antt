@@ -1,4 +1,5 @@
 pub mod OfOptions
 pub mod Listed
+pub mod OneListing
 pub mod OfOrders
-pub mod Wanted
+pub mod Drafts

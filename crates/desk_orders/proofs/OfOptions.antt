@@ -1,5 +1,5 @@
 -- The question what may be chosen changes nothing.
-use Rattle.std.proofs.Common.{◌≡◌, true, None, inl, inr}
+use Rattle.std.proofs.Common.{◌≡◌, true, false, None, inl, inr}
 use Rattle.host_base.specs.declared.ids.GrainId.{GrainId}
 use Rattle.share_graph.specs.declared.desk.Caller.{Caller}
 use Rattle.share_graph.specs.declared.desk.Made.{Made}
@@ -11,7 +11,7 @@ use Rattle.share_graph.specs.Callers.{entry}
 use Rattle.share_graph.specs.Forms.{answers}
 use Rattle.desk_base.specs.Fitting.{ChangeFits, RowFits}
 use Rattle.desk_base.specs.Made.{nothing_made}
-use Rattle.desk_base.specs.Steps.{Step, Refuses, Keeps, Makes, Change, denies}
+use Rattle.desk_base.specs.Steps.{Refuses, Keeps, Makes, Change, denies}
 use Rattle.desk_base.proofs.FitForms.{unless_fits, found_fits, some_fits}
 use Rattle.saved_refs.specs.Options.{Options}
 use Rattle.desk_orders.specs.declared.order.Command.{Command}
@@ -20,11 +20,11 @@ use Rattle.desk_orders.specs.Commands.{lists}
 use Rattle.site_caps.specs.Law.{Law}
 use Rattle.desk_orders.specs.Sites.{IsFoundBy}
 
-no_change : (s : State) (at : Node) (change : Change) (made : Made) → entry denies s.tables at (answers (Keeps nothing_made)) (Makes change made) → ChangeFits s change
+no_change : (s : State) (at : Node) (change : Change) (made : Made) → entry denies s.tables at (answers (Keeps nothing_made)) (Makes change made) → ChangeFits s false change
 no_change s at change made (inl (reason, same, missing)) = let odd : Makes change made ≡ Refuses (Denied reason) = same in cc
 no_change s at change made (inr (held, same)) = let odd : Makes change made ≡ Keeps nothing_made = same in cc
 
-pub options_fits : (s : State) (who : Caller) (n : GrainId) → RowFits s (Options s who n)
+pub options_fits : (s : State) (who : Caller) (n : GrainId) → RowFits s false (Options s who n)
 options_fits s who n =
     some_fits s tt λ account is.
     unless_fits s tt λ enabled.

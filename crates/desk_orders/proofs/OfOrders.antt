@@ -1,16 +1,17 @@
 -- What holds of the commands holds of orders: one line a command, and nothing above speaks of commands.
-use Rattle.std.proofs.Common.{ℕ, Bool, Option, Some, None, true, false, sym, subst}
+use Rattle.std.proofs.Common.{◌≡◌, Bool, Option, true, false, refl}
 use Rattle.host_base.specs.declared.digest.Digest.{Digest}
 use Rattle.share_graph.specs.declared.desk.Caller.{Caller}
-use Rattle.share_graph.specs.declared.desk.Made.{Made}
 use Rattle.share_graph.specs.declared.event.Event.{Event}
 use Rattle.share_graph.specs.declared.state.State.{State}
 use Rattle.share_graph.specs.EventFits.{EventFits}
 use Rattle.share_graph.specs.Forms.{IsOne}
+use Rattle.share_graph.specs.Kinds.{IsUnused}
 use Rattle.share_graph.specs.WellFormed.{IsWellFormed}
-use Rattle.desk_base.specs.Accepting.{Accepts}
-use Rattle.desk_base.specs.Fitting.{RowFits}
-use Rattle.desk_base.specs.Steps.{Step, Plain, Drawn}
+use Rattle.desk_base.specs.Fitting.{ChangeFits, RowFits}
+use Rattle.desk_base.specs.Outcomes.{with_digest, draft_step}
+use Rattle.desk_base.specs.Steps.{Drawn}
+use Rattle.desk_base.specs.declared.outcome.Draft.{Draft}
 use Rattle.account_desk.proofs.OneRows.{add_account_one, set_admin_one, set_enabled_one, add_app_one, new_grain_one, trash_one}
 use Rattle.account_desk.proofs.FitRows.{add_account_fits, set_admin_fits, set_enabled_fits, add_app_fits, new_grain_fits, trash_fits}
 use Rattle.session_desk.proofs.OneRows.{start_run_one, stop_run_one, open_session_one, close_session_one}
@@ -23,7 +24,7 @@ use Rattle.saved_refs.proofs.FitRows.{choose_fits, claim_fits, save_fits, restor
 use Rattle.desk_orders.proofs.OfOptions.{options_fits}
 use Rattle.desk_orders.specs.declared.order.Command.{Command}
 use Rattle.desk_orders.specs.declared.order.Command.TheVariants as command
-use Rattle.desk_orders.specs.Commands.{Asked, IsStated}
+use Rattle.desk_orders.specs.Commands.{Asked, IsStated, draws}
 use Rattle.desk_orders.specs.Orders.{RowBy, RowOf}
 
 pub one_by : (s : State) → IsWellFormed s → (found : Option Bool) (who : Caller) (c : Command) → IsOne (RowBy s found who c)
@@ -54,7 +55,7 @@ pub order_one : (s : State) → IsWellFormed s → (found : Option Bool) (order 
 unfolding RowOf
 order_one s formed found order = one_by s formed found order.caller order.command
 
-pub fits_by : (s : State) → IsWellFormed s → (found : Option Bool) (who : Caller) (c : Command) → IsStated who c → RowFits s (RowBy s found who c)
+pub fits_by : (s : State) → IsWellFormed s → (found : Option Bool) (who : Caller) (c : Command) → IsStated who c → RowFits s (draws c) (RowBy s found who c)
 fits_by s formed found who (command.AddAccount handle name) stated = add_account_fits s formed who handle name stated.1
 fits_by s formed found who (command.SetAdmin a on) stated = set_admin_fits s formed who a on
 fits_by s formed found who (command.SetEnabled a on) stated = set_enabled_fits s formed who a on
@@ -78,11 +79,15 @@ fits_by s formed found who (command.Save handle label) stated = save_fits s form
 fits_by s formed found who (command.Restore token) stated = restore_fits s formed who token
 fits_by s formed found who (command.DropSaved token) stated = drop_saved_fits s formed who token
 
-pub order_fits : (s : State) → IsWellFormed s → (found : Option Bool) (order : Asked) → IsStated order.caller order.command → RowFits s (RowOf s found order)
+pub order_fits : (s : State) → IsWellFormed s → (found : Option Bool) (order : Asked) → IsStated order.caller order.command → RowFits s (draws order.command) (RowOf s found order)
 unfolding RowOf
 order_fits s formed found order stated = fits_by s formed found order.caller order.command stated
 
--- what is accepted fits
-pub accepted_fits : (s : State) (n : ℕ) (drawn : Option Digest) (Row : Step → Type 0) (e : Event) (made : Made) → RowFits s Row → Accepts s n drawn Row e made → EventFits s e
-accepted_fits s n None Row e made fits (is, less) = fits.fits (Plain e) made is
-accepted_fits s n (Some d) Row e made fits (f, (is, less), same, unused) = subst (λ (x : Event). EventFits s x) (sym same) (fits.fits (Drawn f) made is d unused)
+-- a change that wants a digest is of a command that draws a secret, and fits with each digest that no row has
+drawn_fits : (s : State) (wants : Bool) (f : Digest → Event) → ChangeFits s wants (Drawn f) → (wants ≡ true) × ((d : Digest) → IsUnused s d → EventFits s (f d))
+drawn_fits s true f is = (refl, is)
+drawn_fits s false f is = absurd is
+
+pub draft_fits : (s : State) → IsWellFormed s → (found : Option Bool) (who : Caller) (c : Command) → IsStated who c → (draft : Draft) → RowBy s found who c (draft_step draft)
+    → (draws c ≡ true) × ((d : Digest) → IsUnused s d → EventFits s (with_digest draft.event d))
+draft_fits s formed found who c stated draft is = drawn_fits s (draws c) (with_digest draft.event) ((fits_by s formed found who c stated).fits (Drawn (with_digest draft.event)) draft.made is)

@@ -2,9 +2,9 @@
 use Rattle.std.specs.Prelude.{◌≡◌, ◌⊎◌, ℕ, Bool, false, List, [], ◌∷◌, Option, Some, None, Result, Ok, Err}
 use Rattle.share_graph.specs.declared.desk.Made.{Made}
 use Rattle.share_graph.specs.declared.event.Event.{Event}
-use Rattle.share_graph.specs.declared.event.Event.TheVariants as event
 use Rattle.share_graph.specs.declared.refusal.Refusal.{Refusal}
 use Rattle.share_graph.specs.declared.state.State.{State}
+use Rattle.share_graph.specs.History.{IsOfRuns, IsOfTables}
 use Rattle.desk_base.specs.Accepting.{Ready, WantsSecret, Accepts, IsRefusal}
 use Rattle.desk_base.specs.Made.{nothing_made}
 use Rattle.desk_base.specs.Steps.{Keeps}
@@ -18,21 +18,6 @@ use Rattle.desk_orders.specs.Orders.{RowOf}
 use Rattle.site_caps.specs.Law.{Law}
 use Rattle.desk_orders.specs.Sites.{ListsBy}
 use Rattle.desk_orders.specs.Secrets.{secret_text, shown_by, text_digest}
-
--- the event starts a run or stops one: then it is the spawner's to do
-abbrev pub IsOfRuns : Event → Type 0
-IsOfRuns (event.RunStarted run) = Unit {0}
-IsOfRuns (event.RunStopped r) = Unit {0}
-IsOfRuns _ = ⊥
-
--- the event adds or changes a row of the tables: then it is the keeper's to store
-abbrev pub IsOfTables : Event → Type 0
-IsOfTables (event.RunStarted run) = ⊥
-IsOfTables (event.RunStopped r) = ⊥
-IsOfTables (event.SessionOpened session) = ⊥
-IsOfTables (event.SessionClosed n) = ⊥
-IsOfTables (event.HandleMade handle) = ⊥
-IsOfTables _ = Unit {0}
 
 -- The change is accepted, with the secrets that were drawn for the order: none, or the one whose text has its digest.
 abbrev pub AcceptsWith : State → ℕ → Option Bool → Asked → List (List ℕ) → Event → Made → Type 0
@@ -57,8 +42,13 @@ IsDone s n found order made text drawn added =
     ((added ≡ []) × (drawn ≡ []) × (text ≡ None) × Ready n (RowOf s found order) (Keeps made))
     ⊎ ((e : Event) × (added ≡ e ∷ []) × (text ≡ shown_text order.command drawn) × AcceptsWith s n found order drawn e made)
 
--- THE ANSWER to an order at a state with n entries, with what the sites have of what it chooses, the secrets that are drawn for it, and the
--- entries that it adds.
+-- what want of memory may have drawn: nothing, or the one secret that the change wants
+abbrev pub MayHaveDrawn : State → ℕ → Option Bool → Asked → List (List ℕ) → Type 0
+MayHaveDrawn s n found order [] = Unit {0}
+MayHaveDrawn s n found order (secret ∷ []) = WantsSecret n (RowOf s found order)
+MayHaveDrawn s n found order (secret ∷ more ∷ rest) = ⊥
+
+-- THE ANSWER to an order at a state with n entries: with what the sites have of its choice, what is drawn, and what it adds.
 abbrev pub IsAnswer : Law → State → ℕ → Option Bool → Asked → Result Reply OrderFault → List (List ℕ) → List Event → Type 0
 IsAnswer law s n found order (Ok (reply.Refused r)) drawn added = (added ≡ []) × RefusesWith s n found order drawn r
 IsAnswer law s n found order (Ok (reply.Made made text)) drawn added = (lists order.command ≡ false) × IsDone s n found order made text drawn added
@@ -67,4 +57,4 @@ IsAnswer law s n found order (Ok (reply.Options list)) drawn added =
 IsAnswer law s n found order (Err fault.Secrets) drawn added = (added ≡ []) × (drawn ≡ []) × WantsSecret n (RowOf s found order)
 IsAnswer law s n found order (Err fault.Start) drawn added = (added ≡ []) × ((e : Event) × (made : Made) × IsOfRuns e × AcceptsWith s n found order drawn e made)
 IsAnswer law s n found order (Err fault.Store) drawn added = (added ≡ []) × ((e : Event) × (made : Made) × IsOfTables e × AcceptsWith s n found order drawn e made)
-IsAnswer law s n found order (Err fault.Memory) drawn added = (added ≡ [])
+IsAnswer law s n found order (Err fault.Memory) drawn added = (added ≡ []) × MayHaveDrawn s n found order drawn

@@ -1,33 +1,30 @@
 -- What is decided of an order before anything outside is asked.
-use Rattle.std.specs.Prelude.{ℕ, None, Some}
-use Rattle.host_base.specs.declared.digest.Digest.{Digest}
+use Rattle.std.specs.Prelude.{ℕ}
 use Rattle.share_graph.specs.declared.state.State.{State}
 use Rattle.share_graph.specs.EventFits.{EventFits}
-use Rattle.desk_base.specs.Accepting.{Ready, WantsSecret, Accepts, IsRefusal}
-use Rattle.desk_base.specs.Steps.{Step, Refuses, Keeps}
+use Rattle.host_base.specs.declared.digest.Digest.{Digest}
+use Rattle.share_graph.specs.Kinds.{IsUnused}
+use Rattle.desk_base.specs.Accepting.{Ready}
+use Rattle.desk_base.specs.Outcomes.{with_digest, draft_step}
+use Rattle.desk_base.specs.Steps.{Step, Refuses, Keeps, Makes, Plain}
 use Rattle.desk_orders.specs.declared.deciding.Decision.{Decision}
 use Rattle.desk_orders.specs.declared.deciding.Decision.TheVariants as decision
 
--- with no secret: what is ready
-abbrev pub Decides : State → ℕ → (Step → Type 0) → Decision → Type 0
-Decides s n Row (decision.Refused r) = Ready n Row (Refuses r)
-Decides s n Row (decision.Same made) = Ready n Row (Keeps made)
-Decides s n Row decision.Draw = WantsSecret n Row
-Decides s n Row (decision.Change e made) = Accepts s n None Row e made
-Decides s n Row decision.Memory = Unit {0}
+-- by the row of its command, at n entries: what is ready
+abbrev pub Decides : ℕ → (Step → Type 0) → Decision → Type 0
+Decides n Row (decision.Refused r) = Ready n Row (Refuses r)
+Decides n Row (decision.Same made) = Ready n Row (Keeps made)
+Decides n Row (decision.Draft draft) = Ready n Row (draft_step draft)
+Decides n Row (decision.Change e made) = Ready n Row (Makes (Plain e) made)
+Decides n Row decision.Memory = Unit {0}
 
--- with the digest of a drawn secret, where one is wanted: a row has it, or it completes the change
-abbrev pub DecidesAt : State → ℕ → Digest → (Step → Type 0) → Decision → Type 0
-DecidesAt s n d Row (decision.Refused r) = IsRefusal s n (Some d) Row r
-DecidesAt s n d Row (decision.Change e made) = Accepts s n (Some d) Row e made
-DecidesAt s n d Row decision.Memory = Unit {0}
-DecidesAt s n d Row (decision.Same made) = ⊥
-DecidesAt s n d Row decision.Draw = ⊥
+-- a secret is to be drawn
+abbrev pub IsDraft : Decision → Type 0
+IsDraft (decision.Draft draft) = Unit {0}
+IsDraft _ = ⊥
 
--- a change that is decided fits
+-- a change that is decided fits, and a draft with each digest that no row has
 abbrev pub FitsIfDecided : State → Decision → Type 0
 FitsIfDecided s (decision.Change e made) = EventFits s e
-FitsIfDecided s (decision.Refused r) = Unit {0}
-FitsIfDecided s (decision.Same made) = Unit {0}
-FitsIfDecided s decision.Draw = Unit {0}
-FitsIfDecided s decision.Memory = Unit {0}
+FitsIfDecided s (decision.Draft draft) = (d : Digest) → IsUnused s d → EventFits s (with_digest draft.event d)
+FitsIfDecided s _ = Unit {0}

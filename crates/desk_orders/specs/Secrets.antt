@@ -2,7 +2,7 @@
 use Rattle.std.specs.Prelude.{◌≡◌, ℕ, List, [], ◌∷◌, Option, Some, None}
 use Rattle.sha2.specs.Sha256.{sha256}
 use Rattle.host_base.specs.declared.digest.Digest.{Digest}
-use Rattle.host_base.specs.Drawing.{Draws}
+use Rattle.host_base.specs.Drawing.{Coming, Draws}
 use Rattle.share_tokens.specs.Texts.{token_text_of, key_text_of}
 use Rattle.desk_orders.specs.declared.order.Command.{Command}
 use Rattle.desk_orders.specs.declared.secrets.SecretUse.{SecretUse}
@@ -12,16 +12,12 @@ use Rattle.desk_orders.specs.Commands.{secret_use}
 -- the text by which a secret is known: a key where it is a session's, else a token
 abbrev pub text_by : Option SecretUse → List ℕ → List ℕ
 text_by (Some secret_uses.Session) secret = key_text_of (record { 0 = secret })
-text_by (Some secret_uses.Run) secret = token_text_of (record { 0 = secret })
-text_by (Some secret_uses.Token) secret = token_text_of (record { 0 = secret })
-text_by None secret = token_text_of (record { 0 = secret })
+text_by _ secret = token_text_of (record { 0 = secret })
 
 -- what a reply shows of that text: nothing where it is a run's
 abbrev pub shown_by : Option SecretUse → List ℕ → Option (List ℕ)
 shown_by (Some secret_uses.Run) text = None
-shown_by (Some secret_uses.Session) text = Some text
-shown_by (Some secret_uses.Token) text = Some text
-shown_by None text = Some text
+shown_by _ text = Some text
 
 -- the text of the secret that is drawn for a command
 unfoldable pub secret_text : Command → List ℕ → List ℕ
@@ -32,6 +28,6 @@ abbrev pub text_digest : List ℕ → Digest
 text_digest text = record { 0 = sha256 text }
 
 -- what is to come of secrets before these were drawn from them, and after
-abbrev pub DrawsAll : Option (ℕ → Option (List ℕ)) → Option (ℕ → Option (List ℕ)) → List (List ℕ) → Type 0
+abbrev pub DrawsAll : Option Coming → Option Coming → List (List ℕ) → Type 0
 DrawsAll coming rest [] = rest ≡ coming
-DrawsAll coming rest (secret ∷ secrets) = (between : Option (ℕ → Option (List ℕ))) × Draws coming between secret × DrawsAll between rest secrets
+DrawsAll coming rest (secret ∷ secrets) = (between : Option Coming) × Draws coming between secret × DrawsAll between rest secrets

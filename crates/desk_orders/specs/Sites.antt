@@ -1,5 +1,5 @@
 -- What the sites tell of an order, and what is listed of them.
-use Rattle.std.specs.Prelude.{◌≡◌, ◌⊎◌, ◌++◌, ◌∷◌, [], ℕ, Bool, List, Option, Some, None, Contains, option_map, map, filter}
+use Rattle.std.specs.Prelude.{◌≡◌, ◌⊎◌, ◌++◌, ◌∷◌, [], ℕ, Bool, List, Option, Some, None, Contains, IsTrue, option_map, map, filter}
 use Rattle.std.specs.List.{filter_map}
 use Rattle.host_base.specs.declared.ids.GrainId.{GrainId}
 use Rattle.powerbox_match.specs.Descriptor.{DescriptorData}
@@ -12,6 +12,7 @@ use Rattle.share_graph.specs.declared.desk.Offer.{Offer}
 use Rattle.share_graph.specs.declared.desk.Offer.TheVariants as offer
 use Rattle.share_graph.specs.declared.rows.Account.{Account}
 use Rattle.share_graph.specs.declared.state.State.{State}
+use Rattle.share_graph.specs.Forms.{IsOne}
 use Rattle.site_caps.specs.Finding.{HasOffer, HasNoOffer}
 use Rattle.site_caps.specs.Law.{Law}
 use Rattle.site_caps.specs.Sites.{IsSites}
@@ -38,8 +39,7 @@ abbrev pub IsFoundOf : Law → State → Caller → List DescriptorData → Offe
 IsFoundOf law s who query (offer.Site tag item) found = (admin : Bool) × IsAdminBy s who admin × IsFound law query admin tag item found
 IsFoundOf law s who query (offer.Grain n) found = Unit {0}
 
--- WHAT THE SITES HAVE of the item that a command chooses, for an admin or for anybody. Of a command that chooses none they may be said to have
--- anything, which nobody reads.
+-- WHAT THE SITES HAVE of the item that a command chooses. Of another command it may be anything, which nobody reads.
 abbrev pub IsFoundBy : Law → State → Caller → Command → Option Bool → Type 0
 IsFoundBy law s who (command.Choose n offer query assignment) found = IsFoundOf law s who query offer found
 IsFoundBy law s who _ found = Unit {0}
@@ -75,3 +75,7 @@ AreListed law s who n query list =
 abbrev pub ListsBy : Law → State → Caller → Command → List Listed → Type 0
 ListsBy law s who (command.Options n query) list = AreListed law s who n query list
 ListsBy law s who _ list = ⊥
+
+-- the law allows one list of offers alone for each query at a tag
+abbrev pub HasOneAnswer : Law → Type 0
+HasOneAnswer law = (tag : ℕ) (query : List DescriptorData) → IsOne (λ (offers : List SiteOffer). IsTrue (law.may_offer tag query offers))

@@ -7,7 +7,7 @@ mod reply;
 mod secrets;
 mod sites;
 
-pub use deciding::{Decision, ENTRY_LIMIT, decide, decide_at};
+pub use deciding::{Decision, decide};
 pub use order::{Command, Order};
 pub use reply::{Listing, OrderFault, Reply};
 pub use secrets::{SecretUse, draws, secret_text, secret_use, shown_text};

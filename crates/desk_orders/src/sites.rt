@@ -2,12 +2,13 @@
 
 ghost use Rattle.std.specs.Prelude.{◌≡◌, ◌++◌, Bool, IfOk, OnOk, true, map};
 ghost use Rattle.std.specs.List.{filter_map};
+ghost use Rattle.share_graph.specs.Forms.{IsOne};
 ghost use Rattle.share_graph.specs.WellFormed.{IsWellFormed};
 ghost use Rattle.least_access.specs.Solved.{IsSolutionOf};
 ghost use Rattle.desk_orders.specs.Commands as commands;
 ghost use Rattle.powerbox_match.specs.Matching.{same_quality};
 ghost use Rattle.desk_orders.specs.Listing.{IsListed, IsListedFor};
-ghost use Rattle.desk_orders.specs.Sites.{IsAdminBy, IsFound, IsFoundOf, IsFoundBy, site_listed, grain_listed, those_of, sites_listed};
+ghost use Rattle.desk_orders.specs.Sites.{IsAdminBy, IsFound, IsFoundOf, IsFoundBy, HasOneAnswer, ListsBy, site_listed, grain_listed, those_of, sites_listed};
 
 use crate::order::{Command, Order};
 use crate::reply::Listing;
@@ -54,7 +55,8 @@ fn found_item<C: SiteDriver + Drop>(
     item: u32,
 ) -> Result<Option<bool>, Memory>
     requires { IsWellFormed state.now }
-    ensures { IfOk result (λ found. (admin : Bool) × IsAdminBy state.now caller.now admin × IsFound C.Law.law query.now admin tag item found) }
+    ensures { IfOk result (λ found. (admin : Bool)
+        × IsAdminBy state.now caller.now admin × IsFound C.Law.law query.now admin tag item found) }
 {
     match sites.find(alloc, query, is_admin(state, caller), tag, item) {
         Ok(offer) => Ok(Some(offer.admin_only)),
@@ -91,8 +93,7 @@ pub fn found_of<C: SiteDriver + Drop>(
     order: &Order,
 ) -> Result<Option<bool>, Memory>
     requires { IsWellFormed state.now }
-    ensures { IfOk result (IsFoundBy C.Law.law
-        state.now order.now.caller order.now.command) }
+    ensures { IfOk result (IsFoundBy C.Law.law state.now order.now.caller order.now.command) }
 {
     match &order.command {
         Command::Choose {
@@ -180,7 +181,8 @@ fn joined(
     choices: &[Choice],
     told: &[(u64, SiteOffer)],
 ) -> Result<Listing, AllocError>
-    ensures { IfOk result (λ list. list ≡ map grain_listed choices.now ++ sites_listed query.now told.now) }
+    ensures { IfOk result (λ list. list
+        ≡ map grain_listed choices.now ++ sites_listed query.now told.now) }
 {
     let mut list = grains_of(alloc, choices)?;
     let offers = offers_of(alloc, query, told)?;
@@ -222,7 +224,9 @@ pub fn list_options<C: SiteDriver + Drop>(
     requires formed { IsWellFormed state.now }
     requires solution { IsSolutionOf state.now.tables solved.now }
     requires asks { commands.lists order.now.command ≡ true }
-    ensures { IsListed C.Law.law state.now order.now result }
+    ensures listed { IsListed C.Law.law state.now order.now result }
+    ensures one { HasOneAnswer C.Law.law
+        → IsOne (ListsBy C.Law.law state.now order.now.caller order.now.command) }
 {
     match &order.command {
         Command::Options(grain, query) => options_of(

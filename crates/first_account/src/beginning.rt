@@ -1,6 +1,6 @@
 ghost use Rattle.std.specs.Prelude.{◌≡◌, ◌≤◌, ◌∷◌, [], List, Some, IfOk, OnOk, OnErr, IsErrOf};
 ghost use Rattle.host_base.specs.Outside.{Rose};
-ghost use Rattle.cloud_keeper.specs.Keeping.{Follows};
+ghost use Rattle.cloud_keeper.specs.Keeping.{RowsFollow};
 ghost use Rattle.cloud_keeper.specs.declared.row.Row.{Row};
 ghost use Rattle.share_graph.specs.Checked.{IsChecked};
 ghost use Rattle.row_tables.specs.Kept.{AreRowsOf};
@@ -19,8 +19,9 @@ fn keep<K: Keeper>(alloc: Global, keeper: &mut K, row: &Row) -> Result<(), First
     requires { HasNoRows (K.keeping keeper.old) }
     ensures counts { (K.keeping keeper.old).faults ≤ (K.keeping keeper.new).faults }
     ensures kept { OnOk result (HasJust row.now (K.keeping keeper.new)) }
-    ensures cause { IsErrOf result FirstFault.StoreFailed → Rose (K.keeping keeper.old).faults (K.keeping keeper.new).faults }
-    ensures same { OnErr result (Follows (K.keeping keeper.old) (K.keeping keeper.new) (λ rows. rows)) }
+    ensures cause { IsErrOf result FirstFault.StoreFailed
+        → Rose (K.keeping keeper.old).faults (K.keeping keeper.new).faults }
+    ensures same { OnErr result (RowsFollow (K.keeping keeper.old) (K.keeping keeper.new) (λ rows. rows)) }
     ensures no_secrets { IsErrOf result FirstFault.SecretsFailed → ⊥ }
 {
     match keeper.commit(alloc, row) {
@@ -51,15 +52,18 @@ pub fn first_account<K: Keeper, S: Secrets>(
     ensures checked { IfOk result (λ token. IsChecked (first_tables token)) }
 
     // What fails was counted, and no count falls.
-    ensures secrets_failed { IsErrOf result FirstFault.SecretsFailed → Rose (S.drawer secrets.old).faults (S.drawer secrets.new).faults }
-    ensures store_failed { IsErrOf result FirstFault.StoreFailed → Rose (K.keeping keeper.old).faults (K.keeping keeper.new).faults }
+    ensures secrets_failed { IsErrOf result FirstFault.SecretsFailed
+        → Rose (S.drawer secrets.old).faults (S.drawer secrets.new).faults }
+    ensures store_failed { IsErrOf result FirstFault.StoreFailed
+        → Rose (K.keeping keeper.old).faults (K.keeping keeper.new).faults }
     ensures secrets_count { (S.drawer secrets.old).faults ≤ (S.drawer secrets.new).faults }
     ensures store_count { (K.keeping keeper.old).faults ≤ (K.keeping keeper.new).faults }
 
     // What an error leaves.
-    ensures same { OnErr result (Follows (K.keeping keeper.old) (K.keeping keeper.new) (λ rows. rows)) }
+    ensures same { OnErr result (RowsFollow (K.keeping keeper.old) (K.keeping keeper.new) (λ rows. rows)) }
     ensures drawn { OnErr result (DrewOneAtMost (S.drawer secrets.old).coming (S.drawer secrets.new).coming) }
-    ensures undrawn { IsErrOf result FirstFault.SecretsFailed → (S.drawer secrets.new).coming ≡ (S.drawer secrets.old).coming }
+    ensures undrawn { IsErrOf result FirstFault.SecretsFailed
+        → (S.drawer secrets.new).coming ≡ (S.drawer secrets.old).coming }
 {
     let token = draw_token(alloc, secrets)?;
     let row = first_row(alloc, token.as_slice())?;

@@ -11,8 +11,10 @@ use std::alloc::Global;
 pub(crate) fn draw_token<S: Secrets>(alloc: Global, secrets: &mut S) -> Result<Bytes, FirstFault>
     ensures counts { (S.drawer secrets.old).faults ≤ (S.drawer secrets.new).faults }
     ensures text { IfOk result (IsTokenOfNext (S.drawer secrets.old).coming (S.drawer secrets.new).coming) }
-    ensures cause { IsErrOf result FirstFault.SecretsFailed → Rose (S.drawer secrets.old).faults (S.drawer secrets.new).faults }
-    ensures kept { IsErrOf result FirstFault.SecretsFailed → (S.drawer secrets.new).coming ≡ (S.drawer secrets.old).coming }
+    ensures cause { IsErrOf result FirstFault.SecretsFailed
+        → Rose (S.drawer secrets.old).faults (S.drawer secrets.new).faults }
+    ensures kept { IsErrOf result FirstFault.SecretsFailed
+        → (S.drawer secrets.new).coming ≡ (S.drawer secrets.old).coming }
     ensures drawn { OnErr result (DrewOneAtMost (S.drawer secrets.old).coming (S.drawer secrets.new).coming) }
     ensures no_store { IsErrOf result FirstFault.StoreFailed → ⊥ }
 {

@@ -3,7 +3,7 @@ use Rattle.std.proofs.Common.{◌≡◌, ℕ, ◌+◌, ◌≤◌, ◌++◌, nat_
 use Rattle.std.specs.Cmp.Lexicographic.{pointwise}
 use Rattle.std.proofs.lemmas.List.{drop-append-le, take-append-drop, length-drop}
 use Rattle.std.proofs.lemmas.Bool.Decides.{nat_tests}
-use Rattle.host_base.specs.Outside.{Inlet, Gives}
+use Rattle.host_base.specs.Outside.{Inlet, GivesBytes}
 use Rattle.front_http.specs.declared.look.Pending.{Pending}
 use Rattle.front_http.specs.declared.look.Pending.TheVariants.{Search, Known}
 use Rattle.front_http.specs.Stream.{head_end}
@@ -29,7 +29,7 @@ pending_more held more (Known head) is =
     let stays : HeadStays held more head.length = head_stays held more head.length is.ends in
     record { ends = stays.stays; is = subst (λ run. IsHeadOf run head) (sym stays.run) is.is }
 
-pub gives_more : (held left buf new : List ℕ) (n : ℕ) (inlet : Inlet) → Gives left n buf inlet → new ≡ held ++ take n buf → GivesMore held left (nat_lt 0 n) new inlet.left
+pub gives_more : (held left buf new : List ℕ) (n : ℕ) (inlet : Inlet) → GivesBytes left n buf inlet → new ≡ held ++ take n buf → GivesMore held left (nat_lt 0 n) new inlet.left
 gives_more held left buf new n inlet gives grown = record {
   rest = drop n left;
   told_is = gives.left;

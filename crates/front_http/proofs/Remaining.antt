@@ -8,7 +8,7 @@ use Rattle.front_http.specs.declared.fault.FrontFault.{FrontFault}
 use Rattle.front_http.specs.declared.fault.FrontFault.TheVariants as fault
 use Rattle.front_http.specs.Stream.{Front, Nothing, Part, Refused, Whole, IsFront, Ending, Done, Last, Cut, Bad, Requests, none_but, first_of, IsRest}
 use Rattle.front_http.specs.Reading.{Reading, IsRemaining, Ended, Gave, over, Next, fault_at}
-use Rattle.front_http.specs.Pending.{partial, EndsAt}
+use Rattle.front_http.specs.Pending.{partial, StreamEndsAt}
 use Rattle.front_http.proofs.Fronts.{front-append, whole_within}
 use Rattle.front_http.proofs.Streams.{IsStreamBy, stream_by, stream_of}
 
@@ -73,7 +73,7 @@ partial_some (b ∷ bs) some = refl
 
 -- the end of the input
 pub end_next : (old : Reading) (left : List ℕ) (now new : Reading) (told : Option (List ℕ)) (result : Result (Option Request) FrontFault) → old.closed ≡ false → now.at ≡ old.at → now.held ≡ old.held ++ left
-    → IsFront now.held (partial now.held) → EndsAt now result → Next old left result new told
+    → IsFront now.held (partial now.held) → StreamEndsAt now result → Next old left result new told
 end_next old left now new told (Ok None) unclosed at same is ends =
     let front : IsFront (old.held ++ left) Nothing = subst (λ xs. IsFront xs Nothing) same (subst (IsFront now.held) (partial_none now.held ends) is) in
     subst (λ t. Ended old left (over t)) (sym unclosed) (ended old left Nothing Done unclosed front refl (λ all by. by))

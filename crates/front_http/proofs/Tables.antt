@@ -7,7 +7,7 @@ use Rattle.matchit.proofs.RenameLemmas.{first-rename}
 use Rattle.matchit.proofs.OnLiterals.{matchit_on_literals}
 use Rattle.front_http.specs.declared.route.Route.{Route}
 use Rattle.front_http.specs.declared.route.Route.TheVariants as route
-use Rattle.front_http.specs.Routes.{IsNumbered, HasForm, desk_form, grain_form, number_of}
+use Rattle.front_http.specs.Routes.{HasNumber, HasForm, desk_form, grain_form, number_of}
 use Rattle.front_http.specs.Numbers.{with_number}
 use Rattle.front_http.specs.Tables.{desk_rows, grain_rows, value_of}
 use Rattle.front_http.proofs.Seeking.{Paths, steps, are_slashed, are_wild, numbered_found}
@@ -70,7 +70,7 @@ grain_fixed : (text path : List ℕ) (found : Route) → first grain_table text 
 grain_fixed text path found is same = ap (first grain_table) same ∙ is
 
 desk_numbered : (before more path : List ℕ) (n : ℕ) (found : Route) → are_wild (steps before desk_table) ≡ true → are_slashed (step 256 (steps before desk_table)) ≡ true → 0 < length (step 256 (steps before desk_table))
-    → seek 0 (step 256 (steps before desk_table)) (47 ∷ more) ≡ Some found → IsNumbered before n (47 ∷ more) path → first desk_table path ≡ Some found
+    → seek 0 (step 256 (steps before desk_table)) (47 ∷ more) ≡ Some found → HasNumber before n (47 ∷ more) path → first desk_table path ≡ Some found
 desk_numbered before more path n found wild slashed some is numbered =
     ap (first desk_table) numbered.path_is ∙ numbered_found desk_table before numbered.digits more found wild slashed some is numbered.number.decimal numbered.number.some
 

@@ -75,13 +75,13 @@ IsOutside fault.ReadFault = Unit {0}
 IsOutside fault.Memory = Unit {0}
 
 -- what is answered where the input ended
-abbrev pub EndsAt : Reading → Result (Option Request) FrontFault → Type 0
-EndsAt reading (Ok None) = reading.held ≡ []
-EndsAt reading (Ok (Some request)) = ⊥
-EndsAt reading (Err (fault.CutOff n)) = (reading.held ≢ []) × (n ≡ reading.at + length reading.held)
-EndsAt reading (Err (fault.BadHead at)) = ⊥
-EndsAt reading (Err (fault.LongHead at)) = ⊥
-EndsAt reading (Err (fault.NeedLength at)) = ⊥
-EndsAt reading (Err (fault.LongBody at)) = ⊥
-EndsAt reading (Err fault.ReadFault) = ⊥
-EndsAt reading (Err fault.Memory) = Unit {0}
+abbrev pub StreamEndsAt : Reading → Result (Option Request) FrontFault → Type 0
+StreamEndsAt reading (Ok None) = reading.held ≡ []
+StreamEndsAt reading (Ok (Some request)) = ⊥
+StreamEndsAt reading (Err (fault.CutOff n)) = (reading.held ≢ []) × (n ≡ reading.at + length reading.held)
+StreamEndsAt reading (Err (fault.BadHead at)) = ⊥
+StreamEndsAt reading (Err (fault.LongHead at)) = ⊥
+StreamEndsAt reading (Err (fault.NeedLength at)) = ⊥
+StreamEndsAt reading (Err (fault.LongBody at)) = ⊥
+StreamEndsAt reading (Err fault.ReadFault) = ⊥
+StreamEndsAt reading (Err fault.Memory) = Unit {0}

@@ -26,7 +26,7 @@ pub record IsNumber (digits : List ℕ) (n : ℕ) : Type 0 where
   pub small : n ≤ 4294967295
 
 -- the path is a number between these two texts
-pub record IsNumbered (before : List ℕ) (n : ℕ) (after path : List ℕ) : Type 0 where
+pub record HasNumber (before : List ℕ) (n : ℕ) (after path : List ℕ) : Type 0 where
   pub digits : List ℕ
   pub number : IsNumber digits n
   pub path_is : path ≡ before ++ (digits ++ after)
@@ -40,7 +40,7 @@ pub data Form : Type 0 where
 -- the path is of the form, with this number
 abbrev pub HasForm : Form → ℕ → List ℕ → Type 0
 HasForm (Fixed text) n path = path ≡ text
-HasForm (Numbered before after) n path = IsNumbered before n after path
+HasForm (Numbered before after) n path = HasNumber before n after path
 HasForm Nowhere n path = ⊥
 
 -- the table of the desk
@@ -132,7 +132,7 @@ pub record IsUsed (request : Request) (n : ℕ) : Type 0 where
   pub target : IsUse n request.target rest
 
 -- a request to what is asked for by any path from the root
-pub record IsAsked (request : Request) : Type 0 where
+pub record IsAskedAs (request : Request) : Type 0 where
   pub method : is_method request.method ≡ true
   pub rooted : is_rooted request.target ≡ true
 
@@ -147,8 +147,8 @@ host_kind host = if starts_with nat_eq host (codes "ui-") then Session
 
 -- what a request to a host of this kind is for
 abbrev pub IsRouteAt : Host → Request → Route → Type 0
-IsRouteAt Session request found = IsAsked request × (found ≡ route.Session (record { 0 = sha256 (session_text request.host) }))
-IsRouteAt Api request found = IsAsked request × (found ≡ route.Api)
+IsRouteAt Session request found = IsAskedAs request × (found ≡ route.Session (record { 0 = sha256 (session_text request.host) }))
+IsRouteAt Api request found = IsAskedAs request × (found ≡ route.Api)
 IsRouteAt Grain request found = IsPost grain_form request found ⊎ ((n : ℕ) × IsUsed request n × (found ≡ route.Use n))
 IsRouteAt Desk request found = IsPost desk_form request found
 

@@ -47,7 +47,8 @@ struct HeadSpans {
 }
 
 fn parse_head(alloc: Global, bytes: &[u8]) -> Result<Option<HeadSpans>, Memory>
-    ensures { IfOk result (λ found. MatchOption found (HasNoHead bytes.now) (λ spans. IsHeadAt bytes.now spans.fields.items spans.line)) }
+    ensures { IfOk result (λ found. MatchOption found (HasNoHead bytes.now) (λ spans.
+        IsHeadAt bytes.now spans.fields.items spans.line)) }
 {
     let Ok(mut fields) = vec![in alloc; EMPTY_HEADER_SPAN; bytes.len() / 3] else {
         return Err(Memory);

@@ -3,7 +3,7 @@ ghost use Rattle.std.specs.Prelude.{◌≡◌, ◌<◌, ◌^◌, ◌++◌, ℕ, 
 ghost use Rattle.std.specs.List.{list_all};
 ghost use Rattle.std.specs.Char.{is_ascii_digit};
 ghost use Rattle.front_http.specs.Numbers.{within};
-ghost use Rattle.front_http.specs.Routes.{IsNumber, IsNumbered};
+ghost use Rattle.front_http.specs.Routes.{IsNumber, HasNumber};
 
 pub fn is_digits(text: &[u8]) -> bool
     ensures { result ≡ list_all is_ascii_digit text.now }
@@ -43,22 +43,24 @@ pub fn path_number(digits: &[u8]) -> Option<u32>
 
 // What stands behind a text.
 fn behind_text<'a>(path: &'a [u8], before: &[u8]) -> Option<&'a [u8]>
-    ensures { MatchOption result ((rest : List ℕ) → path.now ≡ before.now ++ rest → ⊥) (λ rest. path.now ≡ before.now ++ rest.now) }
+    ensures { MatchOption result ((rest : List ℕ) → path.now ≡ before.now ++ rest
+        → ⊥) (λ rest. path.now ≡ before.now ++ rest.now) }
 {
     path.strip_prefix(before)
 }
 
 // What stands before a text.
 fn before_text<'a>(path: &'a [u8], after: &[u8]) -> Option<&'a [u8]>
-    ensures { MatchOption result ((rest : List ℕ) → path.now ≡ rest ++ after.now → ⊥) (λ rest. path.now ≡ rest.now ++ after.now) }
+    ensures { MatchOption result ((rest : List ℕ) → path.now ≡ rest ++ after.now
+        → ⊥) (λ rest. path.now ≡ rest.now ++ after.now) }
 {
     path.strip_suffix(after)
 }
 
 /// The number that stands between two texts.
 pub fn number_between(path: &[u8], before: &[u8], after: &[u8]) -> Option<u32>
-    ensures found { IfSome result (λ n. IsNumbered before.now n after.now path.now) }
-    ensures whole { (n : ℕ) → IsNumbered before.now n after.now path.now → result ≡ Some n }
+    ensures found { IfSome result (λ n. HasNumber before.now n after.now path.now) }
+    ensures whole { (n : ℕ) → HasNumber before.now n after.now path.now → result ≡ Some n }
 {
     let rest = behind_text(path, before)?;
     let digits = before_text(rest, after)?;

@@ -1,10 +1,10 @@
 //! The reader of requests.
-ghost use Rattle.std.specs.Prelude.{◌≡◌, ℕ, List, None, Some, Ok, Err, true, false, ◌+◌, ◌<◌, ◌≤◌, length, drop, IfOk, IfErr, OnOk, OnErr};
+ghost use Rattle.std.specs.Prelude.{◌≡◌, ℕ, List, None, Some, Ok, Err, true, false, ◌+◌, ◌<◌, ◌≤◌, length, drop, IfOk, IfErr, IfSome, OnOk, OnErr};
 ghost use Rattle.host_base.specs.Outside.{Rose};
 ghost use Rattle.front_http.specs.Stream.{HasOneMeaning, HasMeaning};
 ghost use Rattle.front_http.specs.Reading.{unread, Next, EndsRead};
 ghost use Rattle.front_http.specs.declared.fault.FrontFault.{FrontFault};
-ghost use Rattle.front_http.specs.Pending.{SeesAt, GivesMore, IsOutside, EndsAt};
+ghost use Rattle.front_http.specs.Pending.{SeesAt, GivesMore, IsOutside, StreamEndsAt};
 
 use crate::fault::{FrontFault, fault_at};
 use crate::held::Held;
@@ -86,7 +86,8 @@ impl RequestReader {
     fn take_piece<I: Source>(&mut self, input: &mut I) -> Result<bool, FrontFault>
         requires { length self.old.held ≤ 1064960 }
         ensures counts { (I.inlet input.old).faults ≤ (I.inlet input.new).faults }
-        ensures cause { result ≡ Err FrontFault.ReadFault → Rose (I.inlet input.old).faults (I.inlet input.new).faults }
+        ensures cause { result ≡ Err FrontFault.ReadFault
+            → Rose (I.inlet input.old).faults (I.inlet input.new).faults }
         ensures whole { (I.inlet input.new).whole ≡ (I.inlet input.old).whole }
         ensures fault { IfErr result IsOutside }
         ensures rest { self.new ≡ record self.old { held = self.new.held } }
@@ -110,7 +111,11 @@ impl RequestReader {
         requires { count ≤ length self.old.held }
         ensures request { IfOk result (λ given. given ≡ request) }
         ensures kept { OnErr result (self.new ≡ self.old) }
-        ensures reader { OnOk result (self.new ≡ record self.old { held = drop count self.old.held; at = self.old.at + count; closed = request.last }) }
+        ensures reader { OnOk result (self.new ≡ record self.old {
+          held = drop count self.old.held;
+          at = self.old.at + count;
+          closed = request.last;
+        }) }
     {
         let Some(at) = self.at.checked_add(count as u64) else {
             return Err(Memory);
@@ -130,10 +135,12 @@ impl RequestReader {
     ) -> Result<Option<Request>, FrontFault>
         requires { self.old.closed ≡ false }
         ensures counts { (I.inlet input.old).faults ≤ (I.inlet input.new).faults }
-        ensures cause { result ≡ Err FrontFault.ReadFault → Rose (I.inlet input.old).faults (I.inlet input.new).faults }
+        ensures cause { result ≡ Err FrontFault.ReadFault
+            → Rose (I.inlet input.old).faults (I.inlet input.new).faults }
         ensures whole { (I.inlet input.new).whole ≡ (I.inlet input.old).whole }
         ensures stopped { self.new.stopped ≡ self.old.stopped }
         ensures ends { EndsRead result (I.inlet input.new).ended }
+        ensures closes { IfOk result (λ found. IfSome found (λ request. self.new.closed ≡ request.last)) }
         ensures given { (left : List ℕ) → (I.inlet input.old).left ≡ Some left →
             Next self.old left result self.new (I.inlet input.new).left }
     {
@@ -159,7 +166,7 @@ impl RequestReader {
 
     // What there is where the input ended.
     fn end(&self) -> Result<Option<Request>, FrontFault>
-        ensures { EndsAt self.now result }
+        ensures { StreamEndsAt self.now result }
     {
         let held = self.held.as_slice();
         if held.is_empty() {
@@ -179,17 +186,22 @@ impl RequestReader {
         input: &mut I,
     ) -> Result<Option<Request>, FrontFault>
         ensures counts { (I.inlet input.old).faults ≤ (I.inlet input.new).faults }
-        ensures cause { result ≡ Err FrontFault.ReadFault → self.old.stopped ≡ None → Rose (I.inlet input.old).faults (I.inlet input.new).faults }
+        ensures cause { result ≡ Err FrontFault.ReadFault → self.old.stopped ≡ None
+            → Rose (I.inlet input.old).faults (I.inlet input.new).faults }
         ensures whole { (I.inlet input.new).whole ≡ (I.inlet input.old).whole }
 
         // A request that is the last one closes the reader, and a fault stops it. It answers by itself from then on.
+        ensures closes { IfOk result (λ found. IfSome found (λ request. self.new.closed ≡ request.last)) }
         ensures stops { IfErr result (λ fault. self.new.stopped ≡ Some fault) }
         ensures goes_on { IfOk result (λ _. self.new.stopped ≡ None) }
-        ensures stopped { (fault : FrontFault) → self.old.stopped ≡ Some fault → (result ≡ Err fault) × (self.new ≡ self.old) × (input.new ≡ input.old) }
-        ensures closed { self.old.stopped ≡ None → self.old.closed ≡ true → (result ≡ Ok None) × (self.new ≡ self.old) × (input.new ≡ input.old) }
+        ensures stopped { (fault : FrontFault) → self.old.stopped ≡ Some fault
+            → (result ≡ Err fault) × (self.new ≡ self.old) × (input.new ≡ input.old) }
+        ensures closed { self.old.stopped ≡ None → self.old.closed ≡ true
+            → (result ≡ Ok None) × (self.new ≡ self.old) × (input.new ≡ input.old) }
 
         // None, and a request that is cut off, come only where the source told its end.
-        ensures ends { self.old.stopped ≡ None → self.old.closed ≡ false → EndsRead result (I.inlet input.new).ended }
+        ensures ends { self.old.stopped ≡ None → self.old.closed ≡ false
+            → EndsRead result (I.inlet input.new).ended }
 
         // What remained is what is answered, and then what remains now.
         ensures given { (left : List ℕ) → (I.inlet input.old).left ≡ Some left → self.old.stopped ≡ None →

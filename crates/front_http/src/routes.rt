@@ -1,7 +1,7 @@
 //! What a request is for.
 ghost use Rattle.std.specs.Prelude.{◌≡◌, ◌≤◌, ◌↔◌, ℕ, [], length, IsTrue, Some, IfSome, OnOk, IfOk, fold};
 ghost use Rattle.matchit.specs.Seek.{first};
-ghost use Rattle.front_http.specs.Routes.{HasForm, desk_form, grain_form, number_of, IsPost, IsUsed, IsAsked, IsRouteAt, IsRoute, Session, Api, Grain};
+ghost use Rattle.front_http.specs.Routes.{HasForm, desk_form, grain_form, number_of, IsPost, IsUsed, IsAskedAs, IsRouteAt, IsRoute, Session, Api, Grain};
 ghost use Rattle.front_http.specs.Routes.{host_kind as host_kind_of, is_method as is_method_of};
 ghost use Rattle.front_http.specs.Tables.{with_route, value_of};
 ghost use Rattle.front_http.specs.Numbers.{with_number as renumbered, form_of, kept_number, kind_of};
@@ -124,8 +124,10 @@ fn with_number(route: Route, number: u32) -> Route
 
 // The route with the number of a path, where the path is written so.
 fn fit(route: Route, texts: Texts, path: &[u8]) -> Option<Route>
-    ensures found { IfSome result (λ found. (n : ℕ) × HasForm (form_of texts) n path.now × (found ≡ renumbered route n)) }
-    ensures whole { (n : ℕ) → HasForm (form_of texts) n path.now → result ≡ Some (renumbered route (kept_number (form_of texts) n)) }
+    ensures found { IfSome result (λ found. (n : ℕ) × HasForm (form_of texts) n path.now
+        × (found ≡ renumbered route n)) }
+    ensures whole { (n : ℕ) → HasForm (form_of texts) n path.now
+        → result ≡ Some (renumbered route (kept_number (form_of texts) n)) }
 {
     match texts {
         Texts::Fixed(text) => {
@@ -204,7 +206,8 @@ impl Routes {
     // A path of the desk.
     fn desk_route(&self, path: &str) -> Option<Route>
         ensures found { IfSome result (λ found. HasForm (desk_form found) (number_of found) path.now) }
-        ensures whole { (found : Route) → HasForm (desk_form found) (number_of found) path.now → result ≡ Some found }
+        ensures whole { (found : Route) → HasForm (desk_form found) (number_of found) path.now
+            → result ≡ Some found }
     {
         let route = find(&self.desk, path)?;
         fit(route, desk_texts(route), path.as_bytes())
@@ -213,7 +216,8 @@ impl Routes {
     // A path of a running grain, but for those of its handles.
     fn grain_route(&self, path: &str) -> Option<Route>
         ensures found { IfSome result (λ found. HasForm (grain_form found) (number_of found) path.now) }
-        ensures whole { (found : Route) → HasForm (grain_form found) (number_of found) path.now → result ≡ Some found }
+        ensures whole { (found : Route) → HasForm (grain_form found) (number_of found) path.now
+            → result ≡ Some found }
     {
         let route = find(&self.grain, path)?;
         fit(route, grain_texts(route), path.as_bytes())
@@ -304,7 +308,7 @@ fn is_method(method: &str) -> bool
 
 // Whether any path from the root is asked for by a method that is let through.
 fn is_asked(request: &Request) -> bool
-    ensures { IsTrue result ↔ IsAsked request.now }
+    ensures { IsTrue result ↔ IsAskedAs request.now }
 {
     is_method(request.method.as_str()) && request.target.as_str().as_bytes().starts_with(b"/")
 }

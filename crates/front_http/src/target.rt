@@ -48,7 +48,8 @@ fn cut(text: &str) -> Option<(&str, &str)>
 
 // What stands behind `/use/`.
 fn behind_use(target: &str) -> Option<&str>
-    ensures { MatchOption result ((rest : List ℕ) → target.now ≡ codes "/use/" ++ rest → ⊥) (λ rest. target.now ≡ codes "/use/" ++ rest.now) }
+    ensures { MatchOption result ((rest : List ℕ) → target.now ≡ codes "/use/" ++ rest
+        → ⊥) (λ rest. target.now ≡ codes "/use/" ++ rest.now) }
 {
     target.strip_prefix("/use/")
 }
@@ -56,7 +57,8 @@ fn behind_use(target: &str) -> Option<&str>
 /// The number of a target `/use/{n}/`, and what stands behind its slash.
 pub fn use_parts(target: &str) -> Option<(u32, &str)>
     ensures found { IfSome result (λ parts. IsUse parts.0 target.now parts.1.now) }
-    ensures whole { (n : ℕ) (rest : List ℕ) → IsUse n target.now rest → IsSomeAnd result (λ parts. (parts.0 ≡ n) × (parts.1.now ≡ rest)) }
+    ensures whole { (n : ℕ) (rest : List ℕ) → IsUse n target.now rest
+        → IsSomeAnd result (λ parts. (parts.0 ≡ n) × (parts.1.now ≡ rest)) }
 {
     let (digits, rest) = cut(behind_use(target)?)?;
     let number = path_number(digits.as_bytes())?;
@@ -65,7 +67,8 @@ pub fn use_parts(target: &str) -> Option<(u32, &str)>
 
 /// What a target `/use/{n}/` passes on: a slash, and all that stands behind its slash.
 pub fn use_target(alloc: Global, target: &str) -> Result<Option<Text>, Memory>
-    ensures { IfOk result (λ found. MatchOption found ((n : ℕ) (rest : List ℕ) → IsUse n target.now rest → ⊥) (λ text. (n : ℕ) × (rest : List ℕ) × IsUse n target.now rest × (text ≡ 47 ∷ rest))) }
+    ensures { IfOk result (λ found. MatchOption found ((n : ℕ) (rest : List ℕ) → IsUse n target.now rest
+        → ⊥) (λ text. (n : ℕ) × (rest : List ℕ) × IsUse n target.now rest × (text ≡ 47 ∷ rest))) }
 {
     let Some((_, rest)) = use_parts(target) else {
         return Ok(None);

@@ -9,7 +9,8 @@ use std::{fs, io};
 
 /// Where a run's socket is, in the folder of the runs.
 pub fn socket_path(alloc: Global, dir: &str, run: RunId) -> Result<String, AllocError>
-    ensures { IfOk result (λ path. string_bytes path ≡ dir.now ++ codes "/run-" ++ decimal run.0 ++ codes ".sock") }
+    ensures { IfOk result (λ path. string_bytes path
+        ≡ dir.now ++ codes "/run-" ++ decimal run.0 ++ codes ".sock") }
 {
     let number = run.0;
     format!(in alloc; "{dir}/run-{number}.sock")

@@ -57,7 +57,10 @@ impl UnixDoor {
     )
         requires room { self.old.back < 4294967296 }
         requires few { served ≤ 1000000 }
-        ensures { self.new ≡ record self.old { back = self.old.back + 1; answered = self.old.answered + served } }
+        ensures { self.new ≡ record self.old {
+          back = self.old.back + 1;
+          answered = self.old.answered + served;
+        } }
     {
         self.returns.count(served);
     }

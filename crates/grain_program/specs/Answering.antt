@@ -12,11 +12,11 @@ abbrev pub IsEcho : List ℕ → List ℕ → Type 0
 IsEcho bytes echo = (text : List ℕ) × (text_of bytes ≡ Some text) × (echo ≡ echo_text text)
 
 -- what is written to a connection of these bytes, behind what was written before: the echo, nothing, or a part of the echo where the writing failed
-abbrev pub Answers : List ℕ → List ℕ → Answered → Option (List ℕ) → Type 0
-Answers bytes old answered.Echoed written = (echo : List ℕ) × IsEcho bytes echo × (written ≡ Some (old ++ echo))
-Answers bytes old answered.NoText written = (text_of bytes ≡ None) × (written ≡ Some old)
-Answers bytes old answered.ReadFailed written = written ≡ Some old
-Answers bytes old answered.WriteFailed written = (echo : List ℕ) × IsEcho bytes echo × ((n : ℕ) × (written ≡ Some (old ++ take n echo)))
+abbrev pub GrainAnswers : List ℕ → List ℕ → Answered → Option (List ℕ) → Type 0
+GrainAnswers bytes old answered.Echoed written = (echo : List ℕ) × IsEcho bytes echo × (written ≡ Some (old ++ echo))
+GrainAnswers bytes old answered.NoText written = (text_of bytes ≡ None) × (written ≡ Some old)
+GrainAnswers bytes old answered.ReadFailed written = written ≡ Some old
+GrainAnswers bytes old answered.WriteFailed written = (echo : List ℕ) × IsEcho bytes echo × ((n : ℕ) × (written ≡ Some (old ++ take n echo)))
 
 -- the line that says that connections are taken
 abbrev pub ready_line : List ℕ

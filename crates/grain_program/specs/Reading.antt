@@ -10,9 +10,9 @@ pub record IsHeldOf (bytes held : List ℕ) (told : Option (List ℕ)) : Type 0 
   pub same : held ++ rest ≡ bytes
 
 -- what is held has a head, or the bytes state no text
-abbrev pub HasHead : List ℕ → Option ℕ → List ℕ → Option (List ℕ) → Type 0
-HasHead bytes (Some n) held told = (head_length held ≡ Some n) × IsHeldOf bytes held told
-HasHead bytes None held told = text_of bytes ≡ None
+abbrev pub GotHead : List ℕ → Option ℕ → List ℕ → Option (List ℕ) → Type 0
+GotHead bytes (Some n) held told = (head_length held ≡ Some n) × IsHeldOf bytes held told
+GotHead bytes None held told = text_of bytes ≡ None
 
 -- so many bytes are held, or there were fewer
 abbrev pub HasBytes : ℕ → List ℕ → Bool → List ℕ → Option (List ℕ) → Type 0

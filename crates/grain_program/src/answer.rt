@@ -1,7 +1,7 @@
 //! One connection.
 ghost use Rattle.std.specs.Prelude.{◌≡◌, ℕ, ◌≤◌, List, Some, Ok, IfOk, OnErr};
 ghost use Rattle.host_base.specs.Outside.{Rose};
-ghost use Rattle.grain_program.specs.Answering.{Answers};
+ghost use Rattle.grain_program.specs.Answering.{GrainAnswers};
 
 use crate::reading::{ReadFault, read_text};
 use grain_supervise::echo_text;
@@ -30,10 +30,13 @@ pub fn answer_one<I: Source, O: Sink>(
 ) -> Result<Answered, Memory>
     ensures read_counts { (I.inlet input.old).faults ≤ (I.inlet input.new).faults }
     ensures write_counts { (O.outlet output.old).faults ≤ (O.outlet output.new).faults }
-    ensures read_failed { result ≡ Ok Answered.ReadFailed → Rose (I.inlet input.old).faults (I.inlet input.new).faults }
-    ensures write_failed { result ≡ Ok Answered.WriteFailed → Rose (O.outlet output.old).faults (O.outlet output.new).faults }
-    ensures answers { (bytes old : List ℕ) → (I.inlet input.old).left ≡ Some bytes → (O.outlet output.old).written ≡ Some old →
-        IfOk result (λ answered. Answers bytes old answered (O.outlet output.new).written) }
+    ensures read_failed { result ≡ Ok Answered.ReadFailed
+        → Rose (I.inlet input.old).faults (I.inlet input.new).faults }
+    ensures write_failed { result ≡ Ok Answered.WriteFailed
+        → Rose (O.outlet output.old).faults (O.outlet output.new).faults }
+    ensures answers { (bytes old : List ℕ) → (I.inlet input.old).left ≡ Some bytes
+        → (O.outlet output.old).written ≡ Some old
+        → IfOk result (λ answered. GrainAnswers bytes old answered (O.outlet output.new).written) }
     ensures nothing { OnErr result (output.new ≡ output.old) }
 {
     let text = match read_text(alloc, input) {

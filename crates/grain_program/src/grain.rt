@@ -43,13 +43,17 @@ fn take_one<E: Door>(alloc: Global, door: &mut E) -> Result<bool, Memory>
 pub fn run_grain<E: Door, O: Sink>(alloc: Global, door: &mut E, out: &mut O, count: u32) -> GrainEnd
     ensures door_counts { (E.doorway door.old).faults ≤ (E.doorway door.new).faults }
     ensures out_counts { (O.outlet out.old).faults ≤ (O.outlet out.new).faults }
-    ensures prints { (old : List ℕ) → (O.outlet out.old).written ≡ Some old → Prints old result (O.outlet out.new).written }
+    ensures prints { (old : List ℕ) → (O.outlet out.old).written ≡ Some old
+        → Prints old result (O.outlet out.new).written }
 
     // All connections were taken, or fewer and the door failed, or none and the output failed, or some and memory ran out.
     ensures done { result ≡ GrainEnd.Done → (E.doorway door.new).given ≡ (E.doorway door.old).given + count }
-    ensures door_failed { result ≡ GrainEnd.DoorFailed → Rose (E.doorway door.old).faults (E.doorway door.new).faults }
-    ensures fewer { result ≡ GrainEnd.DoorFailed → (E.doorway door.new).given < (E.doorway door.old).given + count }
-    ensures write_failed { result ≡ GrainEnd.WriteFailed → Rose (O.outlet out.old).faults (O.outlet out.new).faults }
+    ensures door_failed { result ≡ GrainEnd.DoorFailed
+        → Rose (E.doorway door.old).faults (E.doorway door.new).faults }
+    ensures fewer { result ≡ GrainEnd.DoorFailed
+        → (E.doorway door.new).given < (E.doorway door.old).given + count }
+    ensures write_failed { result ≡ GrainEnd.WriteFailed
+        → Rose (O.outlet out.old).faults (O.outlet out.new).faults }
     ensures untaken { result ≡ GrainEnd.WriteFailed → door.new ≡ door.old }
     ensures most { (E.doorway door.new).given ≤ (E.doorway door.old).given + count }
 {

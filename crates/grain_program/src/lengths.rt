@@ -87,7 +87,8 @@ fn length_in(line: &[u8]) -> Option<&[u8]>
 }
 
 fn lines(alloc: Global, head: &[u8]) -> Result<Vec<&[u8]>, AllocError>
-    ensures { IfOk result (λ lines. map (λ line. line.now) lines.items ≡ slice_split (λ byte. byte == 10) head.now) }
+    ensures { IfOk result (λ lines. map (λ line. line.now) lines.items
+        ≡ slice_split (λ byte. byte == 10) head.now) }
 {
     head.split(|byte| *byte == b'\n').collect(alloc)
 }
@@ -114,8 +115,10 @@ fn is_digits(text: &[u8]) -> bool
 
 // The number of decimal digits; none where it is 2^64 or more, or where they are no digits.
 fn number(digits: &[u8]) -> Option<u64>
-    ensures some { IfSome result (λ n. (are_lengths (digits.now ∷ []) ≡ true) × (n ≡ digits_value 10 digits.now)) }
-    ensures none { IfNone result (are_lengths (digits.now ∷ []) ≡ true → 2 ^ 64 ≤ digits_value 10 digits.now) }
+    ensures some { IfSome result (λ n. (are_lengths (digits.now ∷ []) ≡ true)
+        × (n ≡ digits_value 10 digits.now)) }
+    ensures none { IfNone result (are_lengths (digits.now ∷ []) ≡ true
+        → 2 ^ 64 ≤ digits_value 10 digits.now) }
 {
     if !is_digits(digits) {
         return None;

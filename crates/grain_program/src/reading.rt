@@ -4,7 +4,7 @@ ghost use Rattle.host_base.specs.Outside.{Rose};
 ghost use Rattle.front_http.specs.Stream.{head_length};
 ghost use Rattle.front_http.specs.Pending.{GivesMore, HasNoEndBefore};
 ghost use Rattle.grain_program.specs.Stated.{text_of};
-ghost use Rattle.grain_program.specs.Reading.{HasHead, HasBytes};
+ghost use Rattle.grain_program.specs.Reading.{GotHead, HasBytes};
 
 use crate::lengths::{TEXT_LIMIT, text_length};
 use host_base::Source;
@@ -27,7 +27,8 @@ pub enum ReadFault {
 // Takes the next piece; whether one came.
 fn take_piece<I: Source>(input: &mut I, held: &mut Vec<u8>) -> Result<bool, ReadFault>
     ensures counts { (I.inlet input.old).faults ≤ (I.inlet input.new).faults }
-    ensures cause { IsErrOf result ReadFault.ReadFailed → Rose (I.inlet input.old).faults (I.inlet input.new).faults }
+    ensures cause { IsErrOf result ReadFault.ReadFailed
+        → Rose (I.inlet input.old).faults (I.inlet input.new).faults }
     ensures keeps { IfOk result (λ _. (more : List ℕ) × (held.new.items ≡ held.old.items ++ more)) }
     ensures grows { IfOk result (λ came. came ≡ true → length held.old.items < length held.new.items) }
     ensures given { (left : List ℕ) → (I.inlet input.old).left ≡ Some left →
@@ -61,10 +62,11 @@ fn find_head(bytes: &[u8], from: usize) -> Option<usize>
 fn read_head<I: Source>(input: &mut I, held: &mut Vec<u8>) -> Result<Option<usize>, ReadFault>
     requires { held.old.items ≡ [] }
     ensures counts { (I.inlet input.old).faults ≤ (I.inlet input.new).faults }
-    ensures cause { IsErrOf result ReadFault.ReadFailed → Rose (I.inlet input.old).faults (I.inlet input.new).faults }
+    ensures cause { IsErrOf result ReadFault.ReadFailed
+        → Rose (I.inlet input.old).faults (I.inlet input.new).faults }
     ensures within { IfOk result (λ found. IfSome found (λ n. n ≤ length held.new.items)) }
     ensures given { (bytes : List ℕ) → (I.inlet input.old).left ≡ Some bytes →
-        IfOk result (λ found. HasHead bytes found held.new.items (I.inlet input.new).left) }
+        IfOk result (λ found. GotHead bytes found held.new.items (I.inlet input.new).left) }
 {
     let mut from = 0;
     'pieces: loop {
@@ -86,7 +88,8 @@ fn read_head<I: Source>(input: &mut I, held: &mut Vec<u8>) -> Result<Option<usiz
 // Reads on until so many bytes are held; whether there were as many.
 fn read_on<I: Source>(input: &mut I, held: &mut Vec<u8>, length: usize) -> Result<bool, ReadFault>
     ensures counts { (I.inlet input.old).faults ≤ (I.inlet input.new).faults }
-    ensures cause { IsErrOf result ReadFault.ReadFailed → Rose (I.inlet input.old).faults (I.inlet input.new).faults }
+    ensures cause { IsErrOf result ReadFault.ReadFailed
+        → Rose (I.inlet input.old).faults (I.inlet input.new).faults }
     ensures given { (left : List ℕ) → (I.inlet input.old).left ≡ Some left →
         IfOk result (λ full. HasBytes length (held.old.items ++ left) full held.new.items (I.inlet input.new).left) }
 {
@@ -103,7 +106,8 @@ fn read_on<I: Source>(input: &mut I, held: &mut Vec<u8>, length: usize) -> Resul
 /// Reads the text of a connection; none where its bytes state none.
 pub fn read_text<I: Source>(alloc: Global, input: &mut I) -> Result<Option<Vec<u8>>, ReadFault>
     ensures counts { (I.inlet input.old).faults ≤ (I.inlet input.new).faults }
-    ensures cause { IsErrOf result ReadFault.ReadFailed → Rose (I.inlet input.old).faults (I.inlet input.new).faults }
+    ensures cause { IsErrOf result ReadFault.ReadFailed
+        → Rose (I.inlet input.old).faults (I.inlet input.new).faults }
     ensures text { (bytes : List ℕ) → (I.inlet input.old).left ≡ Some bytes →
         IfOk result (λ text. option_map (λ text. text.items) text ≡ text_of bytes) }
 {

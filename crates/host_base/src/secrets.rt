@@ -1,6 +1,6 @@
-ghost use Rattle.std.specs.Prelude.{◌≡◌, ◌≤◌, Some, IfOk, OnErr, is_ok, not, ◌&&◌, slice_get};
+ghost use Rattle.std.specs.Prelude.{◌≡◌, ◌≤◌, Some, IfOk, OnOk, OnErr, is_ok, not, ◌&&◌};
 ghost use Rattle.host_base.specs.CallCounts.{fails_next};
-ghost use Rattle.host_base.specs.Drawing.{Drawer, Draws, sequel, seq_secret, is_any_left, after_draw};
+ghost use Rattle.host_base.specs.Drawing.{Drawer, Draws, Listed, Counted, seq_secret, is_any_left, after_draw};
 ghost use Rattle.host_base.specs.Outside.{Rose};
 
 use crate::call_count::{CallCount, Fails};
@@ -20,6 +20,7 @@ pub trait Secrets {
     /// Draws the next secret. After a failure what is to come is unchanged.
     fn draw(&mut self) -> Result<[u8; 32], DrawFailed>
         ensures counts { (drawer self.old).faults ≤ (drawer self.new).faults }
+        ensures steady { OnOk result ((drawer self.new).faults ≡ (drawer self.old).faults) }
         ensures cause { OnErr result (Rose (drawer self.old).faults (drawer self.new).faults) }
         ensures drawn { IfOk result (Draws (drawer self.old).coming (drawer self.new).coming) }
         ensures kept { OnErr result ((drawer self.new).coming ≡ (drawer self.old).coming) };
@@ -67,7 +68,7 @@ fn seq_secret(number: u32) -> [u8; 32]
 }
 
 impl Secrets for SeqSecrets {
-    ghost drawer = { λ drawn. record { faults = 0; coming = Some (sequel drawn) } };
+    ghost drawer = { λ drawn. record { faults = 0; coming = Some (Counted drawn) } };
 
     fn draw(&mut self) -> Result<[u8; 32], DrawFailed> {
         self.drawn = self.drawn.wrapping_add(1);
@@ -95,7 +96,10 @@ impl Model for ListSecrets {
 impl ListSecrets {
     /// The secrets of a list.
     pub fn new(secrets: List<[u8; 32]>, fails: Fails) -> Self
-        ensures { result ≡ record { left = secrets; count = record { calls = 0; faults = 0; listed = fails } } }
+        ensures { result ≡ record {
+          left = secrets;
+          count = record { calls = 0; faults = 0; listed = fails };
+        } }
     {
         ListSecrets {
             secrets,
@@ -113,13 +117,14 @@ impl ListSecrets {
 }
 
 impl Secrets for ListSecrets {
-    ghost drawer = { λ s. record { faults = s.count.faults; coming = Some (slice_get s.left) } };
+    ghost drawer = { λ s. record { faults = s.count.faults; coming = Some (Listed s.left) } };
 
     fn draw(&mut self) -> Result<[u8; 32], DrawFailed>
         ensures counts { self.old.count.faults ≤ self.new.count.faults }
+        ensures steady { OnOk result (self.new.count.faults ≡ self.old.count.faults) }
         ensures cause { OnErr result (Rose self.old.count.faults self.new.count.faults) }
-        ensures drawn { IfOk result (Draws (Some (slice_get self.old.left)) (Some (slice_get self.new.left))) }
-        ensures kept { OnErr result (Some (slice_get self.new.left) ≡ Some (slice_get self.old.left)) }
+        ensures drawn { IfOk result (Draws (Some (Listed self.old.left)) (Some (Listed self.new.left))) }
+        ensures kept { OnErr result (Some (Listed self.new.left) ≡ Some (Listed self.old.left)) }
 
         // It fails exactly where the call is listed or nothing is left, which counts one fault.
         ensures listed { is_ok result ≡ (not (fails_next self.old.count) && is_any_left self.old.left) }

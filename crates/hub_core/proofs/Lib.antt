@@ -6,3 +6,4 @@ pub mod Storing
 pub mod Opened
 pub mod Outwards
 pub mod Revoking
+pub mod BookOrders

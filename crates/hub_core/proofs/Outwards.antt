@@ -1,5 +1,5 @@
 -- What telling the keeper or the spawner comes to.
-use Rattle.std.proofs.Common.{◌≡◌, ℕ, ◌≤◌, List, [], ◌++◌, Some, Result, Ok, Err, refl, sym, ◌∙◌, ap, arith, append-nil}
+use Rattle.std.proofs.Common.{◌≡◌, ℕ, ◌≤◌, List, [], ◌∷◌, ◌++◌, Some, Result, Ok, Err, refl, sym, ◌∙◌, ap, arith, append-nil}
 use Rattle.std.specs.Prelude.{⊤, IfErr}
 use Rattle.host_base.specs.Outside.{Rose}
 use Rattle.host_base.specs.declared.ids.RunId.{RunId}
@@ -10,10 +10,9 @@ use Rattle.grain_supervise.specs.declared.start.Start.{Start}
 use Rattle.grain_supervise.specs.Spawning.{Spawns}
 use Rattle.desk_orders.specs.declared.reply.OrderFault.{OrderFault}
 use Rattle.desk_orders.specs.declared.reply.OrderFault.TheVariants as fault
-use Rattle.desk_orders.specs.Answers.{IsOfTables}
-use Rattle.hub_core.specs.Adding.{IsOuter, IsStartOrMemory, IsStoreOrMemory, Starts, Tells}
-use Rattle.hub_core.specs.Spawning.{ToldOf, starts_of, stops_of}
-use Rattle.hub_core.specs.Storing.{Outer}
+use Rattle.share_graph.specs.History.{IsOfTables}
+use Rattle.hub_core.specs.Inner.Adding.{Outer, IsOuter, IsStartOrMemory, IsStoreOrMemory, Starts, TellsOuter}
+use Rattle.hub_core.specs.Spawning.{Spawned, starts_of, stops_of}
 
 abbrev with : Spawns → Keeping → Outer
 with spawns keeping = record { spawns = spawns; keeping = keeping }
@@ -55,15 +54,17 @@ no_stops (event.Claimed grant handle) is = refl
 no_stops (event.SavedDropped v) is = refl
 
 -- an event of the tables wants nothing of the spawner
-wants_none : (spawns : Spawns) (e : Event) (token : List ℕ) → IsOfTables e → ToldOf spawns spawns e token
+wants_none : (spawns : Spawns) (e : Event) (token : List ℕ) → IsOfTables e → Spawned spawns spawns token (e ∷ [])
 wants_none spawns e token is = record {
-  starts = λ told was. was ∙ ap (λ (xs : List Start). Some xs) (sym (ap (λ (xs : List Start). told ++ xs) (no_starts e token is) ∙ append-nil told));
-  stops = λ told was. was ∙ ap (λ (xs : List RunId). Some xs) (sym (ap (λ (xs : List RunId). told ++ xs) (no_stops e is) ∙ append-nil told));
+  starts = λ told was.
+      was ∙ ap (λ (xs : List Start). Some xs) (sym (ap (λ (xs : List Start). told ++ (xs ++ [])) (no_starts e token is) ∙ append-nil told));
+  stops = λ told was.
+      was ∙ ap (λ (xs : List RunId). Some xs) (sym (ap (λ (xs : List RunId). told ++ (xs ++ [])) (no_stops e is) ∙ append-nil told));
 }
 
 -- the keeper was told
 pub tells_kept : (spawns : Spawns) (k k' : Keeping) (e : Event) (token : List ℕ) (result : Result ⊤ OrderFault) → IsOfTables e → k.faults ≤ k'.faults
-    → IfErr result (λ why. why ≡ fault.Store → Rose k.faults k'.faults) → IfErr result IsStoreOrMemory → Tells (with spawns k) (with spawns k') e token result
+    → IfErr result (λ why. why ≡ fault.Store → Rose k.faults k'.faults) → IfErr result IsStoreOrMemory → TellsOuter (with spawns k) (with spawns k') e token result
 tells_kept spawns k k' e token (Ok done) is counts cause fault_is = record { told = wants_none spawns e token is; counts = omega arith; counts_store = counts }
 tells_kept spawns k k' e token (Err fault.Store) is counts cause fault_is = record {
   untold = record { starts = refl; stops = refl };
@@ -97,7 +98,7 @@ not_stored fault.Store is e = absurd is
 not_stored fault.Secrets is e = absurd is
 
 -- the spawner was told, or nobody
-pub tells_started : (spawns spawns' : Spawns) (k : Keeping) (e : Event) (token : List ℕ) (result : Result ⊤ OrderFault) → Starts spawns spawns' e token result → Tells (with spawns k) (with spawns' k) e token result
+pub tells_started : (spawns spawns' : Spawns) (k : Keeping) (e : Event) (token : List ℕ) (result : Result ⊤ OrderFault) → Starts spawns spawns' e token result → TellsOuter (with spawns k) (with spawns' k) e token result
 tells_started spawns spawns' k e token (Ok done) s = record { told = s.told; counts = s.counts; counts_store = omega arith }
 tells_started spawns spawns' k e token (Err why) s = record {
   untold = s.untold;

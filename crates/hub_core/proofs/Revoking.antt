@@ -33,7 +33,7 @@ use Rattle.share_graph.proofs.Apart.{bearer_one, key_one, run_token_one}
 use Rattle.share_graph.proofs.MissingOne.{lacks_none}
 use Rattle.share_graph.proofs.RevokingLaw.{revoking_law}
 use Rattle.session_table.specs.Standing.{Standing, behind_session, behind_grant, node_behind}
-use Rattle.session_table.specs.Verdict.{IsPermit, Stands, EndsAt, Reaches, IsVerdict}
+use Rattle.session_table.specs.Verdict.{IsPermit, Stands, VerdictAtEnd, Reaches, IsVerdict}
 use Rattle.session_table.proofs.VerdictOne.{handle_one}
 use Rattle.state_step.specs.Losing.{RevokesExactly, ShutsOut, LeavesTheRest}
 use Rattle.state_step.proofs.AfterAll.{replay_appended, revokes_exactly, shuts_out, leaves_the_rest}
@@ -84,7 +84,7 @@ stood u standing v (inr (held, inr (run, one, (permit, is, fits)))) = record {
       (standing, run, refl, subst (λ (p : Permit). IsPermit u standing run p) one fits));
 }
 
-ended : (u : State) (g : GrantId) (grant : Grant) (end : Origin) (v : Verdict) → EndsAt u g grant end v → Stood u (node.Grant g) v
+ended : (u : State) (g : GrantId) (grant : Grant) (end : Origin) (v : Verdict) → VerdictAtEnd u g grant end v → Stood u (node.Grant g) v
 ended u g grant (origin.Account a) v stands = stood u (behind_grant g grant) v stands
 ended u g grant (origin.Site by tag item) v (inl lacks) = lacking u (node.Grant g) v lacks
 ended u g grant (origin.Site by tag item) v (inr (held, is)) = record {

@@ -2,7 +2,7 @@
 use Rattle.std.proofs.Common.{◌≡◌, List, Option, Some, None, Result, Ok, Err, refl, sym, ◌∙◌, ap, subst}
 use Rattle.std.specs.Prelude.{⊤, OnOk, OnErr}
 use Rattle.cloud_keeper.specs.declared.row.Row.{Row}
-use Rattle.cloud_keeper.specs.Keeping.{Keeping, Follows, put}
+use Rattle.cloud_keeper.specs.Keeping.{Keeping, RowsFollow, put}
 use Rattle.share_graph.specs.declared.event.Event.{Event}
 use Rattle.share_graph.specs.declared.event.Event.TheVariants as event
 use Rattle.share_graph.specs.declared.state.State.{State}
@@ -11,13 +11,12 @@ use Rattle.share_graph.specs.EventFits.{EventFits}
 use Rattle.share_graph.specs.History.{after, tables_after}
 use Rattle.share_graph.specs.WellFormed.{IsWellFormed}
 use Rattle.desk_orders.specs.declared.reply.OrderFault.{OrderFault}
-use Rattle.row_tables.specs.Kept.{AreRowsOf, with_row}
+use Rattle.row_tables.specs.Kept.{AreRowsOf, with_row, IsStored}
 use Rattle.row_tables.specs.RowAfter.{row_after}
-use Rattle.hub_core.specs.Adding.{HasItsRow, KeepsRows, Stores}
-use Rattle.hub_core.specs.Storing.{IsStored}
+use Rattle.hub_core.specs.Inner.Adding.{HasItsRow, KeepsRows, StoresRow}
 
 -- a keeper that wasn't called
-pub follows_self : (k : Keeping) → Follows k k (λ rows. rows)
+pub follows_self : (k : Keeping) → RowsFollow k k (λ rows. rows)
 follows_self k = record { told = λ rows is. (rows, is, refl) }
 
 -- only an event of the tables has a row
@@ -60,7 +59,7 @@ tables_of_after s (event.Claimed grant handle) = refl
 tables_of_after s (event.SavedDropped v) = refl
 
 -- nothing was kept
-pub stored_same : (k k' : Keeping) (t u : Tables) → Follows k k' (λ rows. rows) → u ≡ t → IsStored k t → IsStored k' u
+pub stored_same : (k k' : Keeping) (t u : Tables) → RowsFollow k k' (λ rows. rows) → u ≡ t → IsStored k t → IsStored k' u
 stored_same k k' t u follows same stored =
     subst (λ (v : Tables). IsStored k' v) (sym same)
     (record {
@@ -70,7 +69,7 @@ stored_same k k' t u follows same stored =
     })
 
 -- the row of an event was kept
-pub stored_after : (k k' : Keeping) (s u : State) (e : Event) (row : Option Row) → IsWellFormed s → EventFits s e → KeepsRows s.tables e row → Follows k k' (with_row row) → u ≡ after s e → IsStored k s.tables → IsStored k' u.tables
+pub stored_after : (k k' : Keeping) (s u : State) (e : Event) (row : Option Row) → IsWellFormed s → EventFits s e → KeepsRows s.tables e row → RowsFollow k k' (with_row row) → u ≡ after s e → IsStored k s.tables → IsStored k' u.tables
 stored_after k k' s u e row formed fits keeps follows is stored =
     subst (λ (v : Tables). IsStored k' v) (sym (ap (λ (v : State). v.tables) is ∙ tables_of_after s e))
     (record {
@@ -80,11 +79,11 @@ stored_after k k' s u e row formed fits keeps follows is stored =
     })
 
 -- nobody was told of a row
-pub stores_none : (k : Keeping) (result : Result ⊤ OrderFault) → Stores k k None result
+pub stores_none : (k : Keeping) (result : Result ⊤ OrderFault) → StoresRow k k None result
 stores_none k (Ok done) = follows_self k
 stores_none k (Err why) = follows_self k
 
 -- the row was handed to the keeper
-pub stores_row : (k k' : Keeping) (row : Row) (result : Result ⊤ OrderFault) → OnOk result (Follows k k' (put row)) → OnErr result (Follows k k' (λ rows. rows)) → Stores k k' (Some row) result
+pub stores_row : (k k' : Keeping) (row : Row) (result : Result ⊤ OrderFault) → OnOk result (RowsFollow k k' (put row)) → OnErr result (RowsFollow k k' (λ rows. rows)) → StoresRow k k' (Some row) result
 stores_row k k' row (Ok done) kept same = kept
 stores_row k k' row (Err why) kept same = same

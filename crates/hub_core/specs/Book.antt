@@ -1,11 +1,15 @@
 -- What a desk tells; the verdict on a key, and the answer to an order, at one place of its history.
-use Rattle.std.specs.Prelude.{◌≡◌, ℕ, Bool, ◌+◌, ◌≤◌, ◌++◌, List, Option, Result, Ok, Err, length}
+use Rattle.std.specs.Prelude.{◌≡◌, ℕ, Bool, ◌+◌, ◌≤◌, ◌++◌, List, Option, Result, Err, length}
+use Rattle.host_base.specs.Drawing.{Drawer}
 use Rattle.host_base.specs.declared.key.Key.{Key}
 use Rattle.host_base.specs.declared.verdict.Verdict.{Verdict}
 use Rattle.host_base.specs.Outside.{Rose}
 use Rattle.share_graph.specs.declared.state.State.{State}
 use Rattle.share_graph.specs.declared.event.Event.{Event}
 use Rattle.share_graph.specs.History.{replay}
+use Rattle.share_graph.specs.WellFormed.{IsWellFormed}
+use Rattle.cloud_keeper.specs.Keeping.{Keeping}
+use Rattle.grain_supervise.specs.Spawning.{Spawns}
 use Rattle.session_table.specs.Verdict.{IsVerdict}
 use Rattle.desk_orders.specs.Commands.{Asked}
 use Rattle.desk_orders.specs.declared.reply.OrderFault.{OrderFault}
@@ -15,42 +19,60 @@ use Rattle.desk_orders.specs.Answers.{IsAnswer}
 use Rattle.desk_orders.specs.Secrets.{DrawsAll}
 use Rattle.site_caps.specs.Law.{Law}
 use Rattle.desk_orders.specs.Sites.{IsFoundBy}
+use Rattle.hub_core.specs.Spawning.{Spawned, Untold, token_of}
+use Rattle.row_tables.specs.Kept.{IsStored}
 
--- What a desk tells: the law of its sites, the state that its history began with, the entries of the history that it has seen, how many commands it
--- accepted, how often its store, its secrets and its spawner failed, and the secrets still to come, where that is told.
+-- What the objects that a desk works with tell: the keeper of its rows, the secrets that are drawn for it, and the
+-- spawner of its runs.
+pub record Backing : Type 0 where
+  pub keeping : Keeping
+  pub drawer : Drawer
+  pub spawns : Spawns
+
+-- What a desk tells: the law of its sites, the state that its history began with, the entries of the history that it has
+-- seen, how many commands it accepted, and what its objects tell.
 pub record Book : Type 0 where
   pub law : Law
   pub start : State
   pub seen : List Event
   pub accepted : ℕ
-  pub store_faults : ℕ
-  pub secret_faults : ℕ
-  pub start_faults : ℕ
-  pub coming : Option (ℕ → Option (List ℕ))
+  pub holds : Backing
 
--- The same law and the same history, seen as far as before or further. No number falls.
+-- No count of faults fell.
+pub record CountsOn (old new : Backing) : Type 0 where
+  pub store : old.keeping.faults ≤ new.keeping.faults
+  pub secrets : old.drawer.faults ≤ new.drawer.faults
+  pub starts : old.spawns.faults ≤ new.spawns.faults
+
+-- THE KEEPER HAS THE TABLES at the end of what was seen, where it tells its rows.
+abbrev pub HasTables : Book → Type 0
+HasTables book = IsStored book.holds.keeping (replay book.start book.seen).tables
+
+-- The same law and the same history, seen as far as before or further. No count falls, and a keeper that had the tables
+-- has them.
 pub record Later (old new : Book) : Type 0 where
   pub law : new.law ≡ old.law
   pub start : new.start ≡ old.start
   pub more : List Event
   pub seen : new.seen ≡ old.seen ++ more
-  pub store : old.store_faults ≤ new.store_faults
-  pub secrets : old.secret_faults ≤ new.secret_faults
-  pub starts : old.start_faults ≤ new.start_faults
+  pub counts : CountsOn old.holds new.holds
+  pub stored : HasTables old → HasTables new
 
--- No command was accepted, and no secret drawn.
+-- No command was accepted, no secret drawn, and no run started or stopped.
 pub record TakesNone (old new : Book) : Type 0 where
   pub later : Later old new
   pub accepted : new.accepted ≡ old.accepted
-  pub coming : new.coming ≡ old.coming
+  pub undrawn : new.holds.drawer.coming ≡ old.holds.drawer.coming
+  pub untold : Untold old.holds.spawns new.holds.spawns
 
--- The verdict on a key at one place of what was seen, at least `low`.
+-- The verdict on a key at one place of what was seen, at least `low`, by the state there, which is well formed.
 pub record Judged (low : ℕ) (book : Book) (key : Key) (place : ℕ) (verdict : Verdict) : Type 0 where
   pub before : List Event
   pub rest : List Event
   pub seen : book.seen ≡ before ++ rest
   pub place_is : place ≡ length before
   pub low_is : low ≤ place
+  pub formed : IsWellFormed (replay book.start before)
   pub verdict_is : IsVerdict (replay book.start before) key verdict
 
 -- What the sites have of what an order chooses. For want of memory it may be said to be anything, which nobody reads.
@@ -58,33 +80,35 @@ abbrev pub IsFoundFor : Law → State → Asked → Result Reply OrderFault → 
 IsFoundFor law s order (Err fault.Memory) found = Unit {0}
 IsFoundFor law s order answer found = IsFoundBy law s order.caller order.command found
 
--- The answer to an order at one place of what was seen, at least `low`: it is lawful by the state there, with what the sites have of what the
--- order chooses, and what the order adds is the entry at that place.
-pub record Placed (low : ℕ) (book : Book) (order : Asked) (place : ℕ) (answer : Result Reply OrderFault) (drawn : List (List ℕ)) (added : List Event) : Type 0 where
+-- The answer to an order at one place of what was seen, at least `low`: it is lawful by the state there, which is well
+-- formed, with what the sites have of what the order chooses, and what the order adds is the entry at that place.
+pub record Placed (low : ℕ) (book : Book) (order : Asked) (place : ℕ) (answer : Result Reply OrderFault)
+    (drawn : List (List ℕ)) (added : List Event) : Type 0 where
   pub before : List Event
   pub rest : List Event
   pub seen : book.seen ≡ (before ++ added) ++ rest
   pub place_is : place ≡ length before
   pub low_is : low ≤ place
+  pub formed : IsWellFormed (replay book.start before)
   pub found : Option Bool
   pub found_is : IsFoundFor book.law (replay book.start before) order answer found
   pub lawful : IsAnswer book.law (replay book.start before) place found order answer drawn added
 
 -- a fault that is answered was counted
-abbrev pub IsCounted : Book → Book → Result Reply OrderFault → Type 0
-IsCounted old new (Err fault.Store) = Rose old.store_faults new.store_faults
-IsCounted old new (Err fault.Secrets) = Rose old.secret_faults new.secret_faults
-IsCounted old new (Err fault.Start) = Rose old.start_faults new.start_faults
-IsCounted old new (Err fault.Memory) = Unit {0}
-IsCounted old new (Ok reply) = Unit {0}
+abbrev pub IsCounted : Backing → Backing → Result Reply OrderFault → Type 0
+IsCounted old new (Err fault.Store) = Rose old.keeping.faults new.keeping.faults
+IsCounted old new (Err fault.Secrets) = Rose old.drawer.faults new.drawer.faults
+IsCounted old new (Err fault.Start) = Rose old.spawns.faults new.spawns.faults
+IsCounted old new _ = Unit {0}
 
--- An order was answered: at a place that isn't before what was seen, with the secrets that were drawn for it and the entries that
--- it added, which are the commands that were accepted.
+-- An order was answered: at a place that isn't before what was seen, with the secrets that were drawn for it and the
+-- entries that it added, which are the commands that were accepted; the spawner was told what these want and no more.
 pub record Ordered (old new : Book) (order : Asked) (place : ℕ) (answer : Result Reply OrderFault) : Type 0 where
   pub drawn : List (List ℕ)
   pub added : List Event
   pub later : Later old new
   pub placed : Placed (length old.seen) new order place answer drawn added
   pub accepted : new.accepted ≡ old.accepted + length added
-  pub draws : DrawsAll old.coming new.coming drawn
-  pub counted : IsCounted old new answer
+  pub draws : DrawsAll old.holds.drawer.coming new.holds.drawer.coming drawn
+  pub spawned : Spawned old.holds.spawns new.holds.spawns (token_of order drawn) added
+  pub counted : IsCounted old.holds new.holds answer

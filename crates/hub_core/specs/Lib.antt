@@ -1,9 +1,7 @@
 pub mod Book
 pub mod Spawning
-pub mod Storing
-pub mod Listing
-pub mod Giving
 pub mod Sharing
-pub mod Adding
 pub mod Opening
 pub mod Revoking
+pub mod Wanting
+pub mod Inner

@@ -2,11 +2,12 @@
 use Rattle.std.specs.Prelude.{◌≡◌, ◌≤◌, List, [], Some, Ok}
 use Rattle.host_base.specs.Outside.{Rose}
 use Rattle.cloud_keeper.specs.declared.row.Row.{Row}
-use Rattle.cloud_keeper.specs.Keeping.{Keeping, Follows}
+use Rattle.cloud_keeper.specs.Keeping.{Keeping, RowsFollow}
 use Rattle.share_graph.specs.declared.state.State.{State}
 use Rattle.share_graph.specs.declared.state.Tables.{Tables}
 use Rattle.row_tables.specs.Checks.{GivesTables, IsBadRow}
 use Rattle.row_tables.specs.declared.stored.BadRow.{BadRow}
+use Rattle.hub_core.specs.Book.{Backing}
 use Rattle.hub_core.specs.Sharing.{Sharing}
 use Rattle.hub_core.specs.declared.opening.OpenFault.{OpenFault}
 use Rattle.hub_core.specs.declared.opening.OpenFault.TheVariants as open_fault
@@ -32,23 +33,20 @@ pub record HasCause (old new : Keeping) (fault : OpenFault) : Type 0 where
   pub store : fault ≡ open_fault.Store → Rose old.faults new.faults
   pub bad_row : (bad : BadRow) → fault ≡ open_fault.BadRow bad → HasBadRow old bad
 
--- A HISTORY IS OPENED on the rows of a keeper: it begins with the tables that they state, and has no entry. The keeper's rows stay as they were, and its count
--- doesn't fall.
-pub record IsOpenedOn {K S P C : Type 0} (keeping keeping' : Keeping) (secrets : S) (spawner : P) (sites : List C) (locked : Sharing K S P C) : Type 0 where
+-- A HISTORY IS OPENED on the rows of a keeper: it begins with the tables that they state, and has no entry. The keeper's
+-- rows stay as they were, and its count doesn't fall; nothing else was touched.
+pub record IsOpenedOn (holds : Backing) (opened_on : Sharing) : Type 0 where
   pub tables : Tables
-  pub loaded : AreLoaded keeping tables
-  pub counts : keeping.faults ≤ keeping'.faults
-  pub kept : Follows keeping keeping' (λ rows. rows)
-  pub start : locked.start ≡ opened tables
-  pub history : locked.history ≡ []
-  pub secrets_are : locked.secrets ≡ secrets
-  pub spawner_is : locked.spawner ≡ spawner
-  pub sites_are : locked.sites ≡ sites
+  pub loaded : AreLoaded holds.keeping tables
+  pub counts : holds.keeping.faults ≤ opened_on.holds.keeping.faults
+  pub kept : RowsFollow holds.keeping opened_on.holds.keeping (λ rows. rows)
+  pub start : opened_on.start ≡ opened tables
+  pub history : opened_on.history ≡ []
+  pub others : opened_on.holds ≡ record holds { keeping = opened_on.holds.keeping }
 
--- It isn't opened, for a cause, and the objects are handed back. The keeper's rows stay as they were, and its count doesn't fall.
-pub record IsClosedOn {S P : Type 0} (old new : Keeping) (secrets secrets' : S) (spawner spawner' : P) (fault : OpenFault) : Type 0 where
-  pub cause : HasCause old new fault
-  pub counts : old.faults ≤ new.faults
-  pub kept : Follows old new (λ rows. rows)
-  pub secrets_are : secrets' ≡ secrets
-  pub spawner_is : spawner' ≡ spawner
+-- It isn't opened, for a cause, and the objects are handed back.
+pub record IsClosedOn (old new : Backing) (fault : OpenFault) : Type 0 where
+  pub cause : HasCause old.keeping new.keeping fault
+  pub counts : old.keeping.faults ≤ new.keeping.faults
+  pub kept : RowsFollow old.keeping new.keeping (λ rows. rows)
+  pub others : new ≡ record old { keeping = new.keeping }

@@ -1,5 +1,6 @@
 -- What a spawner is told of what happens to the runs of grains.
 use Rattle.std.specs.Prelude.{◌≡◌, ◌++◌, ℕ, List, [], ◌∷◌, Some}
+use Rattle.std.specs.List.{flat_map}
 use Rattle.host_base.specs.declared.ids.RunId.{RunId}
 use Rattle.share_graph.specs.declared.event.Event.{Event}
 use Rattle.share_graph.specs.declared.event.Event.TheVariants as event
@@ -18,10 +19,21 @@ abbrev pub stops_of : Event → List RunId
 stops_of (event.RunStopped r) = r ∷ []
 stops_of _ = []
 
--- The spawner was told what an event wants, and nothing else.
-pub record ToldOf (old new : Spawns) (e : Event) (token : List ℕ) : Type 0 where
-  pub starts : (told : List Start) → old.starts ≡ Some told → new.starts ≡ Some (told ++ starts_of e token)
-  pub stops : (told : List RunId) → old.stops ≡ Some told → new.stops ≡ Some (told ++ stops_of e)
+-- the starts and the stops that entries want, in their order
+abbrev pub starts_by : List ℕ → List Event → List Start
+starts_by token entries = flat_map (λ e. starts_of e token) entries
+
+abbrev pub stops_by : List Event → List RunId
+stops_by entries = flat_map stops_of entries
+
+-- The spawner was told these starts and stops, and nothing else.
+pub record WasTold (old new : Spawns) (starts_now : List Start) (stops_now : List RunId) : Type 0 where
+  pub starts : (told : List Start) → old.starts ≡ Some told → new.starts ≡ Some (told ++ starts_now)
+  pub stops : (told : List RunId) → old.stops ≡ Some told → new.stops ≡ Some (told ++ stops_now)
+
+-- It was told what entries want, and nothing else.
+abbrev pub Spawned : Spawns → Spawns → List ℕ → List Event → Type 0
+Spawned old new token entries = WasTold old new (starts_by token entries) (stops_by entries)
 
 -- The spawner was told nothing.
 pub record Untold (old new : Spawns) : Type 0 where
@@ -32,8 +44,3 @@ pub record Untold (old new : Spawns) : Type 0 where
 abbrev pub token_of : Asked → List (List ℕ) → List ℕ
 token_of order [] = []
 token_of order (secret ∷ rest) = secret_text order.command secret
-
--- what the spawner was told of the entries that an order added
-abbrev pub Spawned : Spawns → Spawns → List ℕ → List Event → Type 0
-Spawned old new token [] = Untold old new
-Spawned old new token (e ∷ rest) = ToldOf old new e token

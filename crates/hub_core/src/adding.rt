@@ -8,8 +8,8 @@ ghost use Rattle.live_access.specs.Kept.{IsSolvedFor};
 ghost use Rattle.live_access.specs.Ready.{IsReadyFor};
 ghost use Rattle.row_tables.specs.RowAfter.{AddsNext};
 ghost use Rattle.state_step.specs.Staging.{event_of, HasRoomFor};
-ghost use Rattle.hub_core.specs.Adding.{Adds, HasItsRow, KeepsRows};
-ghost use Rattle.hub_core.specs.Storing.{IsStored};
+ghost use Rattle.hub_core.specs.Inner.Adding.{AddsEntry, HasItsRow, KeepsRows};
+ghost use Rattle.row_tables.specs.Kept.{IsStored};
 
 use crate::telling::tell;
 use cloud_keeper::{Keeper, Row};
@@ -85,7 +85,8 @@ fn make_ready(
 // are each let go in sixteen ways: a call of its own keeps a proof from going through both together.
 fn take_back(solution: &mut Solution, _staged: Staged, region: Region)
     requires { (s : State) × (e : Event) × IsReadyFor s e solution.old region }
-    ensures { (s : State) (e : Event) → IsReadyFor s e solution.old region → IsSolvedFor s.tables solution.new }
+    ensures { (s : State) (e : Event) → IsReadyFor s e solution.old region
+        → IsSolvedFor s.tables solution.new }
 {
     solution.take_back(region);
 }
@@ -131,9 +132,11 @@ pub fn add_entry<K: Keeper, P: Spawner>(
     ensures solved { OnOk result (IsSolvedFor state.new.tables solution.new) }
     ensures same_state { OnErr result (state.new ≡ state.old) }
     ensures same_solved { OnErr result (IsSolvedFor state.old.tables solution.new) }
-    ensures stored { IsStored (K.keeping keeper.old) state.old.tables → IsStored (K.keeping keeper.new) state.new.tables }
-    ensures adds { Adds entries.old.items entries.new.items
-        (record { spawns = P.spawns spawner.old; keeping = K.keeping keeper.old }) (record { spawns = P.spawns spawner.new; keeping = K.keeping keeper.new })
+    ensures stored { IsStored (K.keeping keeper.old) state.old.tables
+        → IsStored (K.keeping keeper.new) state.new.tables }
+    ensures adds { AddsEntry entries.old.items entries.new.items
+        (record { spawns = P.spawns spawner.old; keeping = K.keeping keeper.old })
+        (record { spawns = P.spawns spawner.new; keeping = K.keeping keeper.new })
         event token.now result }
 {
     let Ready {

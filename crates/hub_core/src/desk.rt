@@ -1,6 +1,6 @@
 ghost use Rattle.std.specs.Prelude.{◌≡◌, length, IfOk};
 ghost use Rattle.hub_core.specs.Book.{Book, TakesNone, Judged, Ordered};
-ghost use Rattle.hub_core.specs.Giving.{Gives};
+ghost use Rattle.site_caps.specs.Answering.{GivesText};
 
 use desk_orders::{Order, OrderFault, Reply};
 use host_base::{Key, Memory, Verdict};
@@ -18,7 +18,8 @@ pub trait Desk {
     /// The verdict on a key, and its place in the history. No command is accepted by it.
     fn verdict(&mut self, alloc: Global, key: &Key) -> Result<(u64, Verdict), Memory>
         ensures none { TakesNone (book self.old) (book self.new) }
-        ensures judged { IfOk result (λ r. Judged (length (book self.old).seen) (book self.new) key.now r.0 r.1) };
+        ensures judged { IfOk result (λ r.
+            Judged (length (book self.old).seen) (book self.new) key.now r.0 r.1) };
 
     /// Answers an order, at a place of the history: where it changes something, its event is the entry at that place.
     fn order(&mut self, alloc: Global, order: Order) -> (u64, Result<Reply, OrderFault>)
@@ -27,5 +28,5 @@ pub trait Desk {
     /// What the site of a tag gives for an item, by the law of the sites. No command is accepted by it.
     fn site(&mut self, alloc: Global, tag: u64, item: u32) -> Result<SiteText, SiteFault>
         ensures none { TakesNone (book self.old) (book self.new) }
-        ensures gives { Gives (book self.old).law tag item result };
+        ensures gives { GivesText (book self.old).law tag item result };
 }

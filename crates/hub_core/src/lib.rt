@@ -1,16 +1,21 @@
-//! The hub: one value that holds the state, its history and what each node holds, and answers keys and orders by them.
+//! The hub: one value that holds a history and what each node holds at its end, and answers keys and orders by that.
 #![tactic(auto)]
 
 mod adding;
 mod answering;
 mod desk;
+mod held;
+mod history;
 mod locked;
 mod opening;
+mod shared;
 mod solo;
 mod telling;
 
 pub use desk::Desk;
 pub use desk_orders::{Command, Listing, Order, OrderFault, Reply};
+pub use held::{Held, Holding};
 pub use locked::Locked;
 pub use opening::{NotOpened, OpenFault};
+pub use shared::{Told, Wanted};
 pub use solo::SoloDesk;

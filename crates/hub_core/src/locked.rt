@@ -1,122 +1,92 @@
-//! One value that holds the state, its history and what each node holds.
+//! One value that holds a history, the objects beside it, and the sites.
 
-ghost use Rattle.std.specs.Prelude.{◌≡◌, ◌<◌, [], length, true, false, IfOk, IfErr};
+ghost use Rattle.std.specs.Prelude.{◌≡◌, ◌<◌, ◌≤◌, [], length, true, false, IfOk, IfErr};
 ghost use Rattle.share_graph.specs.History.{replay};
 ghost use Rattle.share_graph.specs.WellFormed.{IsWellFormed};
 ghost use Rattle.least_access.specs.Solved.{IsSolutionOf};
 ghost use Rattle.session_table.specs.Verdict.{IsVerdict};
-ghost use Rattle.live_access.specs.Kept.{IsSolvedFor};
-ghost use Rattle.hub_core.specs.Opening.{IsOpenedOn, IsClosedOn};
 ghost use Rattle.desk_orders.specs.Commands as commands;
 ghost use Rattle.desk_orders.specs.Listing.{IsListed};
-ghost use Rattle.hub_core.specs.Giving.{Gives};
-ghost use Rattle.hub_core.specs.Listing.{reply_of};
+ghost use Rattle.hub_core.specs.Book.{Ordered};
+ghost use Rattle.site_caps.specs.Answering.{GivesText};
+ghost use Rattle.hub_core.specs.Inner.Answering.{AnsweredBy, reply_of};
+ghost use Rattle.hub_core.specs.Opening.{IsOpenedOn, IsClosedOn};
 ghost use Rattle.hub_core.specs.Revoking.{TakesAway, Spares};
-ghost use Rattle.hub_core.specs.Sharing.{AnsweredBy};
-ghost use Rattle.hub_core.specs.Storing.{IsStored};
+ghost use Rattle.hub_core.specs.Sharing.{book_of};
+ghost use Rattle.row_tables.specs.Kept.{IsStored};
 
 use crate::answering::answer_with_sites;
+use crate::held::{Held, Holding};
+use crate::history::History;
 use crate::opening::{NotOpened, OpenFault, load_tables};
-use cloud_keeper::Keeper;
 use desk_orders::{Order, OrderFault, Reply, list_options, lists};
-use grain_supervise::Spawner;
-use host_base::{Key, Memory, Secrets, Verdict};
+use host_base::{Key, Memory, Verdict};
 use least_access::Solved;
-use live_access::{Solution, solve};
 use session_table::verdict;
-use share_graph::{DeskFault, Event, Rows, State, Tables, copy_of};
+use share_graph::{DeskFault, Rows, State, Tables};
 use site_caps::{Registry, SiteDriver, SiteFault, SiteText};
 use std::alloc::Global;
 use std::marker::Model;
 
-/// The state, its history and what each node holds, with the keeper of its rows, the secrets that are drawn for it, the spawner of its runs
-/// and the drivers of its sites. It is what one holds who has the lock.
-pub struct Locked<K: Keeper, S, P, C: SiteDriver> {
-    start: State,
-    state: State,
-    solution: Solution,
-    history: Vec<Event>,
-    keeper: K,
-    secrets: S,
-    spawner: P,
+/// A history with what stands at its end, the objects that a desk works with, and the drivers of its sites. It is what one
+/// holds who has the lock.
+pub struct Locked<H: Holding, C: SiteDriver> {
+    history: History,
+    held: Held<H>,
     sites: Registry<C>,
 }
 
 // Written by hand, as that of `State` is.
-impl<K: Keeper + Drop, S: Drop, P: Drop, C: SiteDriver + Drop> Drop for Locked<K, S, P, C> {
+impl<H: Holding, C: SiteDriver + Drop> Drop for Locked<H, C> {
     fn drop(self) {
         let Locked {
-            start: _,
-            state: _,
-            solution: _,
             history: _,
-            keeper: _,
-            secrets: _,
-            spawner: _,
+            held: _,
             sites: _,
         } = self;
     }
 }
 
-impl<K: Keeper, S, P, C: SiteDriver> Model for Locked<K, S, P, C> {
+impl<H: Holding, C: SiteDriver> Model for Locked<H, C> {
     ghost use Rattle.std.specs.Coded.{codes};
     ghost use Rattle.share_graph.specs.contracts.event.Event as event_type;
     ghost use Rattle.share_graph.specs.contracts.state.State as state_type;
-    ghost use Rattle.hub_core.specs.Sharing.{Sharing, Holds};
-    ghost use Rattle.hub_core.specs.Storing.{IsStored};
+    ghost use Rattle.hub_core.specs.Sharing.{Sharing, state_of};
+    ghost use Rattle.row_tables.specs.Kept.{IsStored};
 
-    ghost Value = { Sharing K S P C };
+    ghost Value = { Sharing };
 
     ghost coded = { Prim.hlevel (codes, state_type.the_row.coded, event_type.the_row.coded) };
 
-    ghost view = { λ locked. record { start = locked.start; history = locked.history.items; keeper = locked.keeper; secrets = locked.secrets; spawner = locked.spawner; sites = locked.sites } };
+    ghost view = { λ locked. record { start = locked.history.start; history = locked.history.entries; holds = locked.held } };
 
-    ghost invariant = { λ locked. Holds locked.start locked.state locked.history.items locked.solution × IsStored (K.keeping locked.keeper) locked.state.tables };
+    ghost invariant = { λ locked. IsStored locked.held.keeping (state_of locked.history).tables };
 }
 
-// A copy of a state to begin with, and what each node holds by it.
-fn open(alloc: Global, state: &State) -> Result<(State, Solution), Memory>
-    requires { IsWellFormed state.now }
-    ensures { IfOk result (λ opened. (opened.0 ≡ state.now) × IsSolvedFor state.now.tables opened.1) }
-{
-    let start = copy_of(state)?;
-    let solution = solve(alloc, &state.tables)?;
-    Ok((start, solution))
-}
-
-impl<K: Keeper, S: Secrets, P: Spawner, C: SiteDriver + Drop> Locked<K, S, P, C> {
-    /// Opens a history that begins with a well-formed state of fewer than 2^31 sessions, whose tables the keeper has. Its one fault is want
-    /// of memory.
+impl<H: Holding, C: SiteDriver + Drop> Locked<H, C> {
+    /// Opens a history that begins with a well-formed state of fewer than 2^31 sessions, whose tables the keeper has. Its one
+    /// fault is want of memory.
     pub fn from_state(
         alloc: Global,
         state: State,
-        keeper: K,
-        secrets: S,
-        spawner: P,
+        held: Held<H>,
         sites: Registry<C>,
-    ) -> Result<Self, NotOpened<K, S, P>>
+    ) -> Result<Self, NotOpened<H>>
         requires formed { IsWellFormed state }
         requires few { length state.sessions < 2147483648 }
-        requires stored { IsStored (K.keeping keeper) state.tables }
-        ensures ok { IfOk result (λ locked. locked ≡ record { start = state; history = []; keeper = keeper; secrets = secrets; spawner = spawner; sites = sites }) }
-        ensures err { IfErr result (λ closed. closed ≡ record { fault = OpenFault.Memory; keeper = keeper; secrets = secrets; spawner = spawner }) }
+        requires stored { IsStored held.keeping state.tables }
+        ensures ok { IfOk result (λ locked. locked ≡ record { start = state; history = []; holds = held }) }
+        ensures err { IfErr result (λ closed. closed ≡ record { fault = OpenFault.Memory; held = held }) }
     {
-        match open(alloc, &state) {
-            Ok((start, solution)) => Ok(Locked {
-                start,
-                state,
-                solution,
-                history: Vec::new(alloc),
-                keeper,
-                secrets,
-                spawner,
+        match History::new(alloc, state) {
+            Ok(history) => Ok(Locked {
+                history,
+                held,
                 sites,
             }),
             Err(Memory) => Err(NotOpened {
                 fault: OpenFault::Memory,
-                keeper,
-                secrets,
-                spawner,
+                held,
             }),
         }
     }
@@ -125,18 +95,12 @@ impl<K: Keeper, S: Secrets, P: Spawner, C: SiteDriver + Drop> Locked<K, S, P, C>
     ///
     /// # Errors
     /// The keeper's fault, the first bad row, and want of memory; the objects are handed back.
-    pub fn from_rows(
-        alloc: Global,
-        keeper: K,
-        secrets: S,
-        spawner: P,
-        sites: Registry<C>,
-    ) -> Result<Self, NotOpened<K, S, P>>
-        ensures ok { IfOk result (λ locked. IsOpenedOn (K.keeping keeper) (K.keeping locked.keeper) secrets spawner sites locked) }
-        ensures err { IfErr result (λ closed. IsClosedOn (K.keeping keeper) (K.keeping closed.keeper) secrets closed.secrets spawner closed.spawner closed.fault) }
+    pub fn from_rows(alloc: Global, held: Held<H>, sites: Registry<C>) -> Result<Self, NotOpened<H>>
+        ensures ok { IfOk result (IsOpenedOn held) }
+        ensures err { IfErr result (λ closed. IsClosedOn held closed.held closed.fault) }
     {
-        let mut keeper = keeper;
-        match load_tables(alloc, &mut keeper) {
+        let mut held = held;
+        match load_tables(alloc, &mut held.keeper) {
             Ok(tables) => {
                 let state = State {
                     tables,
@@ -144,65 +108,55 @@ impl<K: Keeper, S: Secrets, P: Spawner, C: SiteDriver + Drop> Locked<K, S, P, C>
                     runs: Rows::empty(alloc),
                     handles: Rows::empty(alloc),
                 };
-                Locked::from_state(alloc, state, keeper, secrets, spawner, sites)
+                Locked::from_state(alloc, state, held, sites)
             }
-            Err(fault) => Err(NotOpened {
-                fault,
-                keeper,
-                secrets,
-                spawner,
-            }),
+            Err(fault) => Err(NotOpened { fault, held }),
         }
     }
 
     /// The objects that were handed in. The keeper has the tables. It takes no memory.
-    pub fn into_parts(self) -> (K, S, P)
-        ensures keeper { result.0 ≡ self.keeper }
-        ensures secrets { result.1 ≡ self.secrets }
-        ensures spawner { result.2 ≡ self.spawner }
-        ensures stored { IsStored (K.keeping result.0) (replay self.start self.history).tables }
+    pub fn into_held(self) -> Held<H>
+        ensures held { result ≡ self.holds }
+        ensures stored { IsStored result.keeping (replay self.start self.history).tables }
     {
         let Locked {
-            start: _,
-            state: _,
-            solution: _,
             history: _,
-            keeper,
-            secrets,
-            spawner,
+            held,
             sites: _,
         } = self;
-        (keeper, secrets, spawner)
+        held
     }
 
-    /// How many entries the history has. It takes no memory.
+    /// How many entries the history has, 1,000,000 at the most. It takes no memory.
     pub fn entries(&self) -> u64
-        ensures { result ≡ length self.now.history }
+        ensures value { result ≡ length self.now.history }
+        ensures few { length self.now.history ≤ 1000000 }
     {
-        self.history.len() as u64
+        self.history.count()
     }
 
     /// The tables at the end of the history. It takes no memory.
     pub fn tables(&self) -> &Tables
         ensures { result.now ≡ (replay self.now.start self.now.history).tables }
     {
-        &self.state.tables
+        &self.history.state().tables
     }
 
     /// What each node holds at the end of the history. It takes no memory.
     pub fn solved(&self) -> &Solved
         ensures { IsSolutionOf (replay self.now.start self.now.history).tables result.now }
     {
-        self.solution.solved()
+        self.history.solved()
     }
 
-    /// The verdict on a key at the end of the history. Where its last entry revoked a grant, a key that held entry only by derivations
-    /// through that grant is denied, and one with another derivation goes on with exactly what the others give.
+    /// The verdict on a key at the end of the history. Where its last entry revoked a grant, a key that held entry only by
+    /// derivations through that grant is denied, and one with another derivation goes on with exactly what the others give.
     pub fn verdict(&self, alloc: Global, key: &Key) -> Result<Verdict, Memory>
+        ensures formed { IsWellFormed (replay self.now.start self.now.history) }
         ensures verdict { IfOk result (IsVerdict (replay self.now.start self.now.history) key.now) }
         ensures spared { IfOk result (Spares self.now.start self.now.history key.now) }
     {
-        verdict(alloc, &self.state, self.solution.solved(), key)
+        verdict(alloc, self.history.state(), self.history.solved(), key)
     }
 
     /// What the site of a tag gives for an item.
@@ -210,7 +164,7 @@ impl<K: Keeper, S: Secrets, P: Spawner, C: SiteDriver + Drop> Locked<K, S, P, C>
     /// # Errors
     /// `NoDriver` where there is no such site, and `NotOffered` where it gives nothing for the item.
     pub fn site(&self, alloc: Global, tag: u64, item: u32) -> Result<SiteText, SiteFault>
-        ensures { Gives C.Law.law tag item result }
+        ensures { GivesText C.Law.law tag item result }
     {
         match self.sites.restore(alloc, tag, item) {
             Ok(text) => Ok(text),
@@ -221,13 +175,15 @@ impl<K: Keeper, S: Secrets, P: Spawner, C: SiteDriver + Drop> Locked<K, S, P, C>
     // Answers an order that asks for a list.
     fn list(&self, alloc: Global, order: &Order) -> Result<Reply, OrderFault>
         requires { commands.lists order.now.command ≡ true }
-        ensures listed { (outcome : _) × IsListed C.Law.law (replay self.now.start self.now.history) order.now outcome × (result ≡ reply_of outcome) }
-        ensures stored { IsStored (K.keeping self.now.keeper) (replay self.now.start self.now.history).tables }
+        ensures formed { IsWellFormed (replay self.now.start self.now.history) }
+        ensures listed { (outcome : _) × IsListed C.Law.law (replay self.now.start self.now.history) order.now
+            outcome × (result ≡ reply_of outcome) }
+        ensures stored { IsStored self.now.holds.keeping (replay self.now.start self.now.history).tables }
     {
         match list_options(
             alloc,
-            &self.state,
-            self.solution.solved(),
+            self.history.state(),
+            self.history.solved(),
             &self.sites,
             order,
         ) {
@@ -242,41 +198,24 @@ impl<K: Keeper, S: Secrets, P: Spawner, C: SiteDriver + Drop> Locked<K, S, P, C>
     // Answers an order that asks for no list.
     fn carry_out(&mut self, alloc: Global, order: &Order) -> Result<Reply, OrderFault>
         requires { commands.lists order.now.command ≡ false }
-        ensures start { self.new.start ≡ self.old.start }
-        ensures sites { self.new.sites ≡ self.old.sites }
+        ensures formed { IsWellFormed (replay self.old.start self.old.history) }
         ensures answered { AnsweredBy C.Law.law
-            (replay self.old.start self.old.history) self.old.history self.new.history
-            (S.drawer self.old.secrets) (S.drawer self.new.secrets)
-            (record { spawns = P.spawns self.old.spawner; keeping = K.keeping self.old.keeper }) (record { spawns = P.spawns self.new.spawner; keeping = K.keeping self.new.keeper })
-            order.now result }
-        ensures stored { IsStored (K.keeping self.new.keeper) (replay self.new.start self.new.history).tables }
+            (record { start = self.old.start; entries = self.old.history })
+            (record { start = self.new.start; entries = self.new.history })
+            self.old.holds self.new.holds order.now result }
+        ensures stored { IsStored self.new.holds.keeping (replay self.new.start self.new.history).tables }
     {
-        answer_with_sites(
-            alloc,
-            &mut self.state,
-            &mut self.solution,
-            &mut self.history,
-            &mut self.keeper,
-            &mut self.secrets,
-            &mut self.spawner,
-            &self.sites,
-            order,
-        )
+        answer_with_sites(alloc, &mut self.history, &mut self.held, &self.sites, order)
     }
 
-    /// Answers an order at the end of the history. Where it changes something, its event is the next entry, and the keeper has the row that
-    /// it adds or changes; a refusal, a fault and want of memory leave the history and the rows as they were. Where the entry revokes a grant,
-    /// a fact is held from there on exactly where it had a derivation that doesn't use the grant.
+    /// Answers an order at the end of the history. Where it changes something, its event is the next entry, and the keeper has
+    /// the row that it adds or changes; a refusal, a fault and want of memory leave the history and the rows as they were. Where
+    /// the entry revokes a grant, a fact is held from there on exactly where it had a derivation that doesn't use the grant.
     pub fn order(&mut self, alloc: Global, order: Order) -> Result<Reply, OrderFault>
-        ensures start { self.new.start ≡ self.old.start }
-        ensures sites { self.new.sites ≡ self.old.sites }
-        ensures answered { AnsweredBy C.Law.law
-            (replay self.old.start self.old.history) self.old.history self.new.history
-            (S.drawer self.old.secrets) (S.drawer self.new.secrets)
-            (record { spawns = P.spawns self.old.spawner; keeping = K.keeping self.old.keeper }) (record { spawns = P.spawns self.new.spawner; keeping = K.keeping self.new.keeper })
-            order result }
+        ensures ordered { Ordered (book_of C.Law.law self.old) (book_of C.Law.law self.new) order
+            (length self.old.history) result }
         ensures revoked { TakesAway self.old.start self.old.history self.new.history }
-        ensures stored { IsStored (K.keeping self.new.keeper) (replay self.new.start self.new.history).tables }
+        ensures stored { IsStored self.new.holds.keeping (replay self.new.start self.new.history).tables }
     {
         if lists(&order) {
             self.list(alloc, &order)

@@ -1,11 +1,12 @@
 //! Opening a history.
 
 ghost use Rattle.std.specs.Prelude.{◌≤◌, IfOk, IfErr};
-ghost use Rattle.cloud_keeper.specs.Keeping.{Follows};
+ghost use Rattle.cloud_keeper.specs.Keeping.{RowsFollow};
 ghost use Rattle.share_graph.specs.WellFormed.{IsWellFormed};
 ghost use Rattle.hub_core.specs.Opening.{AreLoaded, HasCause, opened};
-ghost use Rattle.hub_core.specs.Storing.{IsStored};
+ghost use Rattle.row_tables.specs.Kept.{IsStored};
 
+use crate::held::{Held, Holding};
 use cloud_keeper::{KeepFault, Keeper};
 use row_tables::{BadRow, LoadFault, tables_of};
 use share_graph::Tables;
@@ -28,11 +29,9 @@ pub enum OpenFault {
 
 /// A history that couldn't be opened: why, and the objects that were handed in.
 #[derive(Drop)]
-pub struct NotOpened<K, S, P> {
+pub struct NotOpened<H: Holding> {
     pub fault: OpenFault,
-    pub keeper: K,
-    pub secrets: S,
-    pub spawner: P,
+    pub held: Held<H>,
 }
 
 /// The tables that the keeper's rows state.
@@ -42,7 +41,7 @@ pub fn load_tables<K: Keeper>(alloc: Global, keeper: &mut K) -> Result<Tables, O
     ensures stored { IfOk result (IsStored (K.keeping keeper.new)) }
     ensures cause { IfErr result (HasCause (K.keeping keeper.old) (K.keeping keeper.new)) }
     ensures counts { (K.keeping keeper.old).faults ≤ (K.keeping keeper.new).faults }
-    ensures kept { Follows (K.keeping keeper.old) (K.keeping keeper.new) (λ rows. rows) }
+    ensures kept { RowsFollow (K.keeping keeper.old) (K.keeping keeper.new) (λ rows. rows) }
 {
     let rows = match keeper.load(alloc) {
         Ok(rows) => rows,

@@ -5,50 +5,49 @@ ghost use Rattle.hub_core.specs.Book.{TakesNone, Judged, Ordered};
 ghost use Rattle.hub_core.specs.Sharing.{book_of};
 
 use crate::desk::Desk;
+use crate::held::Holding;
 use crate::locked::Locked;
-use cloud_keeper::Keeper;
 use desk_orders::{Order, OrderFault, Reply};
-use grain_supervise::Spawner;
-use host_base::{Key, Memory, Secrets, Verdict};
+use host_base::{Key, Memory, Verdict};
 use site_caps::{SiteDriver, SiteFault, SiteText};
 use std::alloc::Global;
 use std::marker::Model;
 
 /// A desk that owns its history: nobody else adds to it, so its places are all of it.
-pub struct SoloDesk<K: Keeper, S, P, C: SiteDriver> {
-    locked: Locked<K, S, P, C>,
+pub struct SoloDesk<H: Holding, C: SiteDriver> {
+    locked: Locked<H, C>,
 }
 
 // Written by hand, as that of `State` is.
-impl<K: Keeper + Drop, S: Drop, P: Drop, C: SiteDriver + Drop> Drop for SoloDesk<K, S, P, C> {
+impl<H: Holding, C: SiteDriver + Drop> Drop for SoloDesk<H, C> {
     fn drop(self) {
         let SoloDesk { locked: _ } = self;
     }
 }
 
-impl<K: Keeper, S, P, C: SiteDriver> Model for SoloDesk<K, S, P, C> {
+impl<H: Holding, C: SiteDriver> Model for SoloDesk<H, C> {
     ghost use Rattle.std.specs.Coded.{codes};
     ghost use Rattle.share_graph.specs.contracts.event.Event as event_type;
     ghost use Rattle.share_graph.specs.contracts.state.State as state_type;
     ghost use Rattle.hub_core.specs.Sharing.{Sharing};
 
-    ghost Value = { Sharing K S P C };
+    ghost Value = { Sharing };
 
     ghost coded = { Prim.hlevel (codes, state_type.the_row.coded, event_type.the_row.coded) };
 
     ghost view = { λ desk. desk.locked };
 }
 
-impl<K: Keeper, S: Secrets, P: Spawner, C: SiteDriver + Drop> SoloDesk<K, S, P, C> {
+impl<H: Holding, C: SiteDriver + Drop> SoloDesk<H, C> {
     /// A desk that owns a history.
-    pub fn new(locked: Locked<K, S, P, C>) -> Self
+    pub fn new(locked: Locked<H, C>) -> Self
         ensures { result ≡ locked }
     {
         SoloDesk { locked }
     }
 
     /// The history, handed back.
-    pub fn into_locked(self) -> Locked<K, S, P, C>
+    pub fn into_locked(self) -> Locked<H, C>
         ensures { result ≡ self }
     {
         let SoloDesk { locked } = self;
@@ -56,9 +55,8 @@ impl<K: Keeper, S: Secrets, P: Spawner, C: SiteDriver + Drop> SoloDesk<K, S, P, 
     }
 }
 
-impl<K: Keeper, S: Secrets, P: Spawner, C: SiteDriver + Drop> Desk for SoloDesk<K, S, P, C> {
-    ghost book = { λ sharing. book_of C.Law.law sharing.start sharing.history (S.drawer sharing.secrets)
-        (record { spawns = P.spawns sharing.spawner; keeping = K.keeping sharing.keeper }) };
+impl<H: Holding, C: SiteDriver + Drop> Desk for SoloDesk<H, C> {
+    ghost book = { λ sharing. book_of C.Law.law sharing };
 
     fn place(&self) -> u64 {
         self.locked.entries()

@@ -2,10 +2,10 @@
 
 ghost use Rattle.std.specs.Prelude.{◌≡◌, ◌≤◌, ℕ, List, IfErr, OnOk, OnErr};
 ghost use Rattle.host_base.specs.Outside.{Rose};
-ghost use Rattle.cloud_keeper.specs.Keeping.{Follows, put};
+ghost use Rattle.cloud_keeper.specs.Keeping.{RowsFollow, put};
 ghost use Rattle.share_graph.specs.declared.event.Event.TheVariants as event;
 ghost use Rattle.desk_orders.specs.declared.reply.OrderFault.TheVariants as fault;
-ghost use Rattle.hub_core.specs.Adding.{HasItsRow, IsStoreOrMemory, Starts, Stores, Tells};
+ghost use Rattle.hub_core.specs.Inner.Adding.{HasItsRow, IsStoreOrMemory, Starts, StoresRow, TellsOuter};
 
 use cloud_keeper::{KeepFault, Keeper, Row};
 use desk_orders::OrderFault;
@@ -21,7 +21,8 @@ fn start<P: Spawner>(
     run: &Run,
     token: &[u8],
 ) -> Result<(), OrderFault>
-    ensures { Starts (P.spawns spawner.old) (P.spawns spawner.new) (event.RunStarted run.now) token.now result }
+    ensures { Starts (P.spawns spawner.old) (P.spawns spawner.new) (event.RunStarted run.now) token.now
+        result }
 {
     match spawner.start(alloc, run.num, run.grain, token) {
         Ok(()) => Ok(()),
@@ -32,7 +33,8 @@ fn start<P: Spawner>(
 
 // Stops a run.
 fn stop<P: Spawner>(alloc: Global, spawner: &mut P, run: RunId) -> Result<(), OrderFault>
-    ensures { (token : List ℕ) → Starts (P.spawns spawner.old) (P.spawns spawner.new) (event.RunStopped run) token result }
+    ensures { (token : List ℕ) → Starts (P.spawns spawner.old) (P.spawns spawner.new)
+        (event.RunStopped run) token result }
 {
     match spawner.stop(alloc, run) {
         Ok(()) => Ok(()),
@@ -64,10 +66,11 @@ fn tell_spawner<P: Spawner>(
 
 // Has the keeper keep a row. Where that fails its rows are as before.
 fn keep<K: Keeper>(alloc: Global, keeper: &mut K, row: &Row) -> Result<(), OrderFault>
-    ensures kept { OnOk result (Follows (K.keeping keeper.old) (K.keeping keeper.new) (put row.now)) }
-    ensures same { OnErr result (Follows (K.keeping keeper.old) (K.keeping keeper.new) (λ rows. rows)) }
+    ensures kept { OnOk result (RowsFollow (K.keeping keeper.old) (K.keeping keeper.new) (put row.now)) }
+    ensures same { OnErr result (RowsFollow (K.keeping keeper.old) (K.keeping keeper.new) (λ rows. rows)) }
     ensures counts { (K.keeping keeper.old).faults ≤ (K.keeping keeper.new).faults }
-    ensures cause { IfErr result (λ why. why ≡ fault.Store → Rose (K.keeping keeper.old).faults (K.keeping keeper.new).faults) }
+    ensures cause { IfErr result (λ why. why ≡ fault.Store
+        → Rose (K.keeping keeper.old).faults (K.keeping keeper.new).faults) }
     ensures fault_is { IfErr result IsStoreOrMemory }
 {
     match keeper.commit(alloc, row) {
@@ -88,8 +91,10 @@ pub fn tell<K: Keeper, P: Spawner>(
     token: &[u8],
 ) -> Result<(), OrderFault>
     requires { HasItsRow event.now row.now }
-    ensures tells { Tells (record { spawns = P.spawns spawner.old; keeping = K.keeping keeper.old }) (record { spawns = P.spawns spawner.new; keeping = K.keeping keeper.new }) event.now token.now result }
-    ensures stores { Stores (K.keeping keeper.old) (K.keeping keeper.new) row.now result }
+    ensures tells { TellsOuter (record { spawns = P.spawns spawner.old; keeping = K.keeping keeper.old })
+        (record { spawns = P.spawns spawner.new; keeping = K.keeping keeper.new }) event.now
+        token.now result }
+    ensures stores { StoresRow (K.keeping keeper.old) (K.keeping keeper.new) row.now result }
 {
     match row {
         Some(row) => keep(alloc, keeper, row),

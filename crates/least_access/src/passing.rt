@@ -2,7 +2,7 @@
 
 ghost use Rattle.std.specs.Prelude.{◌≡◌, ◌↔◌, ◌≤◌, ℕ, IsTrue, length, false};
 ghost use Rattle.perm_roles.specs.PermSet.{Has};
-ghost use Rattle.perm_roles.specs.Roles.{Gives as AssignmentGives};
+ghost use Rattle.perm_roles.specs.Roles.{GivesPermission as AssignmentGives};
 ghost use Rattle.share_graph.specs.declared.facts.Fact.{Fact};
 ghost use Rattle.share_graph.specs.Coherent.{IsCoherent};
 ghost use Rattle.share_graph.specs.Derivation.{LetsThrough, IsOpenSite, Follows};
@@ -24,10 +24,11 @@ use share_graph::{Grant, Node, Tables, app_of, is_kept, may_receive, source_of};
 fn given_by(manifest: &Manifest, assignment: &Assignment) -> PermSet
     requires manifest { IsSoundManifest manifest.now }
     requires assignment { IsAssignmentFor manifest.now assignment.now }
-    ensures { (p : ℕ) → Has result p ↔ AssignmentGives manifest.now.roles (length manifest.now.permissions) assignment.now p }
+    ensures { (p : ℕ) → Has result p ↔ AssignmentGives manifest.now.roles
+        (length manifest.now.permissions) assignment.now p }
 {
     let count = manifest.permissions.as_slice().len() as u8;
-    perm_roles::given(manifest.roles.as_slice(), count, assignment)
+    perm_roles::granted(manifest.roles.as_slice(), count, assignment)
 }
 
 // The permissions that a grant gives.
@@ -47,7 +48,8 @@ fn passed_on(tables: &Tables, table: &Table, num: GrantId, grant: &Grant, from: 
     requires coherent { IsCoherent tables.now }
     requires row { IsGrant tables.now num grant.now }
     requires live { grant.now.revoked ≡ false }
-    ensures { (fact : Fact) → IsIn result fact ↔ (LetsThrough tables.now num grant.now fact × HeldAt table.now.entries from fact) }
+    ensures { (fact : Fact) → IsIn result fact ↔ (LetsThrough tables.now num grant.now fact
+        × HeldAt table.now.entries from fact) }
 {
     if !may_receive(tables, grant.target) {
         return Held::none();
@@ -75,7 +77,8 @@ fn given_by_site(tables: &Tables, num: GrantId, grant: &Grant) -> Held
 pub fn passed(tables: &Tables, table: &Table, num: GrantId, grant: &Grant) -> Held
     requires coherent { IsCoherent tables.now }
     requires row { IsGrant tables.now num grant.now }
-    ensures { (fact : Fact) → IsIn result fact ↔ Follows tables.now (HeldAt table.now.entries) num grant.now (node_of num grant.now) fact }
+    ensures { (fact : Fact) → IsIn result fact ↔ Follows tables.now (HeldAt table.now.entries) num
+        grant.now (node_of num grant.now) fact }
 {
     if grant.revoked {
         return Held::none();

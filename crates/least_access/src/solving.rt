@@ -38,7 +38,8 @@ pub fn owned(tables: &Tables, num: GrainId, grain: &Grain, app: &App) -> Held
     requires coherent { IsCoherent tables.now }
     requires row { IsGrain tables.now num grain.now }
     requires of_app { IsApp tables.now grain.now.app app.now }
-    ensures { (fact : Fact) → IsIn result fact ↔ (Owns tables.now num grain.now app.now × IsFactOf app.now fact) }
+    ensures { (fact : Fact) → IsIn result fact ↔ (Owns tables.now num grain.now app.now
+        × IsFactOf app.now fact) }
 {
     if grain.trashed || !is_enabled(tables, grain.owner) {
         return Held::none();

@@ -31,7 +31,8 @@ pub fn holding(table: &Table, node: Node) -> Held
 pub fn put(table: &mut Table, node: Node, held: Held)
     requires { IsSome (held_at table.old.entries node) }
     ensures same { held_at table.new.entries node ≡ Some held }
-    ensures others { (other : Node) → other ≢ node → held_at table.new.entries other ≡ held_at table.old.entries other }
+    ensures others { (other : Node) → other ≢ node
+        → held_at table.new.entries other ≡ held_at table.old.entries other }
     ensures room { (before : Held) → held_at table.old.entries node ≡ Some before
         → total_room table.new.entries + room before ≡ total_room table.old.entries + room held }
 {
@@ -44,7 +45,8 @@ pub fn put(table: &mut Table, node: Node, held: Held)
 pub fn set(table: &mut Table, node: Node, held: Held) -> Result<(), Memory>
     ensures err { OnErr result (table.new.entries ≡ table.old.entries) }
     ensures same { OnOk result (held_at table.new.entries node ≡ Some held) }
-    ensures others { OnOk result ((other : Node) → other ≢ node → held_at table.new.entries other ≡ held_at table.old.entries other) }
+    ensures others { OnOk result ((other : Node) → other ≢ node
+        → held_at table.new.entries other ≡ held_at table.old.entries other) }
 {
     match table.insert(node, held) {
         Ok(_) => Ok(()),

@@ -2,7 +2,6 @@ ghost use Rattle.std.specs.Prelude.{◌≡◌};
 
 use host_base::GrantId;
 use region_access::{NewGrant, Room};
-use share_graph::Node;
 
 /// The region of an event, ready to be solved again: its room, the grants that go to it, and the grant that the event adds.
 #[derive(Drop)]
@@ -13,13 +12,6 @@ pub struct Region {
 }
 
 impl Region {
-    /// The nodes of the region, each once.
-    pub fn nodes(&self) -> &[Node]
-        ensures { result.now ≡ self.now.room.nodes.items }
-    {
-        self.room.nodes.as_slice()
-    }
-
     /// The grants that go to its nodes once the event has happened, each once.
     pub fn grants(&self) -> &[GrantId]
         ensures { result.now ≡ self.now.grants.items }

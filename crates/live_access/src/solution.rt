@@ -57,7 +57,8 @@ pub fn solve(alloc: Global, tables: &Tables) -> Result<Solution, Memory>
     requires checked { IsChecked tables.now }
     requires limits { IsWithinLimits tables.now }
     ensures solved { IfOk result (IsSolvedFor tables.now) }
-    ensures trees { IfOk result (λ solution. (at : Node) (fact : Fact) → HeldAt solution.table at fact ↔ HasTree tables.now at fact) }
+    ensures trees { IfOk result (λ solution. (at : Node) (fact : Fact)
+        → HeldAt solution.table at fact ↔ HasTree tables.now at fact) }
 {
     let edges = edges_of(alloc, tables)?;
     let arrivals = arrivals_of(alloc, tables)?;
@@ -79,14 +80,6 @@ impl Solution {
         ensures { result.now ≡ self.now.table }
     {
         &self.solved
-    }
-
-    /// What each node holds, without the indexes.
-    pub fn into_solved(self) -> Solved
-        ensures { result ≡ self.table }
-    {
-        let Solution { solved, indexes: _ } = self;
-        solved
     }
 
     // Whether every node holds after an event what it held, as far as a few rows tell.
@@ -169,7 +162,8 @@ impl Solution {
         requires name { blank.name ≡ L.name }
         requires parts { blank.parts ≡ L.parts }
         requires some { 0 < blank.parts }
-        requires ready { (s : State) × (e : Event) × IsReadyFor s e self.old region × (tables.now ≡ (after s e).tables) }
+        requires ready { (s : State) × (e : Event) × IsReadyFor s e self.old region
+            × (tables.now ≡ (after s e).tables) }
         ensures { IsSolvedFor tables.now self.new }
     {
         let mut probe = Counted {
@@ -203,10 +197,12 @@ impl Solution {
     /// The same over any probe of the tables, with the bound on its tests: `65 * (G + R) + G`, where the region has G grants with R
     /// needs.
     pub fn settle_by<V: Probe>(&mut self, probe: &mut V, mut region: Region)
-        requires { (s : State) × (e : Event) × IsReadyFor s e self.old region × (V.tables probe.old ≡ (after s e).tables) }
+        requires { (s : State) × (e : Event) × IsReadyFor s e self.old region
+            × (V.tables probe.old ≡ (after s e).tables) }
         ensures same { V.tables probe.new ≡ V.tables probe.old }
         ensures solved { IsSolvedFor (V.tables probe.old) self.new }
-        ensures bound { V.count probe.new ≤ V.count probe.old + most_tests (length region.grants.items) (needs_by (V.tables probe.old) region.grants.items) }
+        ensures bound { V.count probe.new ≤ V.count probe.old + most_tests (length region.grants.items)
+            (needs_by (V.tables probe.old) region.grants.items) }
     {
         solve_region(
             probe,

@@ -2,7 +2,7 @@
 
 ghost use Rattle.std.specs.Prelude.{◌≡◌, ◌↔◌, [], Some, ℕ, IsTrue, IfSome, length};
 ghost use Rattle.perm_roles.specs.PermSet.{Has};
-ghost use Rattle.perm_roles.specs.Roles.{Gives as AssignmentGives};
+ghost use Rattle.perm_roles.specs.Roles.{GivesPermission as AssignmentGives};
 ghost use Rattle.share_graph.specs.declared.facts.Fact.{Fact};
 ghost use Rattle.share_graph.specs.declared.facts.Node.{Node};
 ghost use Rattle.share_graph.specs.declared.grants.Grant.{Grant};
@@ -49,16 +49,18 @@ fn common(held: &Held, other: &Held) -> Held
 fn given_by(app: &App, grant: &Grant) -> PermSet
     requires manifest { IsSoundManifest app.now.manifest }
     requires assignment { IsAssignmentFor app.now.manifest grant.now.assignment }
-    ensures { (p : ℕ) → Has result p ↔ AssignmentGives app.now.manifest.roles (length app.now.manifest.permissions) grant.now.assignment p }
+    ensures { (p : ℕ) → Has result p ↔ AssignmentGives app.now.manifest.roles
+        (length app.now.manifest.permissions) grant.now.assignment p }
 {
     let count = app.manifest.permissions.as_slice().len() as u8;
-    perm_roles::given(app.manifest.roles.as_slice(), count, &grant.assignment)
+    perm_roles::granted(app.manifest.roles.as_slice(), count, &grant.assignment)
 }
 
 // The most that a new grant may add at its node: of what its source holds, what it gives.
 fn added_at_most(tables: &Tables, table: &Table, grant: &Grant) -> Option<Held>
     requires coherent { IsCoherent tables.now }
-    requires fits { (app : the_app.App) → IsAppOf tables.now grant.now.grain app → IsAssignmentFor app.manifest grant.now.assignment }
+    requires fits { (app : the_app.App) → IsAppOf tables.now grant.now.grain app
+        → IsAssignmentFor app.manifest grant.now.assignment }
     ensures { IfSome result (λ most. (from : Node) × (the_source_of grant.now ≡ Some from)
         × ((fact : Fact) → HeldAt table.now.entries from fact → Gives tables.now grant.now fact → IsIn most fact)) }
 {
@@ -74,7 +76,8 @@ fn added_at_most(tables: &Tables, table: &Table, grant: &Grant) -> Option<Held>
 /// Whether a new grant adds nothing.
 pub(crate) fn adds_nothing(tables: &Tables, table: &Table, grant: &Grant) -> bool
     requires coherent { IsCoherent tables.now }
-    requires fits { (app : the_app.App) → IsAppOf tables.now grant.now.grain app → IsAssignmentFor app.manifest grant.now.assignment }
+    requires fits { (app : the_app.App) → IsAppOf tables.now grant.now.grain app
+        → IsAssignmentFor app.manifest grant.now.assignment }
     ensures { IsTrue result → AddsNothing tables.now table.now.entries grant.now }
 {
     match added_at_most(tables, table, grant) {
@@ -111,7 +114,8 @@ fn owner_gave(tables: &Tables, table: &Table, num: GrantId, grant: &Grant) -> He
 // What an owner gave by the grant of a number, if it needs nothing.
 fn gave_as_owner(tables: &Tables, table: &Table, num: GrantId) -> Held
     requires coherent { IsCoherent tables.now }
-    ensures { (fact : Fact) (grant : Grant) → IsGrant tables.now num grant → IsIn result fact → GaveAsOwner tables.now num (the_node_of num grant) fact }
+    ensures { (fact : Fact) (grant : Grant) → IsGrant tables.now num grant → IsIn result fact
+        → GaveAsOwner tables.now num (the_node_of num grant) fact }
 {
     match find_grant(tables, num) {
         Some(grant) if grant.needs.as_slice().is_empty() => owner_gave(tables, table, num, grant),

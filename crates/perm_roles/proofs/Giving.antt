@@ -7,7 +7,7 @@ use Rattle.perm_roles.specs.declared.roles.Base.{Base}
 use Rattle.perm_roles.specs.declared.roles.Base.TheVariants as base
 use Rattle.perm_roles.specs.declared.roles.Assignment.{Assignment}
 use Rattle.perm_roles.specs.PermSet.{Has, IsWithin}
-use Rattle.perm_roles.specs.Roles.{IsInDefault, IsInBase, Gives, SetsFit}
+use Rattle.perm_roles.specs.Roles.{IsInDefault, IsInBase, GivesPermission, HasFittingSets}
 
 found_within : (b : Bool) (role : Role) (found : Option Role) (count p : ℕ) → IsWithin role.perms count → (IsSomeAnd found (λ one. Has one.perms p) → p < count) → IsSomeAnd (cond b (Some role) found) (λ one. Has one.perms p) → p < count
 found_within true role found count p fit later here = fit p here
@@ -32,7 +32,7 @@ base_within roles count base.AllAccess p fit here = here
 base_within roles count (base.Role n) p fit here = role_within roles n count p fit here
 
 -- where the sets fit, what is given is below the count
-pub Gives-within : (roles : List Role) (count : ℕ) (assignment : Assignment) → SetsFit roles count assignment → (p : ℕ) → Gives roles count assignment p → p < count
+pub Gives-within : (roles : List Role) (count : ℕ) (assignment : Assignment) → HasFittingSets roles count assignment → (p : ℕ) → GivesPermission roles count assignment p → p < count
 Gives-within roles count assignment fit p given =
     elim given.0 [
       | inl here ↦ base_within roles count assignment.base p fit.roles_fit here

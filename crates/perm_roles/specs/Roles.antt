@@ -1,5 +1,5 @@
 -- What an assignment of permissions gives.
-use Rattle.std.specs.Prelude.{◌≡◌, ◌⊎◌, ◌↔◌, ◌<◌, ◌≤◌, ℕ, List, Option, None, length, slice_get, IsSomeAnd}
+use Rattle.std.specs.Prelude.{◌⊎◌, ◌↔◌, ◌<◌, ◌≤◌, ℕ, List, length, slice_get, IsSomeAnd}
 use Rattle.std.specs.List.{All, find}
 use Rattle.perm_roles.specs.PermSet.{Has, IsWithin}
 use Rattle.perm_roles.specs.declared.perm_set.PermSet.{PermSet}
@@ -7,8 +7,6 @@ use Rattle.perm_roles.specs.declared.roles.Role.{Role}
 use Rattle.perm_roles.specs.declared.roles.Assignment.{Assignment}
 use Rattle.perm_roles.specs.declared.roles.Base.{Base}
 use Rattle.perm_roles.specs.declared.roles.Base.TheVariants as base
-use Rattle.perm_roles.specs.declared.roles.RoleFault.{RoleFault}
-use Rattle.perm_roles.specs.declared.roles.RoleFault.TheVariants.{TooManyPermissions, LongSet, BadRole}
 
 -- the position is in the set of the first default role
 abbrev pub IsInDefault : List Role → ℕ → Type 0
@@ -21,37 +19,26 @@ IsInBase roles count base.AllAccess p = p < count
 IsInBase roles count (base.Role n) p = IsSomeAnd (slice_get roles n) (λ role. Has role.perms p)
 
 -- the assignment gives the permission at the position: it is in the base or added, and it is not removed
-abbrev pub Gives : List Role → ℕ → Assignment → ℕ → Type 0
-Gives roles count assignment p = (IsInBase roles count assignment.base p ⊎ Has assignment.add p) × ¬ Has assignment.remove p
+abbrev pub GivesPermission : List Role → ℕ → Assignment → ℕ → Type 0
+GivesPermission roles count assignment p = (IsInBase roles count assignment.base p ⊎ Has assignment.add p) × ¬ Has assignment.remove p
 
 -- the set has the permissions that the assignment gives, and no other
 abbrev pub IsGiven : List Role → ℕ → Assignment → PermSet → Type 0
-IsGiven roles count assignment set = (p : ℕ) → Has set p ↔ Gives roles count assignment p
+IsGiven roles count assignment set = (p : ℕ) → Has set p ↔ GivesPermission roles count assignment p
 
 -- each set that is handed in has only positions below the count
-pub record SetsFit (roles : List Role) (count : ℕ) (assignment : Assignment) : Type 0 where
+pub record HasFittingSets (roles : List Role) (count : ℕ) (assignment : Assignment) : Type 0 where
   pub roles_fit : All (λ role. IsWithin role.perms count) roles
   pub add_fits : IsWithin assignment.add count
   pub remove_fits : IsWithin assignment.remove count
 
--- the role of the list that the base names
-abbrev pub role_named : List Role → Base → Option Role
-role_named roles (base.Role n) = slice_get roles n
-role_named roles _ = None
-
 -- a role that the base names is in the list
-abbrev pub IsListed : List Role → Base → Type 0
-IsListed roles (base.Role n) = n < length roles
-IsListed roles _ = Unit {0}
-
--- this is the first fault of the roles, the count and the assignment
-abbrev pub HasFault : List Role → ℕ → Assignment → RoleFault → Type 0
-HasFault roles count assignment TooManyPermissions = 64 < count
-HasFault roles count assignment LongSet = (count ≤ 64) × ¬ SetsFit roles count assignment
-HasFault roles count assignment (BadRole n) = (count ≤ 64) × SetsFit roles count assignment × (assignment.base ≡ base.Role n) × (length roles ≤ n)
+abbrev pub IsInRoles : List Role → Base → Type 0
+IsInRoles roles (base.Role n) = n < length roles
+IsInRoles roles _ = Unit {0}
 
 -- the roles, the count and the assignment have no fault
 pub record HasNoFault (roles : List Role) (count : ℕ) (assignment : Assignment) : Type 0 where
   pub few : count ≤ 64
-  pub sets_fit : SetsFit roles count assignment
-  pub listed : IsListed roles assignment.base
+  pub sets_fit : HasFittingSets roles count assignment
+  pub listed : IsInRoles roles assignment.base

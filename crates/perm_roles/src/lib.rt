@@ -4,5 +4,5 @@
 mod perm_set;
 mod roles;
 
-pub use perm_set::PermSet;
-pub use roles::{Assignment, Base, Role, RoleFault, given, granted, is_listed, named_role};
+pub use perm_set::{PermSet, SetFault};
+pub use roles::{Assignment, Base, Role, granted, is_listed};

@@ -4,7 +4,28 @@ ghost use Rattle.std.specs.Prelude.{◌≡◌, ◌↔◌, ◌⊎◌, ◌<◌, �
 ghost use Rattle.std.specs.Int.{bit_at};
 ghost use Rattle.std.specs.List.Sorted.{IsStrictlyIncreasing};
 
-use crate::roles::RoleFault;
+use std::error::Error;
+use std::fmt::{self, Display, Formatter, Write};
+
+/// Why a list states no set of permissions.
+#[derive(Clone, Copy, Debug, PartialEq, Eq)]
+pub enum SetFault {
+    /// There are more than 64 permissions.
+    TooManyPermissions,
+    /// The list is of more permissions than there are.
+    LongSet,
+}
+
+impl Display for SetFault {
+    fn fmt<W: Write>(&self, f: &mut Formatter<W>) -> fmt::Result {
+        match self {
+            SetFault::TooManyPermissions => write!(f, "there are more than 64 permissions"),
+            SetFault::LongSet => write!(f, "a set is of more permissions than there are"),
+        }
+    }
+}
+
+impl Error for SetFault {}
 
 /// A set of positions 0 to 63, the places of permissions in their list.
 #[derive(Clone, Copy, Debug, PartialEq, Eq)]
@@ -16,7 +37,7 @@ pub struct PermSet {
 impl PermSet {
     ghost use Rattle.perm_roles.specs.PermSet.{Has, IsWithin, bits_of, no_permissions, positions, set_of};
     ghost use Rattle.perm_roles.specs.declared.perm_set.PermSet.{PermSet};
-    ghost use Rattle.perm_roles.specs.declared.roles.RoleFault.{RoleFault};
+    ghost use Rattle.perm_roles.specs.declared.perm_set.SetFault.{SetFault};
 
     /// The set with no position.
     pub fn empty() -> Self
@@ -40,18 +61,18 @@ impl PermSet {
     }
 
     /// The set of the places at which the list has true, for a list of at most that many permissions.
-    pub fn from_list(list: &[bool], count: u8) -> Result<Self, RoleFault>
+    pub fn from_list(list: &[bool], count: u8) -> Result<Self, SetFault>
         ensures value { IfOk result (λ set. set ≡ set_of list.now) }
         ensures members { IfOk result (λ set. (p : ℕ) → Has set p ↔ (slice_get list.now p ≡ Some true)) }
         ensures ok { IsOk result ↔ ((count ≤ 64) × (length list.now ≤ count)) }
-        ensures too_many { (result ≡ Err RoleFault.TooManyPermissions) ↔ (64 < count) }
-        ensures long { (result ≡ Err RoleFault.LongSet) ↔ ((count ≤ 64) × (count < length list.now)) }
+        ensures too_many { (result ≡ Err SetFault.TooManyPermissions) ↔ (64 < count) }
+        ensures long { (result ≡ Err SetFault.LongSet) ↔ ((count ≤ 64) × (count < length list.now)) }
     {
         if count > 64 {
-            return Err(RoleFault::TooManyPermissions);
+            return Err(SetFault::TooManyPermissions);
         }
         if list.len() > usize::from(count) {
-            return Err(RoleFault::LongSet);
+            return Err(SetFault::LongSet);
         }
         let mut bits = 0;
         for (place, is_in) in list.iter().enumerate() {

@@ -1,16 +1,13 @@
 //! Roles, assignments, and what an assignment gives.
 
-ghost use Rattle.std.specs.Prelude.{◌≡◌, ◌↔◌, ◌⊎◌, ◌≤◌, ℕ, length, IfOk, IfErr, IsOk, IsTrue, option_copied};
+ghost use Rattle.std.specs.Prelude.{◌≡◌, ◌↔◌, ◌⊎◌, ◌≤◌, ℕ, IsTrue, option_copied};
 ghost use Rattle.std.specs.List.{find};
 ghost use Rattle.perm_roles.specs.PermSet.{Has, IsWithin};
-ghost use Rattle.perm_roles.specs.Roles.{Gives, HasFault, HasNoFault, IsGiven, IsInBase, IsInDefault, IsListed, SetsFit, role_named};
+ghost use Rattle.perm_roles.specs.Roles.{HasNoFault, IsGiven, IsInBase, IsInDefault, IsInRoles};
 ghost use Rattle.perm_roles.specs.declared.perm_set.PermSet.{PermSet};
-ghost use Rattle.perm_roles.specs.declared.roles.RoleFault.{RoleFault};
 
 use crate::perm_set::PermSet;
 use plain_data::Name;
-use std::error::Error;
-use std::fmt::{self, Display, Formatter, Write};
 
 /// A named set of permissions that an application offers.
 #[derive(Clone, Debug, Drop, PartialEq, Eq)]
@@ -57,42 +54,9 @@ impl Assignment {
     }
 }
 
-/// Why there is no set of permissions.
-#[derive(Clone, Copy, Debug, PartialEq, Eq)]
-pub enum RoleFault {
-    /// There are more than 64 permissions.
-    TooManyPermissions,
-    /// A set is of more permissions than there are.
-    LongSet,
-    /// The base names a role that is not in the list.
-    BadRole(u16),
-}
-
-impl Display for RoleFault {
-    fn fmt<W: Write>(&self, f: &mut Formatter<W>) -> fmt::Result {
-        match self {
-            RoleFault::TooManyPermissions => write!(f, "there are more than 64 permissions"),
-            RoleFault::LongSet => write!(f, "a set is of more permissions than there are"),
-            RoleFault::BadRole(number) => write!(f, "there is no role {number}"),
-        }
-    }
-}
-
-impl Error for RoleFault {}
-
-/// The role that the base names, if it names one that is in the list.
-pub fn named_role(roles: &[Role], base: Base) -> Option<&Role>
-    ensures { option_copied result ≡ role_named roles.now base }
-{
-    match base {
-        Base::Role(number) => roles.get(usize::from(number)),
-        Base::NoRole | Base::AllAccess => None,
-    }
-}
-
 /// Whether the role that the base names is in the list; true of a base that names none.
 pub fn is_listed(roles: &[Role], base: Base) -> bool
-    ensures { IsTrue result ↔ IsListed roles.now base }
+    ensures { IsTrue result ↔ IsInRoles roles.now base }
 {
     match base {
         Base::Role(number) => usize::from(number) < roles.len(),
@@ -100,61 +64,28 @@ pub fn is_listed(roles: &[Role], base: Base) -> bool
     }
 }
 
-/// The permissions that the assignment gives, of this many that there are.
-pub fn granted(roles: &[Role], count: u8, assignment: &Assignment) -> Result<PermSet, RoleFault>
-    ensures gives { IfOk result (λ set. (p : ℕ) → Has set p ↔ Gives roles.now count assignment.now p) }
-    ensures within { IfOk result (λ set. IsWithin set count) }
-    ensures ok { IsOk result ↔ HasNoFault roles.now count assignment.now }
-    ensures fault { (fault : RoleFault) → (result ≡ Err fault) ↔ HasFault roles.now count assignment.now fault }
-
-    // There is one answer: at most one set is given, and at most one fault is there.
-    ensures one_set { (set other : PermSet) → IsGiven roles.now count assignment.now set
-        → IsGiven roles.now count assignment.now other → set ≡ other }
-    ensures one_fault { (fault other : RoleFault) → HasFault roles.now count assignment.now fault
-        → HasFault roles.now count assignment.now other → fault ≡ other }
-{
-    if count > 64 {
-        return Err(RoleFault::TooManyPermissions);
-    }
-    if !sets_fit(roles, count, assignment) {
-        return Err(RoleFault::LongSet);
-    }
-    let base = base_set(roles, count, assignment.base)?;
-    Ok(assignment.applied_to(&base))
-}
-
-/// The permissions that an assignment gives, where the roles, the count and the assignment have no fault. It looks at no role but the one that
-/// the base names, or the default one.
-pub fn given(roles: &[Role], count: u8, assignment: &Assignment) -> PermSet
+/// The permissions that an assignment gives, of this many that there are, where the roles, the count and the assignment have no fault. It looks at
+/// no role but the one that the base names, or the default one.
+pub fn granted(roles: &[Role], count: u8, assignment: &Assignment) -> PermSet
     requires { HasNoFault roles.now count assignment.now }
-    ensures { (p : ℕ) → Has result p ↔ Gives roles.now count assignment.now p }
+    ensures gives { IsGiven roles.now count assignment.now result }
+    ensures within { IsWithin result count }
+
+    // There is one answer.
+    ensures one { (other : PermSet) → IsGiven roles.now count assignment.now other → other ≡ result }
 {
-    match base_set(roles, count, assignment.base) {
-        Ok(base) => assignment.applied_to(&base),
-        Err(_) => unreachable!(),
-    }
+    assignment.applied_to(&base_set(roles, count, assignment.base))
 }
 
-fn sets_fit(roles: &[Role], count: u8, assignment: &Assignment) -> bool
-    ensures { IsTrue result ↔ SetsFit roles.now count assignment.now }
-{
-    let count = usize::from(count);
-    assignment.fits(count) && roles.iter().all(|role| role.perms.fits(count))
-}
-
-fn base_set(roles: &[Role], count: u8, base: Base) -> Result<PermSet, RoleFault>
-    requires { count ≤ 64 }
-    ensures members { IfOk result (λ set. (p : ℕ) → Has set p ↔ IsInBase roles.now count base p) }
-    ensures ok { IsOk result ↔ IsListed roles.now base }
-    ensures fault { IfErr result (λ fault. (n : ℕ) × (fault ≡ RoleFault.BadRole n) × (base ≡ Base.Role n) × (length roles.now ≤ n)) }
+fn base_set(roles: &[Role], count: u8, base: Base) -> PermSet
+    requires few { count ≤ 64 }
+    requires listed { IsInRoles roles.now base }
+    ensures { (p : ℕ) → Has result p ↔ IsInBase roles.now count base p }
 {
     match base {
-        Base::NoRole => Ok(default_set(roles)),
-        Base::AllAccess => Ok(PermSet::all(count)),
-        Base::Role(number) => match roles.get(usize::from(number)) {
-            Some(role) => Ok(role.perms),
-            None => Err(RoleFault::BadRole(number)),
-        },
+        Base::NoRole => default_set(roles),
+        Base::AllAccess => PermSet::all(count),
+        Base::Role(number) => roles[usize::from(number)].perms,
     }
 }
 

@@ -10,7 +10,8 @@ use std::alloc::Global;
 
 // Appends the length of a text, a blank and its SHA-256 in lower-case hexadecimal digits.
 fn put_digest(alloc: Global, lines: &mut Bytes, text: &[u8]) -> Result<(), Memory>
-    ensures { OnOk result (lines.new ≡ lines.old ++ (codes "\noutput " ++ decimal (length text.now) ++ codes " " ++ encode_lower (sha256 text.now))) }
+    ensures { OnOk result (lines.new ≡ lines.old ++ (codes "\noutput " ++ decimal
+        (length text.now) ++ codes " " ++ encode_lower (sha256 text.now))) }
 {
     let digits = hex::encode(alloc, &digest_of(text).0)?;
     put_counted(lines, "\noutput ", text.len() as u64)?;

@@ -11,7 +11,7 @@ use Rattle.share_graph.specs.declared.state.Tables.{Tables}
 use Rattle.region_access.specs.declared.tie.Tie.{Tie}
 use Rattle.region_access.specs.declared.tie.Tie.TheVariants as tie
 use Rattle.region_access.specs.Seeds.{IsSeedOfGrants, IsSeedOfTie}
-use Rattle.region_access.specs.Ties.{IsTied, IsTiesOf, IsAsked, tie_of}
+use Rattle.region_access.specs.Ties.{IsTied, IsTiesOf, IsAskedBy, tie_of}
 
 asks_no_grain : (q : Need) (n : GrainId) → tie_of q ≡ Some (tie.Grain n) → ⊥
 asks_no_grain (need.UserIsAdmin a) n e = cc e
@@ -24,7 +24,7 @@ asks_admin (need.TokenValid h) a e = cc e
 asks_admin (need.PermissionsHeld holder set) a e = cc e
 
 -- what a grant hangs on is its grain, or asked by a need
-pub tied_either : (grant : Grant) (on : Tie) → IsTied on grant ↔ ((Some (tie.Grain grant.grain) ≡ Some on) ⊎ IsAsked grant.needs on)
+pub tied_either : (grant : Grant) (on : Tie) → IsTied on grant ↔ ((Some (tie.Grain grant.grain) ≡ Some on) ⊎ IsAskedBy grant.needs on)
 tied_either grant (tie.Grain n) = (
   λ same. inl (ap (λ (m : GrainId). Some (tie.Grain m)) same),
   elim [

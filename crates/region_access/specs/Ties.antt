@@ -36,5 +36,5 @@ tie_of (need.TokenValid h) = None
 tie_of (need.PermissionsHeld holder set) = None
 
 -- a need of the list has its grant hang on the tie
-abbrev pub IsAsked : List Need → Tie → Type 0
-IsAsked needs on = (q : Need) × Contains needs q × (tie_of q ≡ Some on)
+abbrev pub IsAskedBy : List Need → Tie → Type 0
+IsAskedBy needs on = (q : Need) × Contains needs q × (tie_of q ≡ Some on)

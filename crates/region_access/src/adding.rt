@@ -40,7 +40,8 @@ fn start_edge<K: Key>(
     num: GrantId,
 ) -> Result<(), Memory>
     requires { listed_in K.cmp edges.old.entries from ≡ [] }
-    ensures ok { OnOk result (AddsEdge from num (listed_in K.cmp edges.old.entries) (listed_in K.cmp edges.new.entries)) }
+    ensures ok { OnOk result (AddsEdge from num (listed_in K.cmp edges.old.entries)
+        (listed_in K.cmp edges.new.entries)) }
     ensures err { OnErr result (edges.new.entries ≡ edges.old.entries) }
 {
     let mut fed = Vec::new(alloc);
@@ -58,9 +59,12 @@ pub fn add_edge<K: Key>(
     from: K,
     num: GrantId,
 ) -> Result<(), Memory>
-    ensures ok { OnOk result (AddsEdge from num (listed_in K.cmp edges.old.entries) (listed_in K.cmp edges.new.entries)) }
-    ensures err { OnErr result (listed_in K.cmp edges.new.entries from ≡ listed_in K.cmp edges.old.entries from) }
-    ensures others { (at : K) → at ≢ from → listed_in K.cmp edges.new.entries at ≡ listed_in K.cmp edges.old.entries at }
+    ensures ok { OnOk result (AddsEdge from num (listed_in K.cmp edges.old.entries)
+        (listed_in K.cmp edges.new.entries)) }
+    ensures err { OnErr result (listed_in K.cmp edges.new.entries from
+        ≡ listed_in K.cmp edges.old.entries from) }
+    ensures others { (at : K) → at ≢ from → listed_in K.cmp edges.new.entries at
+        ≡ listed_in K.cmp edges.old.entries at }
 {
     match edges.get_mut(&from) {
         Some(fed) => push_last(fed, num),
@@ -79,8 +83,10 @@ fn pop_last(fed: &mut Vec<GrantId>, num: GrantId)
 
 /// Takes a grant out of those of a key, where it is the last of them.
 pub fn remove_edge<K: Key>(edges: &mut Index<K>, from: K, num: GrantId)
-    ensures here { IsPopped (listed_in K.cmp edges.old.entries from) num (listed_in K.cmp edges.new.entries from) }
-    ensures others { (at : K) → at ≢ from → listed_in K.cmp edges.new.entries at ≡ listed_in K.cmp edges.old.entries at }
+    ensures here { IsPopped (listed_in K.cmp edges.old.entries from) num
+        (listed_in K.cmp edges.new.entries from) }
+    ensures others { (at : K) → at ≢ from → listed_in K.cmp edges.new.entries at
+        ≡ listed_in K.cmp edges.old.entries at }
 {
     if let Some(fed) = edges.get_mut(&from) {
         pop_last(fed, num);

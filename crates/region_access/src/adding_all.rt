@@ -18,8 +18,10 @@ pub fn add_edges<K: Key>(
     num: GrantId,
 ) -> Result<(), Memory>
     requires { IsNewIn num (listed_in K.cmp edges.old.entries) }
-    ensures may { MayAdd (Contains from.now) num (listed_in K.cmp edges.old.entries) (listed_in K.cmp edges.new.entries) }
-    ensures all { OnOk result ((at : K) → Contains from.now at → Contains (listed_in K.cmp edges.new.entries at) num) }
+    ensures may { MayAdd (Contains from.now) num (listed_in K.cmp edges.old.entries)
+        (listed_in K.cmp edges.new.entries) }
+    ensures all { OnOk result ((at : K) → Contains from.now at
+        → Contains (listed_in K.cmp edges.new.entries at) num) }
 {
     for key in from {
         add_edge(alloc, edges, *key, num)?;
@@ -29,7 +31,8 @@ pub fn add_edges<K: Key>(
 
 /// Takes a grant out of those of keys, where it is the last of them.
 pub fn remove_edges<K: Key>(edges: &mut Index<K>, from: &[K], num: GrantId)
-    ensures { (base : K → List GrantId) → IsNewIn num base → MayAdd (Contains from.now) num base (listed_in K.cmp edges.old.entries)
+    ensures { (base : K → List GrantId) → IsNewIn num base
+        → MayAdd (Contains from.now) num base (listed_in K.cmp edges.old.entries)
         → HasSameEdges base (listed_in K.cmp edges.new.entries) }
 {
     for key in from {
@@ -45,8 +48,10 @@ pub fn add_to_all<K: Key>(
     num: GrantId,
 ) -> Result<(), Memory>
     requires { IsNewIn num (listed_in K.cmp edges.old.entries) }
-    ensures ok { OnOk result (AddsEdges (Contains from.now) num (listed_in K.cmp edges.old.entries) (listed_in K.cmp edges.new.entries)) }
-    ensures err { OnErr result (HasSameEdges (listed_in K.cmp edges.old.entries) (listed_in K.cmp edges.new.entries)) }
+    ensures ok { OnOk result (AddsEdges (Contains from.now) num (listed_in K.cmp edges.old.entries)
+        (listed_in K.cmp edges.new.entries)) }
+    ensures err { OnErr result (HasSameEdges (listed_in K.cmp edges.old.entries)
+        (listed_in K.cmp edges.new.entries)) }
 {
     match add_edges(alloc, edges, from, num) {
         Ok(()) => Ok(()),

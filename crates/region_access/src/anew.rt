@@ -26,7 +26,8 @@ use std::sync::ledger::{Blank, Ledger};
 // The nodes of owners.
 fn owners_of(alloc: Global, tables: &Tables) -> Result<Vec<Node>, Memory>
     requires { HasNumbers tables.now }
-    ensures { IfOk result (λ nodes. (num : GrainId) (grain : Grain) → IsGrain tables.now num grain → Contains nodes.items (node.User num grain.owner)) }
+    ensures { IfOk result (λ nodes. (num : GrainId) (grain : Grain) → IsGrain tables.now num grain
+        → Contains nodes.items (node.User num grain.owner)) }
 {
     let mut nodes = Vec::new(alloc);
     for (place, grain) in tables.grains.as_slice().iter().enumerate() {
@@ -41,7 +42,8 @@ fn owners_of(alloc: Global, tables: &Tables) -> Result<Vec<Node>, Memory>
 fn add_grant_nodes(tables: &Tables, nodes: &mut Vec<Node>) -> Result<(), Memory>
     requires { HasNumbers tables.now }
     ensures kept { OnOk result ((at : Node) → Contains nodes.old.items at → Contains nodes.new.items at) }
-    ensures all { OnOk result ((num : GrantId) (grant : Grant) → IsGrant tables.now num grant → Contains nodes.new.items (the_node_of num grant)) }
+    ensures all { OnOk result ((num : GrantId) (grant : Grant) → IsGrant tables.now num grant
+        → Contains nodes.new.items (the_node_of num grant)) }
 {
     for (place, grant) in tables.grants.as_slice().iter().enumerate() {
         let Ok(_) = nodes.push(node_of(GrantId(place as u32 + 1), grant)) else {
@@ -54,7 +56,8 @@ fn add_grant_nodes(tables: &Tables, nodes: &mut Vec<Node>) -> Result<(), Memory>
 // The numbers of grants.
 fn numbers_of(alloc: Global, tables: &Tables) -> Result<Vec<GrantId>, Memory>
     requires { HasNumbers tables.now }
-    ensures { IfOk result (λ nums. (num : GrantId) → Contains nums.items num ↔ ((grant : Grant) × IsGrant tables.now num grant)) }
+    ensures { IfOk result (λ nums. (num : GrantId)
+        → Contains nums.items num ↔ ((grant : Grant) × IsGrant tables.now num grant)) }
 {
     let mut nums = Vec::new(alloc);
     for (place, _grant) in tables.grants.as_slice().iter().enumerate() {

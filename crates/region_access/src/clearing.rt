@@ -29,8 +29,9 @@ pub fn clear(table: &mut Table, nodes: &[Node], before: &mut Vec<Held>)
 pub fn undo(table: &mut Table, nodes: &[Node], before: &[Held])
     requires long { length before.now ≡ length nodes.now }
     requires places { (at : Node) → Contains nodes.now at → IsSome (held_at table.old.entries at) }
-    ensures { (start : Table) → Clears nodes.now start table.old.entries → IsWhatWas start nodes.now before.now
-        → (at : Node) → held_at table.new.entries at ≡ held_at start at }
+    ensures { (start : Table) → Clears nodes.now start table.old.entries
+        → IsWhatWas start nodes.now before.now → (at : Node)
+        → held_at table.new.entries at ≡ held_at start at }
 {
     for (place, node) in nodes.iter().enumerate() {
         put(table, *node, before[place]);

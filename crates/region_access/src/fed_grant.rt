@@ -40,8 +40,10 @@ fn add_arrival(
 ) -> Result<(), Memory>
     requires new { IsNewIn grant.now.num (fed_in into.old.entries) }
     requires new_there { IsNewIn grant.now.num (tied_in ties.old.entries) }
-    ensures arrival { OnOk result (HasArrival (Some grant.now) (fed_in into.old.entries) (fed_in into.new.entries)) }
-    ensures ties { OnOk result (HasTies (Some grant.now) (tied_in ties.old.entries) (tied_in ties.new.entries)) }
+    ensures arrival { OnOk result (HasArrival (Some grant.now) (fed_in into.old.entries)
+        (fed_in into.new.entries)) }
+    ensures ties { OnOk result (HasTies (Some grant.now) (tied_in ties.old.entries)
+        (tied_in ties.new.entries)) }
     ensures err { OnErr result (HasSameEdges (fed_in into.old.entries) (fed_in into.new.entries)) }
     ensures err_there { OnErr result (HasSameEdges (tied_in ties.old.entries) (tied_in ties.new.entries)) }
 {
@@ -67,9 +69,12 @@ fn add_grant_edges(
     requires new { IsNewIn grant.now.num (fed_in edges.old.entries) }
     requires new_into { IsNewIn grant.now.num (fed_in into.old.entries) }
     requires new_ties { IsNewIn grant.now.num (tied_in ties.old.entries) }
-    ensures feeding { OnOk result (HasFeeding (Some grant.now) (fed_in edges.old.entries) (fed_in edges.new.entries)) }
-    ensures arrival { OnOk result (HasArrival (Some grant.now) (fed_in into.old.entries) (fed_in into.new.entries)) }
-    ensures ties { OnOk result (HasTies (Some grant.now) (tied_in ties.old.entries) (tied_in ties.new.entries)) }
+    ensures feeding { OnOk result (HasFeeding (Some grant.now) (fed_in edges.old.entries)
+        (fed_in edges.new.entries)) }
+    ensures arrival { OnOk result (HasArrival (Some grant.now) (fed_in into.old.entries)
+        (fed_in into.new.entries)) }
+    ensures ties { OnOk result (HasTies (Some grant.now) (tied_in ties.old.entries)
+        (tied_in ties.new.entries)) }
     ensures err { OnErr result (HasSameEdges (fed_in edges.old.entries) (fed_in edges.new.entries)) }
     ensures err_into { OnErr result (HasSameEdges (fed_in into.old.entries) (fed_in into.new.entries)) }
     ensures err_ties { OnErr result (HasSameEdges (tied_in ties.old.entries) (tied_in ties.new.entries)) }
@@ -104,7 +109,8 @@ pub fn add_new(alloc: Global, indexes: &mut Indexes, added: &Option<NewGrant>) -
 
 /// Takes a new grant, if there is one, out of the indexes.
 pub fn remove_new(indexes: &mut Indexes, added: &Option<NewGrant>)
-    ensures { (base : Entries) → HaveNew added.now base (entries_of indexes.old) → HaveSame base (entries_of indexes.new) }
+    ensures { (base : Entries) → HaveNew added.now base (entries_of indexes.old)
+        → HaveSame base (entries_of indexes.new) }
 {
     if let Some(grant) = added {
         remove_edges(&mut indexes.edges, grant.feeding.as_slice(), grant.num);
@@ -115,7 +121,8 @@ pub fn remove_new(indexes: &mut Indexes, added: &Option<NewGrant>)
 
 // Adds the nodes that needs name.
 fn add_holders(nodes: &mut Vec<Node>, needs: &[Need]) -> Result<(), Memory>
-    ensures { OnOk result ((at : Node) → Contains nodes.new.items at ↔ (Contains nodes.old.items at ⊎ IsNamed needs.now at)) }
+    ensures { OnOk result ((at : Node)
+        → Contains nodes.new.items at ↔ (Contains nodes.old.items at ⊎ IsNamed needs.now at)) }
 {
     for need in needs {
         push_some(nodes, holder_of(need))?;

@@ -22,7 +22,8 @@ fn add_from(
     from: Option<Node>,
     num: GrantId,
 ) -> Result<(), Memory>
-    ensures { OnOk result (Adds (λ at. from ≡ Some at) num (fed_in edges.old.entries) (fed_in edges.new.entries)) }
+    ensures { OnOk result (Adds (λ at. from
+        ≡ Some at) num (fed_in edges.old.entries) (fed_in edges.new.entries)) }
 {
     match from {
         Some(node) => add_edge(alloc, edges, node, num),
@@ -32,7 +33,8 @@ fn add_from(
 
 // Adds an edge from the node of each need.
 fn add_needs(alloc: Global, edges: &mut Edges, needs: &[Need], num: GrantId) -> Result<(), Memory>
-    ensures { OnOk result (Adds (IsNamed needs.now) num (fed_in edges.old.entries) (fed_in edges.new.entries)) }
+    ensures { OnOk result (Adds (IsNamed needs.now) num (fed_in edges.old.entries)
+        (fed_in edges.new.entries)) }
 {
     for need in needs {
         add_from(alloc, edges, holder_of(need), num)?;
@@ -47,7 +49,8 @@ pub fn add_grant(
     num: GrantId,
     grant: &Grant,
 ) -> Result<(), Memory>
-    ensures { OnOk result (Adds (λ at. Feeds at grant.now) num (fed_in edges.old.entries) (fed_in edges.new.entries)) }
+    ensures { OnOk result (Adds (λ at.
+        Feeds at grant.now) num (fed_in edges.old.entries) (fed_in edges.new.entries)) }
 {
     add_from(alloc, edges, source_of(grant), num)?;
     add_needs(alloc, edges, grant.needs.as_slice(), num)

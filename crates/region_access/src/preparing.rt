@@ -28,7 +28,8 @@ use std::alloc::Global;
 // Makes places for nodes. No fact comes or goes by it, nor where memory runs out.
 fn add_places(table: &mut Table, nodes: &[Node]) -> Result<(), Memory>
     ensures facts { HasSameFacts table.old.entries table.new.entries }
-    ensures places { OnOk result ((at : Node) → Contains nodes.now at → IsSome (held_at table.new.entries at)) }
+    ensures places { OnOk result ((at : Node) → Contains nodes.now at
+        → IsSome (held_at table.new.entries at)) }
 {
     for node in nodes {
         add_place(table, *node)?;
@@ -66,7 +67,8 @@ fn make_room<V: Probe>(
 // Puts back all that was cleared.
 fn fill_back(table: &mut Table, room: Room)
     requires { WasCleared table.old.entries room }
-    ensures { (t : Tables) (seeds : List Node) (start : Table) → IsRoom t seeds start table.old.entries room → HasSameFacts start table.new.entries }
+    ensures { (t : Tables) (seeds : List Node) (start : Table)
+        → IsRoom t seeds start table.old.entries room → HasSameFacts start table.new.entries }
 {
     undo(table, room.nodes.as_slice(), room.before.as_slice());
 }
@@ -87,10 +89,13 @@ pub fn prepare<V: Probe>(
     ensures err { OnErr result (HasSameFacts table.old.entries table.new.entries) }
     ensures err_indexes { OnErr result (HaveSame (entries_of indexes.old) (entries_of indexes.new)) }
     ensures ok { IfOk result (IsRoom (V.tables probe.now) seeds.now table.old.entries table.new.entries) }
-    ensures prepared { IfOk result (λ room. (after : Tables) → IsSolutionOf (V.tables probe.now) table.old.entries
-        → Touches room.nodes.items (V.tables probe.now) after → IsPrepared after room.nodes.items table.new.entries) }
+    ensures prepared { IfOk result (λ room. (after : Tables)
+        → IsSolutionOf (V.tables probe.now) table.old.entries
+        → Touches room.nodes.items (V.tables probe.now) after
+        → IsPrepared after room.nodes.items table.new.entries) }
     ensures added { OnOk result (HaveNew added.now (entries_of indexes.old) (entries_of indexes.new)) }
-    ensures indexes_after { OnOk result ((after : Tables) → AddsGrant added.now (V.tables probe.now) after → AreIndexesOf after (entries_of indexes.new)) }
+    ensures indexes_after { OnOk result ((after : Tables) → AddsGrant added.now (V.tables probe.now) after
+        → AreIndexesOf after (entries_of indexes.new)) }
 {
     let room = make_room(alloc, probe, table, &indexes.edges, seeds)?;
     match add_new(alloc, indexes, added) {
@@ -105,8 +110,10 @@ pub fn prepare<V: Probe>(
 /// Takes back what was made ready: each node holds what it held before, and each index has what it had.
 pub fn take_back(table: &mut Table, indexes: &mut Indexes, room: Room, added: &Option<NewGrant>)
     requires { WasCleared table.old.entries room }
-    ensures facts { (t : Tables) (seeds : List Node) (start : Table) → IsRoom t seeds start table.old.entries room → HasSameFacts start table.new.entries }
-    ensures indexes { (base : Entries) → HaveNew added.now base (entries_of indexes.old) → HaveSame base (entries_of indexes.new) }
+    ensures facts { (t : Tables) (seeds : List Node) (start : Table)
+        → IsRoom t seeds start table.old.entries room → HasSameFacts start table.new.entries }
+    ensures indexes { (base : Entries) → HaveNew added.now base (entries_of indexes.old)
+        → HaveSame base (entries_of indexes.new) }
 {
     fill_back(table, room);
     remove_new(indexes, added);

@@ -25,7 +25,8 @@ fn reach(places: &mut Table, nodes: &mut Vec<Node>, node: Node) -> Result<(), Me
     ensures visited { OnOk result (IsVisited nodes.new.items places.new.entries) }
     ensures extends { OnOk result (Extends nodes.old.items nodes.new.items) }
     ensures there { OnOk result (Contains nodes.new.items node) }
-    ensures only { OnOk result ((at : Node) → Contains nodes.new.items at → Contains nodes.old.items at ⊎ (at ≡ node)) }
+    ensures only { OnOk result ((at : Node) → Contains nodes.new.items at
+        → Contains nodes.old.items at ⊎ (at ≡ node)) }
 {
     if places.contains_key(&node) {
         return Ok(());
@@ -45,9 +46,11 @@ fn reach_from<V: Probe>(
     grants: &[GrantId],
 ) -> Result<(), Memory>
     requires visited { IsVisited nodes.old.items places.old.entries }
-    requires rows { (num : GrantId) → Contains grants.now num → (grant : Grant) × IsGrant (V.tables probe.now) num grant }
+    requires rows { (num : GrantId) → Contains grants.now num
+        → (grant : Grant) × IsGrant (V.tables probe.now) num grant }
     ensures visited { OnOk result (IsVisited nodes.new.items places.new.entries) }
-    ensures reaches { OnOk result (ReachesFrom (V.tables probe.now) grants.now nodes.old.items nodes.new.items) }
+    ensures reaches { OnOk result (ReachesFrom (V.tables probe.now) grants.now nodes.old.items
+        nodes.new.items) }
 {
     for num in grants {
         reach(places, nodes, probe.node(*num))?;
@@ -60,7 +63,8 @@ fn add_seeds(places: &mut Table, nodes: &mut Vec<Node>, seeds: &[Node]) -> Resul
     requires { IsVisited nodes.old.items places.old.entries }
     ensures visited { OnOk result (IsVisited nodes.new.items places.new.entries) }
     ensures all { OnOk result ((at : Node) → Contains seeds.now at → Contains nodes.new.items at) }
-    ensures only { OnOk result ((at : Node) → Contains nodes.new.items at → Contains nodes.old.items at ⊎ Contains seeds.now at) }
+    ensures only { OnOk result ((at : Node) → Contains nodes.new.items at
+        → Contains nodes.old.items at ⊎ Contains seeds.now at) }
 {
     for seed in seeds {
         reach(places, nodes, *seed)?;

@@ -3,7 +3,7 @@
 ghost use Rattle.std.specs.Prelude.{◌≡◌, ◌⊎◌, ◌↔◌, ◌∷◌, [], Some, IfOk, OnOk, Contains};
 ghost use Rattle.share_graph.specs.declared.facts.Node.{Node};
 ghost use Rattle.share_graph.specs.Coherent.{HasNumbers};
-ghost use Rattle.region_access.specs.Seeds.{IsSeedOfGrant, IsSeedOfGrants, IsSeedOfTie, IsSeedOfOwner, IsSeedOfGrain, IsSeedOfAdmin, IsOwnNode, IsSeedOfAccount, IsSeedOf};
+ghost use Rattle.region_access.specs.Seeds.{IsSeedOfGrant, IsSeedOfGrants, IsSeedOfTie, IsSeedOfOwner, IsSeedOfGrain, IsSeedOfAdmin, IsNodeOfAccount, IsSeedOfAccount, IsSeedOf};
 ghost use Rattle.region_access.specs.Ties.{IsTiesOf, tied_in};
 
 use crate::index::Ties;
@@ -37,7 +37,9 @@ fn node_there(tables: &Tables, num: GrantId) -> Option<Node>
 
 // Adds the nodes of grants.
 fn add_nodes(tables: &Tables, nodes: &mut Vec<Node>, nums: &[GrantId]) -> Result<(), Memory>
-    ensures { OnOk result ((at : Node) → Contains nodes.new.items at ↔ (Contains nodes.old.items at ⊎ IsSeedOfGrants tables.now nums.now at)) }
+    ensures { OnOk result ((at : Node)
+        → Contains nodes.new.items at ↔ (Contains nodes.old.items at
+        ⊎ IsSeedOfGrants tables.now nums.now at)) }
 {
     for num in nums {
         push_some(nodes, node_there(tables, *num))?;
@@ -48,7 +50,9 @@ fn add_nodes(tables: &Tables, nodes: &mut Vec<Node>, nums: &[GrantId]) -> Result
 // Adds the nodes of the grants that hang on a tie.
 fn add_tied(tables: &Tables, ties: &Ties, nodes: &mut Vec<Node>, on: Tie) -> Result<(), Memory>
     requires { IsTiesOf tables.now (tied_in ties.now.entries) }
-    ensures { OnOk result ((at : Node) → Contains nodes.new.items at ↔ (Contains nodes.old.items at ⊎ IsSeedOfTie tables.now on at)) }
+    ensures { OnOk result ((at : Node)
+        → Contains nodes.new.items at ↔ (Contains nodes.old.items at
+        ⊎ IsSeedOfTie tables.now on at)) }
 {
     add_nodes(tables, nodes, tied_by(ties, on))
 }
@@ -56,7 +60,9 @@ fn add_tied(tables: &Tables, ties: &Ties, nodes: &mut Vec<Node>, on: Tie) -> Res
 // Adds an account's own node on each grain.
 fn add_own(tables: &Tables, nodes: &mut Vec<Node>, account: AccountId) -> Result<(), Memory>
     requires { HasNumbers tables.now }
-    ensures { OnOk result ((at : Node) → Contains nodes.new.items at ↔ (Contains nodes.old.items at ⊎ IsOwnNode tables.now account at)) }
+    ensures { OnOk result ((at : Node)
+        → Contains nodes.new.items at ↔ (Contains nodes.old.items at
+        ⊎ IsNodeOfAccount tables.now account at)) }
 {
     for (place, _grain) in tables.grains.as_slice().iter().enumerate() {
         let Ok(_) = nodes.push(Node::User(GrainId(place as u32 + 1), account)) else {
@@ -108,7 +114,8 @@ fn seeds_of_admin(
     account: AccountId,
 ) -> Result<Vec<Node>, Memory>
     requires { IsTiesOf tables.now (tied_in ties.now.entries) }
-    ensures { IfOk result (λ nodes. (at : Node) → Contains nodes.items at ↔ IsSeedOfAdmin tables.now account at) }
+    ensures { IfOk result (λ nodes. (at : Node)
+        → Contains nodes.items at ↔ IsSeedOfAdmin tables.now account at) }
 {
     let mut nodes = Vec::new(alloc);
     add_tied(tables, ties, &mut nodes, Tie::Admin(account))?;
@@ -124,7 +131,8 @@ fn seeds_of_account(
 ) -> Result<Vec<Node>, Memory>
     requires numbers { HasNumbers tables.now }
     requires ties { IsTiesOf tables.now (tied_in ties.now.entries) }
-    ensures { IfOk result (λ nodes. (at : Node) → Contains nodes.items at ↔ IsSeedOfAccount tables.now account at) }
+    ensures { IfOk result (λ nodes. (at : Node)
+        → Contains nodes.items at ↔ IsSeedOfAccount tables.now account at) }
 {
     let mut nodes = seeds_of_admin(alloc, tables, ties, account)?;
     add_own(tables, &mut nodes, account)?;
@@ -140,7 +148,8 @@ pub fn seeds_of(
 ) -> Result<Vec<Node>, Memory>
     requires numbers { HasNumbers tables.now }
     requires ties { IsTiesOf tables.now (tied_in ties.now.entries) }
-    ensures { IfOk result (λ nodes. (at : Node) → Contains nodes.items at ↔ IsSeedOf tables.now event.now at) }
+    ensures { IfOk result (λ nodes. (at : Node)
+        → Contains nodes.items at ↔ IsSeedOf tables.now event.now at) }
 {
     match event {
         Event::GrainAdded(grain) => one(alloc, Node::User(grain.num, grain.owner)),

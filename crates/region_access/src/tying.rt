@@ -3,7 +3,7 @@
 ghost use Rattle.std.specs.Prelude.{◌≡◌, ◌⊎◌, ◌↔◌, Contains, OnOk, IfOk};
 ghost use Rattle.share_graph.specs.Coherent.{HasNumbers};
 ghost use Rattle.region_access.specs.declared.tie.Tie.{Tie};
-ghost use Rattle.region_access.specs.Ties.{IsTied, IsTiesOf, IsAsked, tie_of as the_tie_of, tied_in};
+ghost use Rattle.region_access.specs.Ties.{IsTied, IsTiesOf, IsAskedBy, tie_of as the_tie_of, tied_in};
 
 use crate::adding_all::add_edges;
 use crate::index::Ties;
@@ -26,7 +26,8 @@ fn tie_of(need: &Need) -> Option<Tie>
 
 // Adds what needs have their grant hang on.
 fn add_asked(ties: &mut Vec<Tie>, needs: &[Need]) -> Result<(), Memory>
-    ensures { OnOk result ((on : Tie) → Contains ties.new.items on ↔ (Contains ties.old.items on ⊎ IsAsked needs.now on)) }
+    ensures { OnOk result ((on : Tie) → Contains ties.new.items on ↔ (Contains ties.old.items on
+        ⊎ IsAskedBy needs.now on)) }
 {
     for need in needs {
         push_some(ties, tie_of(need))?;

@@ -27,7 +27,8 @@ fn find_if_held(waiting: &mut Waiting, node: Node, held: &Held, fact: Fact)
     requires fact { IsFact fact }
     ensures finds { Finds waiting.old waiting.new }
     ensures there { IsIn held.now fact → HeldAt waiting.new.found node fact }
-    ensures only { (at : Node) (other : Fact) → HeldAt waiting.new.found at other → HeldAt waiting.old.found at other ⊎ ((at ≡ node) × IsIn held.now other) }
+    ensures only { (at : Node) (other : Fact) → HeldAt waiting.new.found at other
+        → HeldAt waiting.old.found at other ⊎ ((at ≡ node) × IsIn held.now other) }
 {
     if has(held, fact) {
         waiting.find(node, fact);
@@ -39,7 +40,8 @@ fn find_held(waiting: &mut Waiting, node: Node, held: &Held)
     requires { IsSome (held_at waiting.old.found node) }
     ensures finds { Finds waiting.old waiting.new }
     ensures there { (fact : Fact) → IsFact fact → IsIn held.now fact → HeldAt waiting.new.found node fact }
-    ensures only { (at : Node) (other : Fact) → HeldAt waiting.new.found at other → HeldAt waiting.old.found at other ⊎ ((at ≡ node) × IsIn held.now other) }
+    ensures only { (at : Node) (other : Fact) → HeldAt waiting.new.found at other
+        → HeldAt waiting.old.found at other ⊎ ((at ≡ node) × IsIn held.now other) }
 {
     for place in 0..65 {
         find_if_held(waiting, node, held, fact_at(place));
@@ -51,9 +53,11 @@ fn find_own<V: Probe>(probe: &V, waiting: &mut Waiting, at: Node)
     requires coherent { IsCoherent (V.tables probe.now) }
     requires place { IsSome (held_at waiting.old.found at) }
     ensures finds { Finds waiting.old waiting.new }
-    ensures owners { (num : GrainId) (grain : Grain) (app : App) (fact : Fact) → at ≡ node.User num grain.owner
-        → Owns (V.tables probe.now) num grain app → IsFactOf app fact → HeldAt waiting.new.found at fact }
-    ensures sound { IsSound (V.tables probe.now) waiting.old.found → IsSound (V.tables probe.now) waiting.new.found }
+    ensures owners { (num : GrainId) (grain : Grain) (app : App) (fact : Fact)
+        → at ≡ node.User num grain.owner → Owns (V.tables probe.now) num grain app
+        → IsFactOf app fact → HeldAt waiting.new.found at fact }
+    ensures sound { IsSound (V.tables probe.now) waiting.old.found
+        → IsSound (V.tables probe.now) waiting.new.found }
 {
     if let Node::User(num, account) = at {
         find_held(waiting, at, &probe.own(num, account));
@@ -65,9 +69,11 @@ pub fn find_owned<V: Probe>(probe: &V, waiting: &mut Waiting, nodes: &[Node])
     requires coherent { IsCoherent (V.tables probe.now) }
     requires places { (at : Node) → Contains nodes.now at → IsSome (held_at waiting.old.found at) }
     ensures finds { Finds waiting.old waiting.new }
-    ensures owners { (num : GrainId) (grain : Grain) (app : App) (fact : Fact) → Contains nodes.now (node.User num grain.owner)
-        → Owns (V.tables probe.now) num grain app → IsFactOf app fact → HeldAt waiting.new.found (node.User num grain.owner) fact }
-    ensures sound { IsSound (V.tables probe.now) waiting.old.found → IsSound (V.tables probe.now) waiting.new.found }
+    ensures owners { (num : GrainId) (grain : Grain) (app : App) (fact : Fact)
+        → Contains nodes.now (node.User num grain.owner) → Owns (V.tables probe.now) num grain app
+        → IsFactOf app fact → HeldAt waiting.new.found (node.User num grain.owner) fact }
+    ensures sound { IsSound (V.tables probe.now) waiting.old.found
+        → IsSound (V.tables probe.now) waiting.new.found }
 {
     for node in nodes {
         find_own(probe, waiting, *node);

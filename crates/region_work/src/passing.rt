@@ -26,16 +26,21 @@ use least_access::table::Table;
 /// Tests what a grant may pass on since a node gained a fact: every fact where a need became met, else the one that its source gained.
 fn pass_by<V: Probe>(probe: &mut V, table: &Table, waiting: &mut Waiting, num: GrantId, gain: &Gain)
     requires coherent { IsCoherent (V.tables probe.old) }
-    requires row { (grant : Grant) × IsGrant (V.tables probe.old) num grant × IsSome (held_at waiting.old.found (node_of num grant)) }
+    requires row { (grant : Grant) × IsGrant (V.tables probe.old) num grant
+        × IsSome (held_at waiting.old.found (node_of num grant)) }
     requires fact { IsFact gain.now.fact }
     ensures same { V.tables probe.new ≡ V.tables probe.old }
     ensures finds { Finds waiting.old waiting.new }
-    ensures sound { IsSound (V.tables probe.old) table.now.entries → IsSound (V.tables probe.old) waiting.old.found → IsSound (V.tables probe.old) waiting.new.found }
+    ensures sound { IsSound (V.tables probe.old) table.now.entries
+        → IsSound (V.tables probe.old) waiting.old.found
+        → IsSound (V.tables probe.old) waiting.new.found }
     ensures counted { (start : Table) → Moves gain.now start table.now.entries
         → V.count probe.new ≤ V.count probe.old + (owed (V.tables probe.old) start num - owed (V.tables probe.old) table.now.entries num) }
-    ensures closed { (start : Table) → Moves gain.now start table.now.entries → (grant : Grant) (fact : Fact) → IsGrant (V.tables probe.old) num grant
-        → Follows (V.tables probe.old) (HeldAt table.now.entries) num grant (node_of num grant) fact
-        → Follows (V.tables probe.old) (HeldAt start) num grant (node_of num grant) fact ⊎ HeldAt waiting.new.found (node_of num grant) fact }
+    ensures closed { (start : Table) → Moves gain.now start table.now.entries → (grant : Grant) (fact : Fact)
+        → IsGrant (V.tables probe.old) num grant
+        → Follows (V.tables probe.old) (HeldAt table.now.entries) num grant (node_of num grant)
+        fact → Follows (V.tables probe.old) (HeldAt start) num grant (node_of num grant) fact
+        ⊎ HeldAt waiting.new.found (node_of num grant) fact }
 {
     if any_becomes_met(probe.needs(num), gain) {
         try_facts(probe, table, waiting, num);
@@ -58,7 +63,9 @@ pub fn pass_on<V: Probe>(
     requires fact { IsFact gain.now.fact }
     ensures same { V.tables probe.new ≡ V.tables probe.old }
     ensures finds { Finds waiting.old waiting.new }
-    ensures sound { IsSound (V.tables probe.old) table.now.entries → IsSound (V.tables probe.old) waiting.old.found → IsSound (V.tables probe.old) waiting.new.found }
+    ensures sound { IsSound (V.tables probe.old) table.now.entries
+        → IsSound (V.tables probe.old) waiting.old.found
+        → IsSound (V.tables probe.old) waiting.new.found }
     ensures counted { (start : Table) → Moves gain.now start table.now.entries
         → V.count probe.new ≤ V.count probe.old + sum_by (λ num. owed (V.tables probe.old) start num - owed (V.tables probe.old) table.now.entries num) fed.now }
     ensures closed { (start : Table) → Moves gain.now start table.now.entries

@@ -34,7 +34,8 @@ pub fn solve_region<V: Probe>(
     requires fresh { IsFresh nodes.now waiting.old }
     ensures same { V.tables probe.new ≡ V.tables probe.old }
     ensures solution { IsSolutionOf (V.tables probe.old) table.new.entries }
-    ensures bound { V.count probe.new ≤ V.count probe.old + most_tests (length grants.now) (needs_by (V.tables probe.old) grants.now) }
+    ensures bound { V.count probe.new ≤ V.count probe.old + most_tests (length grants.now)
+        (needs_by (V.tables probe.old) grants.now) }
 {
     find_owned(probe, waiting, nodes);
     start_grants(probe, table, waiting, grants);

@@ -36,13 +36,16 @@ fn try_if_held<V: Probe>(
     fact: Fact,
 )
     requires coherent { IsCoherent (V.tables probe.old) }
-    requires row { (grant : Grant) × IsGrant (V.tables probe.old) num grant × IsSome (held_at waiting.old.found (node_of num grant)) }
+    requires row { (grant : Grant) × IsGrant (V.tables probe.old) num grant
+        × IsSome (held_at waiting.old.found (node_of num grant)) }
     requires fact { IsFact fact }
     ensures same { V.tables probe.new ≡ V.tables probe.old }
     ensures one { V.count probe.new ≤ V.count probe.old + 1 }
     ensures none { (IsIn held.now fact → ⊥) → V.count probe.new ≡ V.count probe.old }
     ensures finds { Finds waiting.old waiting.new }
-    ensures sound { IsSound (V.tables probe.old) table.now.entries → IsSound (V.tables probe.old) waiting.old.found → IsSound (V.tables probe.old) waiting.new.found }
+    ensures sound { IsSound (V.tables probe.old) table.now.entries
+        → IsSound (V.tables probe.old) waiting.old.found
+        → IsSound (V.tables probe.old) waiting.new.found }
     ensures tested { IsIn held.now fact → (grant : Grant) → IsGrant (V.tables probe.old) num grant
         → Follows (V.tables probe.old) (HeldAt table.now.entries) num grant (node_of num grant) fact → HeldAt waiting.new.found (node_of num grant) fact }
 {
@@ -54,13 +57,18 @@ fn try_if_held<V: Probe>(
 // Tests each fact of a grant that is held.
 fn try_held<V: Probe>(probe: &mut V, table: &Table, waiting: &mut Waiting, num: GrantId, held: Held)
     requires coherent { IsCoherent (V.tables probe.old) }
-    requires row { (grant : Grant) × IsGrant (V.tables probe.old) num grant × IsSome (held_at waiting.old.found (node_of num grant)) }
+    requires row { (grant : Grant) × IsGrant (V.tables probe.old) num grant
+        × IsSome (held_at waiting.old.found (node_of num grant)) }
     ensures same { V.tables probe.new ≡ V.tables probe.old }
     ensures counted { V.count probe.new + room held ≤ V.count probe.old + 65 }
     ensures finds { Finds waiting.old waiting.new }
-    ensures sound { IsSound (V.tables probe.old) table.now.entries → IsSound (V.tables probe.old) waiting.old.found → IsSound (V.tables probe.old) waiting.new.found }
-    ensures tested { (grant : Grant) (fact : Fact) → IsFact fact → IsIn held fact → IsGrant (V.tables probe.old) num grant
-        → Follows (V.tables probe.old) (HeldAt table.now.entries) num grant (node_of num grant) fact → HeldAt waiting.new.found (node_of num grant) fact }
+    ensures sound { IsSound (V.tables probe.old) table.now.entries
+        → IsSound (V.tables probe.old) waiting.old.found
+        → IsSound (V.tables probe.old) waiting.new.found }
+    ensures tested { (grant : Grant) (fact : Fact) → IsFact fact → IsIn held fact
+        → IsGrant (V.tables probe.old) num grant
+        → Follows (V.tables probe.old) (HeldAt table.now.entries) num grant (node_of num grant)
+        fact → HeldAt waiting.new.found (node_of num grant) fact }
 {
     for place in 0..65 {
         try_if_held(probe, table, waiting, num, &held, fact_at(place));
@@ -70,11 +78,15 @@ fn try_held<V: Probe>(probe: &mut V, table: &Table, waiting: &mut Waiting, num: 
 // Tests a grant by what the table has at its source, or once where the site gave it.
 fn start_grant<V: Probe>(probe: &mut V, table: &Table, waiting: &mut Waiting, num: GrantId)
     requires coherent { IsCoherent (V.tables probe.old) }
-    requires row { (grant : Grant) × IsGrant (V.tables probe.old) num grant × IsSome (held_at waiting.old.found (node_of num grant)) }
+    requires row { (grant : Grant) × IsGrant (V.tables probe.old) num grant
+        × IsSome (held_at waiting.old.found (node_of num grant)) }
     ensures same { V.tables probe.new ≡ V.tables probe.old }
-    ensures counted { V.count probe.new + owed (V.tables probe.old) table.now.entries num ≤ V.count probe.old + bound_of (V.tables probe.old) num }
+    ensures counted { V.count probe.new + owed (V.tables probe.old) table.now.entries num
+        ≤ V.count probe.old + bound_of (V.tables probe.old) num }
     ensures finds { Finds waiting.old waiting.new }
-    ensures sound { IsSound (V.tables probe.old) table.now.entries → IsSound (V.tables probe.old) waiting.old.found → IsSound (V.tables probe.old) waiting.new.found }
+    ensures sound { IsSound (V.tables probe.old) table.now.entries
+        → IsSound (V.tables probe.old) waiting.old.found
+        → IsSound (V.tables probe.old) waiting.new.found }
     ensures tested { (grant : Grant) (fact : Fact) → IsGrant (V.tables probe.old) num grant
         → Follows (V.tables probe.old) (HeldAt table.now.entries) num grant (node_of num grant) fact → HeldAt waiting.new.found (node_of num grant) fact }
 {
@@ -95,11 +107,16 @@ pub fn start_grants<V: Probe>(
     requires rows { (num : GrantId) → Contains grants.now num
         → (grant : Grant) × IsGrant (V.tables probe.old) num grant × IsSome (held_at waiting.old.found (node_of num grant)) }
     ensures same { V.tables probe.new ≡ V.tables probe.old }
-    ensures counted { V.count probe.new + owed_by (V.tables probe.old) table.now.entries grants.now ≤ V.count probe.old + bound_by (V.tables probe.old) grants.now }
+    ensures counted { V.count probe.new + owed_by (V.tables probe.old) table.now.entries grants.now
+        ≤ V.count probe.old + bound_by (V.tables probe.old) grants.now }
     ensures finds { Finds waiting.old waiting.new }
-    ensures sound { IsSound (V.tables probe.old) table.now.entries → IsSound (V.tables probe.old) waiting.old.found → IsSound (V.tables probe.old) waiting.new.found }
-    ensures tested { (num : GrantId) (grant : Grant) (fact : Fact) → Contains grants.now num → IsGrant (V.tables probe.old) num grant
-        → Follows (V.tables probe.old) (HeldAt table.now.entries) num grant (node_of num grant) fact → HeldAt waiting.new.found (node_of num grant) fact }
+    ensures sound { IsSound (V.tables probe.old) table.now.entries
+        → IsSound (V.tables probe.old) waiting.old.found
+        → IsSound (V.tables probe.old) waiting.new.found }
+    ensures tested { (num : GrantId) (grant : Grant) (fact : Fact) → Contains grants.now num
+        → IsGrant (V.tables probe.old) num grant
+        → Follows (V.tables probe.old) (HeldAt table.now.entries) num grant (node_of num grant)
+        fact → HeldAt waiting.new.found (node_of num grant) fact }
 {
     for num in grants {
         start_grant(probe, table, waiting, *num);

@@ -27,11 +27,14 @@ fn step<V: Probe>(
 )
     requires coherent { IsCoherent (V.tables probe.old) }
     requires index { IsIndexOf (V.tables probe.old) (fed_in edges.now.entries) }
-    requires working { IsWorking (V.tables probe.old) table.old.entries (record { found = waiting.old.found; queue = waiting.old.queue ++ claim ∷ [] }) }
+    requires working { IsWorking (V.tables probe.old) table.old.entries
+        (record { found = waiting.old.found; queue = waiting.old.queue ++ claim ∷ [] }) }
     ensures same { V.tables probe.new ≡ V.tables probe.old }
     ensures working { IsWorking (V.tables probe.old) table.new.entries waiting.new }
-    ensures less { 2 * total_room waiting.new.found + length waiting.new.queue ≤ 2 * total_room waiting.old.found + length waiting.old.queue }
-    ensures region { (gs : List GrantId) → HasRegion (V.tables probe.old) waiting.old.found gs → HasRegion (V.tables probe.old) waiting.new.found gs }
+    ensures less { 2 * total_room waiting.new.found + length waiting.new.queue
+        ≤ 2 * total_room waiting.old.found + length waiting.old.queue }
+    ensures region { (gs : List GrantId) → HasRegion (V.tables probe.old) waiting.old.found gs
+        → HasRegion (V.tables probe.old) waiting.new.found gs }
     ensures counted { (gs : List GrantId) → HasRegion (V.tables probe.old) waiting.old.found gs
         → V.count probe.new + owed_by (V.tables probe.old) table.new.entries gs ≤ V.count probe.old + owed_by (V.tables probe.old) table.old.entries gs }
 {

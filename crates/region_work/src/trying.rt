@@ -28,12 +28,15 @@ pub fn try_fact<V: Probe>(
     fact: Fact,
 )
     requires coherent { IsCoherent (V.tables probe.old) }
-    requires row { (grant : Grant) × IsGrant (V.tables probe.old) num grant × IsSome (held_at waiting.old.found (node_of num grant)) }
+    requires row { (grant : Grant) × IsGrant (V.tables probe.old) num grant
+        × IsSome (held_at waiting.old.found (node_of num grant)) }
     requires fact { IsFact fact }
     ensures same { V.tables probe.new ≡ V.tables probe.old }
     ensures counted { V.count probe.new ≡ V.count probe.old + 1 }
     ensures finds { Finds waiting.old waiting.new }
-    ensures sound { IsSound (V.tables probe.old) table.now.entries → IsSound (V.tables probe.old) waiting.old.found → IsSound (V.tables probe.old) waiting.new.found }
+    ensures sound { IsSound (V.tables probe.old) table.now.entries
+        → IsSound (V.tables probe.old) waiting.old.found
+        → IsSound (V.tables probe.old) waiting.new.found }
     ensures tested { (grant : Grant) → IsGrant (V.tables probe.old) num grant
         → Follows (V.tables probe.old) (HeldAt table.now.entries) num grant (node_of num grant) fact → HeldAt waiting.new.found (node_of num grant) fact }
 {
@@ -45,11 +48,14 @@ pub fn try_fact<V: Probe>(
 /// Tests every fact of a grant.
 pub fn try_facts<V: Probe>(probe: &mut V, table: &Table, waiting: &mut Waiting, num: GrantId)
     requires coherent { IsCoherent (V.tables probe.old) }
-    requires row { (grant : Grant) × IsGrant (V.tables probe.old) num grant × IsSome (held_at waiting.old.found (node_of num grant)) }
+    requires row { (grant : Grant) × IsGrant (V.tables probe.old) num grant
+        × IsSome (held_at waiting.old.found (node_of num grant)) }
     ensures same { V.tables probe.new ≡ V.tables probe.old }
     ensures counted { V.count probe.new ≡ V.count probe.old + 65 }
     ensures finds { Finds waiting.old waiting.new }
-    ensures sound { IsSound (V.tables probe.old) table.now.entries → IsSound (V.tables probe.old) waiting.old.found → IsSound (V.tables probe.old) waiting.new.found }
+    ensures sound { IsSound (V.tables probe.old) table.now.entries
+        → IsSound (V.tables probe.old) waiting.old.found
+        → IsSound (V.tables probe.old) waiting.new.found }
     ensures tested { (grant : Grant) (fact : Fact) → IsFact fact → IsGrant (V.tables probe.old) num grant
         → Follows (V.tables probe.old) (HeldAt table.now.entries) num grant (node_of num grant) fact → HeldAt waiting.new.found (node_of num grant) fact }
 {

@@ -58,7 +58,8 @@ impl Waiting {
         requires fact { IsFact fact }
         ensures finds { Finds self.old self.new }
         ensures there { HeldAt self.new.found node fact }
-        ensures only { (at : Node) (other : Fact) → HeldAt self.new.found at other → HeldAt self.old.found at other ⊎ ((at ≡ node) × (other ≡ fact)) }
+        ensures only { (at : Node) (other : Fact) → HeldAt self.new.found at other
+            → HeldAt self.old.found at other ⊎ ((at ≡ node) × (other ≡ fact)) }
     {
         let held = holding(&self.found, node);
         if has(&held, fact) {
@@ -71,7 +72,8 @@ impl Waiting {
     /// Takes a fact that waits.
     pub fn take(&mut self) -> Option<Claim>
         ensures found { self.new.found ≡ self.old.found }
-        ensures queue { MatchOption result (self.old.queue ≡ []) (λ claim. self.old.queue ≡ self.new.queue ++ claim ∷ []) }
+        ensures queue { MatchOption result (self.old.queue ≡ []) (λ claim. self.old.queue
+            ≡ self.new.queue ++ claim ∷ []) }
         ensures none { IfNone result (self.new ≡ self.old) }
     {
         self.queue.pop()

@@ -108,7 +108,8 @@ fn put_others(members: &mut Bytes, made: &Made, handed: &Handed) -> Result<(), M
 // The members in the order of their keys, each with a comma before it.
 #[tactic(auto, using(crate::proofs::Members::in_order))]
 fn put_members(members: &mut Bytes, made: &Made, handed: &Handed) -> Result<(), Memory>
-    ensures { OnOk result (members.new ≡ members.old ++ flat_map with_comma (done.members made.now handed.now)) }
+    ensures { OnOk result (members.new
+        ≡ members.old ++ flat_map with_comma (done.members made.now handed.now)) }
 {
     put_rows(members, made)?;
     put_shares(members, made, handed)?;

@@ -73,7 +73,8 @@ fn put_item(text: &mut Bytes, listed: &Listed) -> Result<(), Memory>
 
 // The items that follow another one, each behind a comma.
 fn put_others(text: &mut Bytes, listed: &[Listed]) -> Result<(), Memory>
-    ensures { OnOk result (text.new ≡ text.old ++ flat_map (λ other. 44 ∷ options.item_text other) listed.now) }
+    ensures { OnOk result (text.new ≡ text.old ++ flat_map (λ other.
+        44 ∷ options.item_text other) listed.now) }
 {
     for other in listed {
         text.put(b",")?;

@@ -1,7 +1,7 @@
 //! Applications as rows.
 
 ghost use Rattle.std.specs.Prelude.{◌≡◌, ℕ, ◌++◌, OnOk};
-ghost use Rattle.row_formats.specs.Gives.{Gives};
+ghost use Rattle.row_formats.specs.Gives.{GivesRead};
 ghost use Rattle.row_formats.specs.Format.{list};
 ghost use Rattle.row_codec.specs.AppRow.{permission, role, quality, tag, descriptor, app, IsCountableApp};
 
@@ -22,7 +22,7 @@ const DEPTH: u8 = 16;
 
 // A permission of an application.
 fn permission_of(alloc: Global, reader: &mut Reader) -> Result<PermissionDef, ReadError>
-    ensures { Gives (λ x. x) result reader.new (permission.read reader.old) }
+    ensures { GivesRead (λ x. x) result reader.new (permission.read reader.old) }
 {
     let name = reader.name(alloc)?;
     let title = reader.name(alloc)?;
@@ -63,7 +63,7 @@ impl RowField for PermissionDef {
 
 // A role of an application.
 fn role_of(alloc: Global, reader: &mut Reader) -> Result<Role, ReadError>
-    ensures { Gives (λ x. x) result reader.new (role.read reader.old) }
+    ensures { GivesRead (λ x. x) result reader.new (role.read reader.old) }
 {
     let title = reader.name(alloc)?;
     let verb = reader.name(alloc)?;
@@ -107,7 +107,7 @@ impl RowField for Role {
 
 // A quality: which of three.
 fn quality_of(reader: &mut Reader) -> Result<Quality, ReadError>
-    ensures { Gives (λ x. x) result reader.new (quality.read reader.old) }
+    ensures { GivesRead (λ x. x) result reader.new (quality.read reader.old) }
 {
     let at = reader.place();
     match reader.u8()? {
@@ -132,7 +132,7 @@ fn put_quality(writer: &mut Writer, how: Quality) -> Result<(), Memory>
 
 // A tag. What was read of its value is within the limits of one.
 fn tag_of(alloc: Global, reader: &mut Reader) -> Result<Tag, ReadError>
-    ensures { Gives (λ x. x) result reader.new (tag.read reader.old) }
+    ensures { GivesRead (λ x. x) result reader.new (tag.read reader.old) }
 {
     let id = reader.u64()?;
     let value = value_of(alloc, reader, DEPTH)?;
@@ -164,7 +164,7 @@ impl RowField for Tag {
 
 // A descriptor: its quality, and at most 32 tags.
 fn descriptor_of(alloc: Global, reader: &mut Reader) -> Result<Descriptor, ReadError>
-    ensures { Gives (λ x. x) result reader.new (descriptor.read reader.old) }
+    ensures { GivesRead (λ x. x) result reader.new (descriptor.read reader.old) }
 {
     let quality = quality_of(reader)?;
     let tags = read_list::<Tag>(alloc, reader, MOST_TAGS)?;
@@ -196,7 +196,7 @@ impl RowField for Descriptor {
 
 // The fields of an application.
 fn app_from(alloc: Global, reader: &mut Reader, num: u32) -> Result<App, ReadError>
-    ensures { Gives (λ x. x) result reader.new ((app num).read reader.old) }
+    ensures { GivesRead (λ x. x) result reader.new ((app num).read reader.old) }
 {
     let title = reader.name(alloc)?;
     let version = reader.u32()?;

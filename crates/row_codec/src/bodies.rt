@@ -2,7 +2,7 @@
 
 ghost use Rattle.std.specs.Prelude.{◌≡◌, ◌<◌, ◌++◌, ◌∷◌, ℕ, List, length, take, Ok, Err, IfOk, OnOk};
 ghost use Rattle.row_formats.specs.Place.{whole};
-ghost use Rattle.row_formats.specs.Gives.{Gives, GivesWhole};
+ghost use Rattle.row_formats.specs.Gives.{GivesRead, GivesWhole};
 ghost use Rattle.row_formats.specs.Format.{first_version};
 ghost use Rattle.row_formats.specs.Exact.{Spells};
 ghost use Rattle.row_formats.specs.declared.fault.RowFault.TheVariants.{Short, Spare};
@@ -28,7 +28,7 @@ pub trait Stored: Sized {
 
     /// Reads the fields of the row of a number.
     fn read_fields(alloc: Global, reader: &mut Reader, num: u32) -> Result<Self, ReadError>
-        ensures { Gives (λ x. x) result reader.new ((format num).read reader.old) };
+        ensures { GivesRead (λ x. x) result reader.new ((format num).read reader.old) };
 
     /// Writes the fields of a row. What has the type of a row, and no list that is too long, fits the row of its number.
     fn write_fields(&self, writer: &mut Writer) -> Result<(), Memory>
@@ -41,7 +41,7 @@ pub trait Stored: Sized {
 
 // The version, and the fields.
 fn versioned<T: Stored>(alloc: Global, reader: &mut Reader, num: u32) -> Result<T, ReadError>
-    ensures { Gives (λ x. x) result reader.new ((first_version (T.format num)).read reader.old) }
+    ensures { GivesRead (λ x. x) result reader.new ((first_version (T.format num)).read reader.old) }
 {
     match reader.u8()? {
         1 => T::read_fields(alloc, reader, num),
@@ -68,15 +68,20 @@ pub fn read_body<T: Stored + Drop>(alloc: Global, num: u32, body: &[u8]) -> Resu
     ensures found { IfOk result (λ x. Spells (first_version (T.format num)) x body.now) }
 
     // What the body spells is read, unless memory runs out.
-    ensures only { (x : T) → Spells (first_version (T.format num)) x body.now → GivesWhole (λ x. x) result (Ok x) }
+    ensures only { (x : T) → Spells (first_version (T.format num)) x body.now
+        → GivesWhole (λ x. x) result (Ok x) }
 
     // A body that is cut off is short at its end.
-    ensures short { (x : T) (k : ℕ) → (T.format num).fits x → k < length ((first_version (T.format num)).write x)
-        → body.now ≡ take k ((first_version (T.format num)).write x) → GivesWhole (λ x. x) result (Err (Short k)) }
+    ensures short { (x : T) (k : ℕ) → (T.format num).fits x
+        → k < length ((first_version (T.format num)).write x)
+        → body.now ≡ take k ((first_version (T.format num)).write x)
+        → GivesWhole (λ x. x) result (Err (Short k)) }
 
     // What stands behind a row is spare from its first byte on.
-    ensures spare { (x : T) (byte : ℕ) (more : List ℕ) → (T.format num).fits x → body.now ≡ (first_version (T.format num)).write x ++ byte ∷ more
-        → GivesWhole (λ x. x) result (Err (Spare (length ((first_version (T.format num)).write x)))) }
+    ensures spare { (x : T) (byte : ℕ) (more : List ℕ) → (T.format num).fits x
+        → body.now ≡ (first_version (T.format num)).write x ++ byte ∷ more
+        → GivesWhole (λ x. x) result
+        (Err (Spare (length ((first_version (T.format num)).write x)))) }
 
     // Which value or which fault it is.
     ensures exact { GivesWhole (λ x. x) result (whole (first_version (T.format num)).read body.now) }

@@ -1,7 +1,7 @@
 //! Fields and lists of rows: one loop that reads, and one that writes, for every type of item.
 
 ghost use Rattle.std.specs.Prelude.{◌≡◌, ◌++◌, ◌≤◌, ◌<◌, ℕ, length, OnOk};
-ghost use Rattle.row_formats.specs.Gives.{Gives};
+ghost use Rattle.row_formats.specs.Gives.{GivesRead};
 ghost use Rattle.row_formats.specs.Format.{list};
 
 use host_base::Memory;
@@ -18,7 +18,7 @@ pub trait RowField: Sized {
 
     /// Reads a field.
     fn read_field(alloc: Global, reader: &mut Reader) -> Result<Self, ReadError>
-        ensures { Gives (λ x. x) result reader.new (format.read reader.old) };
+        ensures { GivesRead (λ x. x) result reader.new (format.read reader.old) };
 
     /// Writes a field. What has a field's type fits its format.
     fn write_field(&self, writer: &mut Writer) -> Result<(), Memory>
@@ -35,7 +35,7 @@ pub fn read_list<T: RowField + Drop>(
     reader: &mut Reader,
     limit: u16,
 ) -> Result<List<T>, ReadError>
-    ensures { Gives (λ items. items) result reader.new ((list limit T.format).read reader.old) }
+    ensures { GivesRead (λ items. items) result reader.new ((list limit T.format).read reader.old) }
 {
     let count = reader.count(limit)?;
     let mut items = List::empty(alloc);
@@ -49,16 +49,20 @@ pub fn read_list<T: RowField + Drop>(
 /// Writes a list: its count, and the items. Any limit on a list is written alike. Of a list above every limit the lowest sixteen
 /// bits of its length stand as the count.
 pub fn write_list<T: RowField>(writer: &mut Writer, whole: &List<T>) -> Result<(), Memory>
-    ensures written { OnOk result ((limit : ℕ) → writer.new ≡ writer.old ++ (list limit T.format).write whole.now) }
-    ensures fits { OnOk result ((limit : ℕ) → length whole.now ≤ limit → limit < 65536 → (list limit T.format).fits whole.now) }
+    ensures written { OnOk result ((limit : ℕ)
+        → writer.new ≡ writer.old ++ (list limit T.format).write whole.now) }
+    ensures fits { OnOk result ((limit : ℕ) → length whole.now ≤ limit → limit < 65536
+        → (list limit T.format).fits whole.now) }
 {
     write_slice(writer, whole.as_slice())
 }
 
 /// Writes a slice as a list, in the same way.
 pub fn write_slice<T: RowField>(writer: &mut Writer, items: &[T]) -> Result<(), Memory>
-    ensures written { OnOk result ((limit : ℕ) → writer.new ≡ writer.old ++ (list limit T.format).write items.now) }
-    ensures fits { OnOk result ((limit : ℕ) → length items.now ≤ limit → limit < 65536 → (list limit T.format).fits items.now) }
+    ensures written { OnOk result ((limit : ℕ)
+        → writer.new ≡ writer.old ++ (list limit T.format).write items.now) }
+    ensures fits { OnOk result ((limit : ℕ) → length items.now ≤ limit → limit < 65536
+        → (list limit T.format).fits items.now) }
 {
     writer.count(items.len())?;
     for item in items {

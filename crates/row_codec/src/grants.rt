@@ -1,7 +1,7 @@
 //! Grants as rows.
 
 ghost use Rattle.std.specs.Prelude.{◌≡◌, ℕ, ◌++◌, OnOk};
-ghost use Rattle.row_formats.specs.Gives.{Gives};
+ghost use Rattle.row_formats.specs.Gives.{GivesRead};
 ghost use Rattle.row_codec.specs.GrantRow.{giver_format, target_format, base_format, assignment, node_format, need_format, token, grant, IsCountableGrant};
 
 use crate::bodies::Stored;
@@ -14,7 +14,7 @@ use std::alloc::Global;
 
 // A giver: which of three, and its parts.
 fn giver_of(reader: &mut Reader) -> Result<Giver, ReadError>
-    ensures { Gives (λ x. x) result reader.new (giver_format.read reader.old) }
+    ensures { GivesRead (λ x. x) result reader.new (giver_format.read reader.old) }
 {
     let at = reader.place();
     match reader.u8()? {
@@ -55,7 +55,7 @@ fn put_giver(writer: &mut Writer, giver: Giver) -> Result<(), Memory>
 
 // A target: which of four, and its part.
 fn target_of(reader: &mut Reader) -> Result<Target, ReadError>
-    ensures { Gives (λ x. x) result reader.new (target_format.read reader.old) }
+    ensures { GivesRead (λ x. x) result reader.new (target_format.read reader.old) }
 {
     let at = reader.place();
     match reader.u8()? {
@@ -97,7 +97,7 @@ fn put_target(writer: &mut Writer, target: Target) -> Result<(), Memory>
 
 // A base: which of three, and its part.
 fn base_of(reader: &mut Reader) -> Result<Base, ReadError>
-    ensures { Gives (λ x. x) result reader.new (base_format.read reader.old) }
+    ensures { GivesRead (λ x. x) result reader.new (base_format.read reader.old) }
 {
     let at = reader.place();
     match reader.u8()? {
@@ -125,7 +125,7 @@ fn put_base(writer: &mut Writer, base: Base) -> Result<(), Memory>
 
 // An assignment: its base, what is added, and what is removed.
 fn assignment_of(reader: &mut Reader) -> Result<Assignment, ReadError>
-    ensures { Gives (λ x. x) result reader.new (assignment.read reader.old) }
+    ensures { GivesRead (λ x. x) result reader.new (assignment.read reader.old) }
 {
     let base = base_of(reader)?;
     let add = reader.set()?;
@@ -145,7 +145,7 @@ fn put_assignment(writer: &mut Writer, a: &Assignment) -> Result<(), Memory>
 
 // Who holds something: an account on a grain, or a grant.
 fn node_of(reader: &mut Reader) -> Result<Node, ReadError>
-    ensures { Gives (λ x. x) result reader.new (node_format.read reader.old) }
+    ensures { GivesRead (λ x. x) result reader.new (node_format.read reader.old) }
 {
     let at = reader.place();
     match reader.u8()? {
@@ -179,7 +179,7 @@ fn put_node(writer: &mut Writer, node: Node) -> Result<(), Memory>
 
 // A need: which of three, and its parts.
 fn need_of(reader: &mut Reader) -> Result<Need, ReadError>
-    ensures { Gives (λ x. x) result reader.new (need_format.read reader.old) }
+    ensures { GivesRead (λ x. x) result reader.new (need_format.read reader.old) }
 {
     let at = reader.place();
     match reader.u8()? {
@@ -232,7 +232,7 @@ impl RowField for Need {
 
 // The digest of a token, where there is one.
 fn token_of(reader: &mut Reader) -> Result<Option<Digest>, ReadError>
-    ensures { Gives (λ x. x) result reader.new (token.read reader.old) }
+    ensures { GivesRead (λ x. x) result reader.new (token.read reader.old) }
 {
     let at = reader.place();
     match reader.u8()? {
@@ -258,7 +258,7 @@ fn put_token(writer: &mut Writer, digest: Option<Digest>) -> Result<(), Memory>
 
 // The fields of a grant.
 fn grant_of(alloc: Global, reader: &mut Reader, num: u32) -> Result<Grant, ReadError>
-    ensures { Gives (λ x. x) result reader.new ((grant num).read reader.old) }
+    ensures { GivesRead (λ x. x) result reader.new ((grant num).read reader.old) }
 {
     let grain = GrainId(reader.u32()?);
     let giver = giver_of(reader)?;

@@ -1,7 +1,7 @@
 //! Accounts, grains and saved references as rows.
 
 ghost use Rattle.std.specs.Prelude.{◌≡◌, ℕ, ◌++◌, OnOk};
-ghost use Rattle.row_formats.specs.Gives.{Gives};
+ghost use Rattle.row_formats.specs.Gives.{GivesRead};
 ghost use Rattle.row_codec.specs.Rows.{account, grain, saved};
 
 use crate::bodies::Stored;
@@ -12,7 +12,7 @@ use std::alloc::Global;
 
 // The fields of an account.
 fn account_of(alloc: Global, reader: &mut Reader, num: u32) -> Result<Account, ReadError>
-    ensures { Gives (λ x. x) result reader.new ((account num).read reader.old) }
+    ensures { GivesRead (λ x. x) result reader.new ((account num).read reader.old) }
 {
     let handle = reader.name(alloc)?;
     let name = reader.name(alloc)?;
@@ -62,7 +62,7 @@ impl Stored for Account {
 
 // The fields of a grain.
 fn grain_of(alloc: Global, reader: &mut Reader, num: u32) -> Result<Grain, ReadError>
-    ensures { Gives (λ x. x) result reader.new ((grain num).read reader.old) }
+    ensures { GivesRead (λ x. x) result reader.new ((grain num).read reader.old) }
 {
     let app = AppId(reader.u32()?);
     let owner = AccountId(reader.u32()?);
@@ -109,7 +109,7 @@ impl Stored for Grain {
 
 // The fields of a saved reference.
 fn saved_of(alloc: Global, reader: &mut Reader, num: u32) -> Result<Saved, ReadError>
-    ensures { Gives (λ x. x) result reader.new ((saved num).read reader.old) }
+    ensures { GivesRead (λ x. x) result reader.new ((saved num).read reader.old) }
 {
     let holder = GrainId(reader.u32()?);
     let grant = GrantId(reader.u32()?);

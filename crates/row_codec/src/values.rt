@@ -2,7 +2,7 @@
 
 ghost use Rattle.std.specs.Prelude.{◌≡◌, ◌++◌, ◌≤◌, true, None, map, option_map, OnOk};
 ghost use Rattle.powerbox_match.specs.Value.{tag_data, field_data, fields_data, items_data, nesting, fields_nesting, items_nesting, is_tidy, fields as named, items as listed};
-ghost use Rattle.row_formats.specs.Gives.{Gives};
+ghost use Rattle.row_formats.specs.Gives.{GivesRead};
 ghost use Rattle.row_formats.specs.Format.{integer, chain, list, last_of, text_above};
 ghost use Rattle.row_codec.specs.ValueFormat.{value, entry};
 
@@ -20,7 +20,9 @@ fn name_above(
     reader: &mut Reader,
     before: &[(Name, TagValue)],
 ) -> Result<Name, ReadError>
-    ensures { Gives (λ x. x) result reader.new ((text_above (option_map (λ f. f.0) (last_of (map field_data before.now)))).read reader.old) }
+    ensures { GivesRead (λ x. x) result reader.new
+        ((text_above (option_map (λ f. f.0) (last_of (map field_data before.now)))).read
+        reader.old) }
 {
     match before.last() {
         None => reader.name_above(alloc, None),
@@ -32,7 +34,7 @@ fn name_above(
 #[cycle(value)]
 #[tactic(auto, unfolding(crate::specs::ValueFormat::value))]
 pub(crate) fn value_of(alloc: Global, reader: &mut Reader, depth: u8) -> Result<TagValue, ReadError>
-    ensures { Gives tag_data result reader.new ((value depth).read reader.old) }
+    ensures { GivesRead tag_data result reader.new ((value depth).read reader.old) }
 {
     let at = reader.place();
     let kind = reader.u8()?;
@@ -57,7 +59,8 @@ fn field_of(
     before: &[(Name, TagValue)],
     depth: u8,
 ) -> Result<(Name, TagValue), ReadError>
-    ensures { Gives field_data result reader.new ((entry (value depth) (last_of (map field_data before.now))).read reader.old) }
+    ensures { GivesRead field_data result reader.new
+        ((entry (value depth) (last_of (map field_data before.now))).read reader.old) }
 {
     let name = name_above(alloc, reader, before)?;
     let value = value_of(alloc, reader, depth)?;
@@ -71,7 +74,8 @@ fn fields_of(
     reader: &mut Reader,
     depth: u8,
 ) -> Result<Vec<(Name, TagValue)>, ReadError>
-    ensures { Gives (λ fs. map field_data fs.items) result reader.new ((chain 1000 (entry (value depth))).read reader.old) }
+    ensures { GivesRead (λ fs. map field_data fs.items) result reader.new
+        ((chain 1000 (entry (value depth))).read reader.old) }
 {
     let count = reader.count(MOST_ENTRIES)?;
     let mut fields = Vec::new(alloc);
@@ -85,7 +89,8 @@ fn fields_of(
 // Items, as many as their count says.
 #[cycle(value)]
 fn items_of(alloc: Global, reader: &mut Reader, depth: u8) -> Result<Vec<TagValue>, ReadError>
-    ensures { Gives (λ vs. map tag_data vs.items) result reader.new ((list 1000 (value depth)).read reader.old) }
+    ensures { GivesRead (λ vs. map tag_data vs.items) result reader.new
+        ((list 1000 (value depth)).read reader.old) }
 {
     let count = reader.count(MOST_ENTRIES)?;
     let mut items = Vec::new(alloc);
@@ -109,7 +114,8 @@ fn put_number(writer: &mut Writer, number: &i128) -> Result<(), Memory>
 pub(crate) fn put_value(writer: &mut Writer, written: &TagValue, depth: u8) -> Result<(), Memory>
     requires { nesting (tag_data written.now) ≤ depth }
     ensures written { OnOk result (writer.new ≡ writer.old ++ (value depth).write (tag_data written.now)) }
-    ensures fits { OnOk result (is_tidy (tag_data written.now) ≡ true → (value depth).fits (tag_data written.now)) }
+    ensures fits { OnOk result (is_tidy (tag_data written.now) ≡ true
+        → (value depth).fits (tag_data written.now)) }
 {
     match written {
         TagValue::Any => writer.u8(0)?,
@@ -137,8 +143,10 @@ pub(crate) fn put_value(writer: &mut Writer, written: &TagValue, depth: u8) -> R
 #[cycle(put_value)]
 fn put_field(writer: &mut Writer, field: &(Name, TagValue), depth: u8) -> Result<(), Memory>
     requires { nesting (tag_data field.now.1) ≤ depth }
-    ensures written { OnOk result (writer.new ≡ writer.old ++ (entry (value depth) None).write (field_data field.now)) }
-    ensures fits { OnOk result (is_tidy (tag_data field.now.1) ≡ true → (entry (value depth) None).fits (field_data field.now)) }
+    ensures written { OnOk result (writer.new ≡ writer.old ++ (entry (value depth) None).write
+        (field_data field.now)) }
+    ensures fits { OnOk result (is_tidy (tag_data field.now.1) ≡ true
+        → (entry (value depth) None).fits (field_data field.now)) }
 {
     writer.name(&field.0)?;
     put_value(writer, &field.1, depth)?;
@@ -149,8 +157,10 @@ fn put_field(writer: &mut Writer, field: &(Name, TagValue), depth: u8) -> Result
 #[cycle(put_value)]
 fn put_fields(writer: &mut Writer, fields: &[(Name, TagValue)], depth: u8) -> Result<(), Memory>
     requires { fields_nesting (fields_data fields.now) ≤ depth }
-    ensures written { OnOk result (writer.new ≡ writer.old ++ (chain 1000 (entry (value depth))).write (map field_data fields.now)) }
-    ensures fits { OnOk result (is_tidy (named (fields_data fields.now)) ≡ true → (chain 1000 (entry (value depth))).fits (map field_data fields.now)) }
+    ensures written { OnOk result (writer.new ≡ writer.old ++ (chain 1000 (entry (value depth))).write
+        (map field_data fields.now)) }
+    ensures fits { OnOk result (is_tidy (named (fields_data fields.now)) ≡ true
+        → (chain 1000 (entry (value depth))).fits (map field_data fields.now)) }
 {
     writer.count(fields.len())?;
     for field in fields {
@@ -163,8 +173,10 @@ fn put_fields(writer: &mut Writer, fields: &[(Name, TagValue)], depth: u8) -> Re
 #[cycle(put_value)]
 fn put_items(writer: &mut Writer, items: &[TagValue], depth: u8) -> Result<(), Memory>
     requires { items_nesting (items_data items.now) ≤ depth }
-    ensures written { OnOk result (writer.new ≡ writer.old ++ (list 1000 (value depth)).write (map tag_data items.now)) }
-    ensures fits { OnOk result (is_tidy (listed (items_data items.now)) ≡ true → (list 1000 (value depth)).fits (map tag_data items.now)) }
+    ensures written { OnOk result (writer.new ≡ writer.old ++ (list 1000 (value depth)).write
+        (map tag_data items.now)) }
+    ensures fits { OnOk result (is_tidy (listed (items_data items.now)) ≡ true
+        → (list 1000 (value depth)).fits (map tag_data items.now)) }
 {
     writer.count(items.len())?;
     for item in items {

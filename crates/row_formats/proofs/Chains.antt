@@ -6,23 +6,23 @@ use Rattle.std.proofs.lemmas.List.{length-append, take-append-le}
 use Rattle.row_formats.specs.declared.fault.RowFault.TheVariants.{Short}
 use Rattle.row_formats.specs.Place.{Place, Read, ◌>>=◌}
 use Rattle.row_formats.specs.Format.{Format, number, number_bytes, count, AllFit, write_items, items_at, chain}
-use Rattle.row_formats.specs.Exact.{IsBytes, Stands, IsExact}
+use Rattle.row_formats.specs.Exact.{IsBytes, StandsBetween, IsExact}
 use Rattle.row_formats.proofs.Steps.{bind_ok, bind_at, bind_err, ok_is, take_beyond, Stands-none, Stands-then}
 use Rattle.row_formats.proofs.Fields.{number_exact, wide16}
 use Rattle.row_formats.proofs.Parts.{only_exact}
 
 items_found : {A : Type 0} (f : Option A → Format A) → ((o : Option A) → IsExact (f o)) → (last : Option A) (n : ℕ) (p : Place) (xs : List A) (q : Place) → IsBytes p.rest → items_at (λ o. (f o).read) last n p ≡ Ok (xs, q)
-    → Stands (write_items (λ o. (f o).write) last xs) p q × AllFit (λ o. (f o).fits) last xs × (length xs ≡ n)
+    → StandsBetween (write_items (λ o. (f o).write) last xs) p q × AllFit (λ o. (f o).fits) last xs × (length xs ≡ n)
 unfolding items_at
 items_found {A} f exact last zero p xs q fits e =
-    subst (λ (y : List A × Place). Stands (write_items (λ o. (f o).write) last y.0) p y.1 × AllFit (λ o. (f o).fits) last y.0 × (length y.0 ≡ zero)) (ok_is ([], p) (xs, q) e) (Stands-none p fits, tt, refl)
+    subst (λ (y : List A × Place). StandsBetween (write_items (λ o. (f o).write) last y.0) p y.1 × AllFit (λ o. (f o).fits) last y.0 × (length y.0 ≡ zero)) (ok_is ([], p) (xs, q) e) (Stands-none p fits, tt, refl)
 items_found {A} f exact last (suc n) p xs q fits e =
     let a = bind_ok ((f last).read p) (λ x. items_at (λ o. (f o).read) (Some x.0) n x.1 >>= λ ys. Ok (x.0 ∷ ys.0, ys.1)) (xs, q) e in
     let b = bind_ok (items_at (λ o. (f o).read) (Some a.0.0) n a.0.1) (λ ys. Ok (a.0.0 ∷ ys.0, ys.1)) (xs, q) a.2 in
     let s = (exact last).found p a.0.0 a.0.1 fits a.1 in
     let t = items_found f exact (Some a.0.0) n a.0.1 b.0.0 b.0.1 s.0.bytes b.1 in
     let both = Stands-then ((f last).write a.0.0) (write_items (λ o. (f o).write) (Some a.0.0) b.0.0) p a.0.1 b.0.1 s.0 t.0 in
-    subst (λ (y : List A × Place). Stands (write_items (λ o. (f o).write) last y.0) p y.1 × AllFit (λ o. (f o).fits) last y.0 × (length y.0 ≡ suc n)) (ok_is (a.0.0 ∷ b.0.0, b.0.1) (xs, q) b.2)
+    subst (λ (y : List A × Place). StandsBetween (write_items (λ o. (f o).write) last y.0) p y.1 × AllFit (λ o. (f o).fits) last y.0 × (length y.0 ≡ suc n)) (ok_is (a.0.0 ∷ b.0.0, b.0.1) (xs, q) b.2)
     (both, (s.1, t.1), ap suc t.2)
 
 items_again : {A : Type 0} (f : Option A → Format A) → ((o : Option A) → IsExact (f o)) → (last : Option A) (xs : List A) (at : ℕ) (more : List ℕ) → AllFit (λ o. (f o).fits) last xs
@@ -84,8 +84,8 @@ chain_exact {A} limit f exact = record {
       let a = bind_ok ((count limit).read p) (λ n. items_at (λ o. (f o).read) None n.0 n.1) (xs, q) e in
       let s = (count_exact limit).found p a.0.0 a.0.1 fits a.1 in
       let t = items_found f exact None a.0.0 a.0.1 xs q s.0.bytes a.2 in
-      let both : Stands (number_bytes w16 a.0.0 ++ write_items (λ o. (f o).write) None xs) p q = Stands-then (number_bytes w16 a.0.0) (write_items (λ o. (f o).write) None xs) p a.0.1 q s.0 t.0 in
-      subst (λ (n : ℕ). Stands (number_bytes w16 n ++ write_items (λ o. (f o).write) None xs) p q × ((count limit).fits n × AllFit (λ o. (f o).fits) None xs)) (sym t.2) (both, (s.1, t.1));
+      let both : StandsBetween (number_bytes w16 a.0.0 ++ write_items (λ o. (f o).write) None xs) p q = Stands-then (number_bytes w16 a.0.0) (write_items (λ o. (f o).write) None xs) p a.0.1 q s.0 t.0 in
+      subst (λ (n : ℕ). StandsBetween (number_bytes w16 n ++ write_items (λ o. (f o).write) None xs) p q × ((count limit).fits n × AllFit (λ o. (f o).fits) None xs)) (sym t.2) (both, (s.1, t.1));
   again = λ xs at more h.
       let here : List ℕ = number_bytes w16 (length xs) in
       let others : List ℕ = write_items (λ o. (f o).write) None xs in

@@ -7,7 +7,7 @@ use Rattle.row_formats.specs.declared.fault.RowFault.{RowFault}
 use Rattle.row_formats.specs.declared.fault.RowFault.TheVariants.{Short}
 use Rattle.row_formats.specs.Place.{Place}
 use Rattle.row_formats.specs.Format.{Format, number_at, fits_one, write_one, read_one, numbered}
-use Rattle.row_formats.specs.Exact.{IsBytes, Stands, IsExact}
+use Rattle.row_formats.specs.Exact.{IsBytes, StandsBetween, IsExact}
 use Rattle.row_formats.proofs.Steps.{bind_ok, bind_at, bind_err, Stands-then}
 use Rattle.row_formats.proofs.Fields.{number_found, number_again, number_cut, wide8}
 
@@ -17,14 +17,14 @@ AreExact number_of k [] = Unit {0}
 AreExact {A} number_of k (f ∷ fs) = IsExact f × ((x : A) → f.fits x → number_of x ≡ k) × AreExact number_of (suc k) fs
 
 one_found : {A : Type 0} (fault : RowFault) (number_of : A → ℕ) (k : ℕ) (fs : List (Format A)) (n : ℕ) (p : Place) (x : A) (q : Place) → AreExact number_of k fs → IsBytes p.rest → read_one fault k fs n p ≡ Ok (x, q)
-    → Stands (write_one k fs n x) p q × fits_one k fs n x × (number_of x ≡ n) × (n < k + length fs)
+    → StandsBetween (write_one k fs n x) p q × fits_one k fs n x × (number_of x ≡ n) × (n < k + length fs)
 one_found fault number_of k [] n p x q exact fits e = absurd cc
 one_found fault number_of k (f ∷ fs) n p x q exact fits e = this (eqb n k) refl (λ h. one_found fault number_of (suc k) fs n p x q exact.2 fits h) e
   where
     this : (b : Bool) → eqb n k ≡ b
-        → (read_one fault (suc k) fs n p ≡ Ok (x, q) → Stands (write_one (suc k) fs n x) p q × fits_one (suc k) fs n x × (number_of x ≡ n) × (n < suc k + length fs))
+        → (read_one fault (suc k) fs n p ≡ Ok (x, q) → StandsBetween (write_one (suc k) fs n x) p q × fits_one (suc k) fs n x × (number_of x ≡ n) × (n < suc k + length fs))
         → cond b (f.read p) (read_one fault (suc k) fs n p) ≡ Ok (x, q)
-        → Stands (cond b (f.write x) (write_one (suc k) fs n x)) p q × MatchBool b (f.fits x) (fits_one (suc k) fs n x) × (number_of x ≡ n) × (n < k + suc (length fs))
+        → StandsBetween (cond b (f.write x) (write_one (suc k) fs n x)) p q × MatchBool b (f.fits x) (fits_one (suc k) fs n x) × (number_of x ≡ n) × (n < k + suc (length fs))
     this true t next h =
         let s = exact.0.found p x q fits h in
         let same = eqb-true n k t in
@@ -91,9 +91,9 @@ numbered_exact {A} fault first number_of fs few exact = record {
       let a = bind_ok (number_at w8 p) (λ n. read_one (fault p.at n.0) first fs n.0 n.1) (x, q) e in
       let s = number_found w8 wide8 p a.0.0 a.0.1 fits a.1 in
       let r = one_found (fault p.at a.0.0) number_of first fs a.0.0 a.0.1 x q exact s.0.bytes a.2 in
-      let byte : Stands (a.0.0 ∷ []) p a.0.1 = subst (λ (t : List ℕ). Stands t p a.0.1) (ap (λ (n : ℕ). n ∷ []) (omega (arith, s.1))) s.0 in
-      let both : Stands (a.0.0 ∷ write_one first fs a.0.0 x) p q = Stands-then (a.0.0 ∷ []) (write_one first fs a.0.0 x) p a.0.1 q byte r.0 in
-      subst (λ (n : ℕ). Stands (n ∷ write_one first fs n x) p q × fits_one first fs n x) (sym r.2) (both, r.1);
+      let byte : StandsBetween (a.0.0 ∷ []) p a.0.1 = subst (λ (t : List ℕ). StandsBetween t p a.0.1) (ap (λ (n : ℕ). n ∷ []) (omega (arith, s.1))) s.0 in
+      let both : StandsBetween (a.0.0 ∷ write_one first fs a.0.0 x) p q = Stands-then (a.0.0 ∷ []) (write_one first fs a.0.0 x) p a.0.1 q byte r.0 in
+      subst (λ (n : ℕ). StandsBetween (n ∷ write_one first fs n x) p q × fits_one first fs n x) (sym r.2) (both, r.1);
   again = λ x at more h.
       let n : ℕ = number_of x in
       let body : List ℕ = write_one first fs n x in

@@ -8,17 +8,17 @@ use Rattle.plain_data.specs.Name.{IsName}
 use Rattle.row_formats.specs.declared.fault.RowFault.TheVariants.{Short}
 use Rattle.row_formats.specs.Place.{Place, past, ◌>>=◌, bytes_at, judged}
 use Rattle.row_formats.specs.Format.{number_at, number_bytes, text_at, number, bytes, text, name_of}
-use Rattle.row_formats.specs.Exact.{IsBytes, Stands, IsExact}
+use Rattle.row_formats.specs.Exact.{IsBytes, StandsBetween, IsExact}
 use Rattle.row_formats.proofs.Steps.{IsBytes-drop, IsBytes-take, bind_ok, bind_at, bind_err, guard_ok, ok_is, Stands-then, take_beyond, judged_ok}
 use Rattle.row_formats.proofs.Names.{name_is, is_named, name_length}
 
-pub bytes_found : (n : ℕ) (p : Place) (bs : List ℕ) (q : Place) → IsBytes p.rest → bytes_at n p ≡ Ok (bs, q) → Stands bs p q × (length bs ≡ n) × IsBytes bs
+pub bytes_found : (n : ℕ) (p : Place) (bs : List ℕ) (q : Place) → IsBytes p.rest → bytes_at n p ≡ Ok (bs, q) → StandsBetween bs p q × (length bs ≡ n) × IsBytes bs
 unfolding bytes_at
 bytes_found n p bs q fits e =
     let g = guard_ok (ltb (length p.rest) n) (Short (p.at + length p.rest)) (take n p.rest, past n p) (bs, q) e in
     let long : n ≤ length p.rest = ltb-false _ _ g.0 in
     let len : length (take n p.rest) ≡ n = omega (arith, length-take n p.rest) in
-    subst (λ (x : List ℕ × Place). Stands x.0 p x.1 × (length x.0 ≡ n) × IsBytes x.0) g.1
+    subst (λ (x : List ℕ × Place). StandsBetween x.0 p x.1 × (length x.0 ≡ n) × IsBytes x.0) g.1
     (record { parts = sym (take-append-drop n p.rest); moved = omega (arith, len); bytes = IsBytes-drop n p.rest fits }, len, IsBytes-take n p.rest fits)
 
 pub bytes_again : (n : ℕ) (bs : List ℕ) (at : ℕ) (more : List ℕ) → length bs ≡ n → bytes_at n (record { at = at; rest = bs ++ more }) ≡ Ok (bs, record { at = at + n; rest = more })
@@ -86,15 +86,15 @@ wide64 = record {
   below = λ bs fits. omega (arith, fits 0, fits 1, fits 2, fits 3, fits 4, fits 5, fits 6, fits 7);
 }
 
-pub number_found : (w : Width) (wide : IsWide w) (p : Place) (n : ℕ) (q : Place) → IsBytes p.rest → number_at w p ≡ Ok (n, q) → Stands (to_be_bytes w n) p q × (n < 256 ^ byte_len w)
+pub number_found : (w : Width) (wide : IsWide w) (p : Place) (n : ℕ) (q : Place) → IsBytes p.rest → number_at w p ≡ Ok (n, q) → StandsBetween (to_be_bytes w n) p q × (n < 256 ^ byte_len w)
 unfolding number_at
 number_found w wide p n q fits e =
     let a = bind_ok (bytes_at (byte_len w) p) (λ b. Ok (from_be_bytes w b.0, b.1)) (n, q) e in
     let t = bytes_found (byte_len w) p a.0.0 a.0.1 fits a.1 in
     let made = ok_is (from_be_bytes w a.0.0, a.0.1) (n, q) a.2 in
     let text : to_be_bytes w (from_be_bytes w a.0.0) ≡ a.0.0 = wide.back a.0.0 t.1 t.2 in
-    subst (λ (x : ℕ × Place). Stands (to_be_bytes w x.0) p x.1 × (x.0 < 256 ^ byte_len w)) made
-    (subst (λ (s : List ℕ). Stands s p a.0.1) (sym text) t.0, wide.below a.0.0 t.2)
+    subst (λ (x : ℕ × Place). StandsBetween (to_be_bytes w x.0) p x.1 × (x.0 < 256 ^ byte_len w)) made
+    (subst (λ (s : List ℕ). StandsBetween s p a.0.1) (sym text) t.0, wide.below a.0.0 t.2)
 
 pub number_again : (w : Width) (wide : IsWide w) (n at : ℕ) (more : List ℕ) → n < 256 ^ byte_len w → number_at w (record { at = at; rest = to_be_bytes w n ++ more }) ≡ Ok (n, record { at = at + byte_len w; rest = more })
 unfolding number_at
@@ -115,7 +115,7 @@ number_exact w wide = record {
 
 -- ---- texts
 
-text_found : (p : Place) (t : List ℕ) (q : Place) → IsBytes p.rest → text_at p ≡ Ok (t, q) → Stands (number_bytes w16 (length t) ++ t) p q × IsName t
+text_found : (p : Place) (t : List ℕ) (q : Place) → IsBytes p.rest → text_at p ≡ Ok (t, q) → StandsBetween (number_bytes w16 (length t) ++ t) p q × IsName t
 unfolding text_at number_bytes
 text_found p t q fits e =
     let a = bind_ok (number_at w16 p) (λ size. bytes_at size.0 size.1 >>= λ bs. judged p.at (name_of bs.0) bs.1) (t, q) e in
@@ -124,10 +124,10 @@ text_found p t q fits e =
     let n = is_named b.0.0 t j.0 in
     let s = number_found w16 wide16 p a.0.0 a.0.1 fits a.1 in
     let u = bytes_found a.0.0 a.0.1 b.0.0 b.0.1 s.0.bytes b.1 in
-    let both : Stands (to_be_bytes w16 a.0.0 ++ b.0.0) p b.0.1 = Stands-then (to_be_bytes w16 a.0.0) b.0.0 p a.0.1 b.0.1 s.0 u.0 in
-    let sized : Stands (to_be_bytes w16 (length b.0.0) ++ b.0.0) p b.0.1 = subst (λ (k : ℕ). Stands (to_be_bytes w16 k ++ b.0.0) p b.0.1) (sym u.1) both in
-    let named : Stands (to_be_bytes w16 (length t) ++ t) p b.0.1 = subst (λ (x : List ℕ). Stands (to_be_bytes w16 (length x) ++ x) p b.0.1) n.0 sized in
-    (subst (λ (r : Place). Stands (to_be_bytes w16 (length t) ++ t) p r) j.1 named, n.1)
+    let both : StandsBetween (to_be_bytes w16 a.0.0 ++ b.0.0) p b.0.1 = Stands-then (to_be_bytes w16 a.0.0) b.0.0 p a.0.1 b.0.1 s.0 u.0 in
+    let sized : StandsBetween (to_be_bytes w16 (length b.0.0) ++ b.0.0) p b.0.1 = subst (λ (k : ℕ). StandsBetween (to_be_bytes w16 k ++ b.0.0) p b.0.1) (sym u.1) both in
+    let named : StandsBetween (to_be_bytes w16 (length t) ++ t) p b.0.1 = subst (λ (x : List ℕ). StandsBetween (to_be_bytes w16 (length x) ++ x) p b.0.1) n.0 sized in
+    (subst (λ (r : Place). StandsBetween (to_be_bytes w16 (length t) ++ t) p r) j.1 named, n.1)
 
 text_again : (t : List ℕ) (at : ℕ) (more : List ℕ) → IsName t → text_at (record { at = at; rest = (number_bytes w16 (length t) ++ t) ++ more }) ≡ Ok (t, record { at = at + length (number_bytes w16 (length t) ++ t); rest = more })
 unfolding text_at number_bytes

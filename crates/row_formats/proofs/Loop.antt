@@ -5,7 +5,7 @@ use Rattle.std.proofs.lemmas.List.{append-nil, map_push}
 use Rattle.row_formats.specs.declared.fault.ReadError.{ReadError}
 use Rattle.row_formats.specs.declared.fault.ReadError.TheVariants as errors
 use Rattle.row_formats.specs.Place.{Place, Read, ◌>>=◌}
-use Rattle.row_formats.specs.Gives.{Fails}
+use Rattle.row_formats.specs.Gives.{FailsToRead}
 use Rattle.row_formats.specs.Format.{items_at, last_of, count, list_at}
 use Rattle.row_formats.proofs.Steps.{bind_at}
 
@@ -30,8 +30,8 @@ goes_on r front count i p x q total lt h so_far =
     let one : with_front front (items_at r (last_of front) (count - i) p) ≡ with_front (front ++ x ∷ []) (items_at r (Some x) (count - (i + 1)) q) = rw (k, h) (regroup front x (items_at r (Some x) (count - (i + 1)) q)) in
     rw (last_of-push front x) (sym one ∙ so_far)
 
-pub ends : {A : Type 0} (e : ReadError) (r : Option A → Place → Read A) (front : List A) (count i : ℕ) (p : Place) (total : Read (List A)) → i < count → Fails e (r (last_of front) p)
-    → with_front front (items_at r (last_of front) (count - i) p) ≡ total → Fails e total
+pub ends : {A : Type 0} (e : ReadError) (r : Option A → Place → Read A) (front : List A) (count i : ℕ) (p : Place) (total : Read (List A)) → i < count → FailsToRead e (r (last_of front) p)
+    → with_front front (items_at r (last_of front) (count - i) p) ≡ total → FailsToRead e total
 unfolding items_at
 ends errors.Memory r front count i p total lt h so_far = tt
 ends (errors.Fault fault) r front count i p total lt h so_far =

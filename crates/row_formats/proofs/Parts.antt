@@ -5,14 +5,14 @@ use Rattle.std.proofs.lemmas.List.{length-append, take-append-le}
 use Rattle.row_formats.specs.declared.fault.RowFault.TheVariants.{Short}
 use Rattle.row_formats.specs.Place.{Place, ◌>>=◌, judged}
 use Rattle.row_formats.specs.Format.{Format, always, ◌⊗◌, made, only}
-use Rattle.row_formats.specs.Exact.{Stands, IsExact}
+use Rattle.row_formats.specs.Exact.{StandsBetween, IsExact}
 use Rattle.row_formats.proofs.Steps.{bind_ok, bind_at, bind_err, ok_is, judged_ok, take_beyond, Stands-none, Stands-then}
 
 pub always_exact : {A : Type 0} (x : A) → IsExact (always x)
 always_exact {A} x = record {
   found = λ p y q fits e.
       let h = ok_is (x, p) (y, q) e in
-      (subst (λ (r : Place). Stands [] p r) (ap (λ (z : A × Place). z.1) h) (Stands-none p fits), sym (ap (λ (z : A × Place). z.0) h));
+      (subst (λ (r : Place). StandsBetween [] p r) (ap (λ (z : A × Place). z.1) h) (Stands-none p fits), sym (ap (λ (z : A × Place). z.0) h));
   again = λ y at more h. rw (h, add-zero) refl;
   short = λ y at k h lt. absurd (omega arith);
 }
@@ -38,9 +38,9 @@ pair_exact {A} {B} f g ef eg = record {
       let b = bind_ok (g.read a.0.1) (λ z. Ok ((a.0.0, z.0), z.1)) (x, q) a.2 in
       let s = ef.found p a.0.0 a.0.1 fits a.1 in
       let t = eg.found a.0.1 b.0.0 b.0.1 s.0.bytes b.1 in
-      let both : Stands (f.write a.0.0 ++ g.write b.0.0) p b.0.1 = Stands-then (f.write a.0.0) (g.write b.0.0) p a.0.1 b.0.1 s.0 t.0 in
+      let both : StandsBetween (f.write a.0.0 ++ g.write b.0.0) p b.0.1 = Stands-then (f.write a.0.0) (g.write b.0.0) p a.0.1 b.0.1 s.0 t.0 in
       let whole : (A × B) × Place = ((a.0.0, b.0.0), b.0.1) in
-      subst (λ (y : (A × B) × Place). Stands (f.write y.0.0 ++ g.write y.0.1) p y.1 × (f.fits y.0.0 × g.fits y.0.1)) (ok_is whole (x, q) b.2) (both, (s.1, t.1));
+      subst (λ (y : (A × B) × Place). StandsBetween (f.write y.0.0 ++ g.write y.0.1) p y.1 × (f.fits y.0.0 × g.fits y.0.1)) (ok_is whole (x, q) b.2) (both, (s.1, t.1));
   again = λ x at more h.
       let m : ℕ = length (f.write x.0) in
       let n : ℕ = length (g.write x.1) in
@@ -63,8 +63,8 @@ made_exact {A} {B} make parts f back ef = record {
       let a = bind_ok (f.read p) (λ y. Ok (make y.0, y.1)) (x, q) e in
       let s = ef.found p a.0.0 a.0.1 fits a.1 in
       let whole : A × Place = (make a.0.0, a.0.1) in
-      subst (λ (y : A × Place). Stands (f.write (parts y.0)) p y.1 × (f.fits (parts y.0) × (make (parts y.0) ≡ y.0))) (ok_is whole (x, q) a.2)
-      (subst (λ (y : B). Stands (f.write y) p a.0.1 × (f.fits y × (make y ≡ make a.0.0))) (sym (back a.0.0 s.1)) (s.0, (s.1, refl)));
+      subst (λ (y : A × Place). StandsBetween (f.write (parts y.0)) p y.1 × (f.fits (parts y.0) × (make (parts y.0) ≡ y.0))) (ok_is whole (x, q) a.2)
+      (subst (λ (y : B). StandsBetween (f.write y) p a.0.1 × (f.fits y × (make y ≡ make a.0.0))) (sym (back a.0.0 s.1)) (s.0, (s.1, refl)));
   again = λ x at more h.
       bind_at (f.read _) (λ y. Ok (make y.0, y.1)) (parts x, record { at = at + length (f.write (parts x)); rest = more }) _ (ef.again (parts x) at more h.0) (ap (λ (y : A). Ok (y, record { at = at + length (f.write (parts x)); rest = more })) h.1);
   short = λ x at k h lt. bind_err (f.read (record { at = at; rest = take k (f.write (parts x)) })) _ (Short (at + k)) (ef.short (parts x) at k h.0 lt);
@@ -81,8 +81,8 @@ only_exact {A} test f ef = record {
       let j = judged_ok p.at (cond (test a.0.0) (Some a.0.0) None) a.0.1 (x, q) a.2 in
       let t = tested (test a.0.0) a.0.0 x j.0 in
       let s = ef.found p a.0.0 a.0.1 fits a.1 in
-      subst (λ (r : Place). Stands (f.write x) p r × (f.fits x × (test x ≡ true))) j.1
-      (subst (λ (y : A). Stands (f.write y) p a.0.1 × (f.fits y × (test y ≡ true))) t.1 (s.0, (s.1, t.0)));
+      subst (λ (r : Place). StandsBetween (f.write x) p r × (f.fits x × (test x ≡ true))) j.1
+      (subst (λ (y : A). StandsBetween (f.write y) p a.0.1 × (f.fits y × (test y ≡ true))) t.1 (s.0, (s.1, t.0)));
   again = λ x at more h.
       bind_at (f.read _) (λ y. judged at (cond (test y.0) (Some y.0) None) y.1) (x, record { at = at + length (f.write x); rest = more }) _ (ef.again x at more h.0) (rw h.1 refl);
   short = λ x at k h lt. bind_err (f.read (record { at = at; rest = take k (f.write x) })) _ (Short (at + k)) (ef.short x at k h.0 lt);

@@ -3,7 +3,7 @@ use Rattle.std.proofs.Common.{◌≡◌, ℕ, zero, suc, ◌+◌, ◌-◌, ◌�
 use Rattle.std.proofs.lemmas.Bool.{cases_lt}
 use Rattle.std.proofs.lemmas.List.{length-append, length-take, get_or-drop, get_or-take, get_or_past}
 use Rattle.row_formats.specs.Place.{Place, ◌>>=◌, judged}
-use Rattle.row_formats.specs.Exact.{IsBytes, Stands}
+use Rattle.row_formats.specs.Exact.{IsBytes, StandsBetween}
 
 pub IsBytes-drop : (n : ℕ) (bytes : List ℕ) → IsBytes bytes → IsBytes (drop n bytes)
 IsBytes-drop n bytes h i = rw get_or-drop (h (n + i))
@@ -35,10 +35,10 @@ done E x = Ok x
 pub ok_is : {A E : Type 0} (x y : A) → done E x ≡ done E y → x ≡ y
 ok_is x y e = cc
 
-pub Stands-none : (p : Place) → IsBytes p.rest → Stands [] p p
+pub Stands-none : (p : Place) → IsBytes p.rest → StandsBetween [] p p
 Stands-none p fits = record { parts = refl; moved = omega arith; bytes = fits }
 
-pub Stands-then : (s t : List ℕ) (a b c : Place) → Stands s a b → Stands t b c → Stands (s ++ t) a c
+pub Stands-then : (s t : List ℕ) (a b c : Place) → StandsBetween s a b → StandsBetween t b c → StandsBetween (s ++ t) a c
 Stands-then s t a b c p q = record {
   parts = p.parts ∙ ap (λ (u : List ℕ). s ++ u) q.parts ∙ sym (append_assoc s t c.rest);
   moved = omega (arith, p.moved, q.moved, length-append s t);

@@ -1,7 +1,7 @@
 ghost use Rattle.std.specs.Prelude.{◌≡◌, IfOk, length, option_map};
 ghost use Rattle.std.specs.Int.{w8, w16, w32, w64};
 ghost use Rattle.row_formats.specs.Place.{start, bytes_at, ended};
-ghost use Rattle.row_formats.specs.Gives.{Gives, GivesWhole};
+ghost use Rattle.row_formats.specs.Gives.{GivesRead, GivesWhole};
 ghost use Rattle.row_formats.specs.Format.{number_at, text_at, name_of, flag, count, integer, digest, text_above, is_above};
 ghost use Rattle.row_formats.specs.Sets.{set};
 
@@ -74,7 +74,7 @@ impl<'a> Reader<'a> {
     /// `Short`, where fewer bytes are left.
     #[tactic(auto, unfolding(crate::specs::Place::bytes_at))]
     pub fn bytes(&mut self, size: usize) -> Result<&'a [u8], ReadError>
-        ensures gives { Gives (λ x. x.now) result self.new (bytes_at size self.old) }
+        ensures gives { GivesRead (λ x. x.now) result self.new (bytes_at size self.old) }
         ensures size { IfOk result (λ x. length x.now ≡ size) }
     {
         if self.rest.len() < size {
@@ -89,7 +89,7 @@ impl<'a> Reader<'a> {
     /// A number of one byte.
     #[tactic(auto, unfolding(crate::specs::Format::number_at))]
     pub fn u8(&mut self) -> Result<u8, ReadError>
-        ensures { Gives (λ x. x) result self.new (number_at w8 self.old) }
+        ensures { GivesRead (λ x. x) result self.new (number_at w8 self.old) }
     {
         let front = self.bytes(1)?;
         Ok(front[0])
@@ -98,7 +98,7 @@ impl<'a> Reader<'a> {
     /// A number of two bytes, big end first.
     #[tactic(auto, unfolding(crate::specs::Format::number_at))]
     pub fn u16(&mut self) -> Result<u16, ReadError>
-        ensures { Gives (λ x. x) result self.new (number_at w16 self.old) }
+        ensures { GivesRead (λ x. x) result self.new (number_at w16 self.old) }
     {
         let front = self.bytes(2)?;
         Ok(u16::from_be_bytes([front[0], front[1]]))
@@ -107,7 +107,7 @@ impl<'a> Reader<'a> {
     /// A number of four bytes, big end first.
     #[tactic(auto, unfolding(crate::specs::Format::number_at))]
     pub fn u32(&mut self) -> Result<u32, ReadError>
-        ensures { Gives (λ x. x) result self.new (number_at w32 self.old) }
+        ensures { GivesRead (λ x. x) result self.new (number_at w32 self.old) }
     {
         let front = self.bytes(4)?;
         Ok(u32::from_be_bytes([front[0], front[1], front[2], front[3]]))
@@ -116,7 +116,7 @@ impl<'a> Reader<'a> {
     /// A number of eight bytes, big end first.
     #[tactic(auto, unfolding(crate::specs::Format::number_at))]
     pub fn u64(&mut self) -> Result<u64, ReadError>
-        ensures { Gives (λ x. x) result self.new (number_at w64 self.old) }
+        ensures { GivesRead (λ x. x) result self.new (number_at w64 self.old) }
     {
         let front = self.bytes(8)?;
         Ok(u64::from_be_bytes([
@@ -127,7 +127,7 @@ impl<'a> Reader<'a> {
     /// A number of either sign: sixteen bytes, big end first, two's complement.
     #[tactic(auto, unfolding(crate::specs::Format::number_at))]
     pub fn i128(&mut self) -> Result<i128, ReadError>
-        ensures { Gives (λ x. x) result self.new (integer.read self.old) }
+        ensures { GivesRead (λ x. x) result self.new (integer.read self.old) }
     {
         let front = self.bytes(16)?;
         let mut bytes = [0; 16];
@@ -137,7 +137,7 @@ impl<'a> Reader<'a> {
 
     /// A digest of 32 bytes.
     pub fn digest(&mut self) -> Result<Digest, ReadError>
-        ensures { Gives (λ x. x) result self.new (digest.read self.old) }
+        ensures { GivesRead (λ x. x) result self.new (digest.read self.old) }
     {
         let front = self.bytes(32)?;
         let mut bytes = [0; 32];
@@ -150,7 +150,7 @@ impl<'a> Reader<'a> {
     /// # Errors
     /// `BadField`, where it is another.
     pub fn flag(&mut self) -> Result<bool, ReadError>
-        ensures { Gives (λ x. x) result self.new (flag.read self.old) }
+        ensures { GivesRead (λ x. x) result self.new (flag.read self.old) }
     {
         let at = self.at;
         match self.u8()? {
@@ -162,7 +162,7 @@ impl<'a> Reader<'a> {
 
     /// A set of positions: a number of eight bytes.
     pub fn set(&mut self) -> Result<PermSet, ReadError>
-        ensures { Gives (λ x. x) result self.new (set.read self.old) }
+        ensures { GivesRead (λ x. x) result self.new (set.read self.old) }
     {
         let word = self.u64()?;
         Ok(PermSet::from_bits(word))
@@ -174,7 +174,7 @@ impl<'a> Reader<'a> {
     /// `BadField` at the length, where the bytes are there and are no name.
     #[tactic(auto, unfolding(crate::specs::Format::text_at))]
     pub fn name(&mut self, alloc: Global) -> Result<Name, ReadError>
-        ensures { Gives (λ x. x) result self.new (text_at self.old) }
+        ensures { GivesRead (λ x. x) result self.new (text_at self.old) }
     {
         let at = self.at;
         let size = usize::from(self.u16()?);
@@ -190,7 +190,8 @@ impl<'a> Reader<'a> {
     /// # Errors
     /// `BadField` at its length, where it isn't, too.
     pub fn name_above(&mut self, alloc: Global, last: Option<&Name>) -> Result<Name, ReadError>
-        ensures { Gives (λ x. x) result self.new ((text_above (option_map (λ before. before.now) last.entry)).read self.old) }
+        ensures { GivesRead (λ x. x) result self.new
+            ((text_above (option_map (λ before. before.now) last.entry)).read self.old) }
     {
         let at = self.at;
         let name = self.name(alloc)?;
@@ -206,7 +207,7 @@ impl<'a> Reader<'a> {
     /// # Errors
     /// `BadField`, where it is above the limit.
     pub fn count(&mut self, limit: u16) -> Result<u16, ReadError>
-        ensures { Gives (λ x. x) result self.new ((count limit).read self.old) }
+        ensures { GivesRead (λ x. x) result self.new ((count limit).read self.old) }
     {
         let at = self.at;
         let count = self.u16()?;

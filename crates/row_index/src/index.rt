@@ -77,7 +77,8 @@ fn note_row<T: Keyed>(
 ) -> Result<(), AllocError>
     requires { place < length rows.now }
     ensures stays { StaysNoted T.clues_of rows.now slots.old slots.new }
-    ensures noted { OnOk result ((row : _) (c : _) → slice_get rows.now place ≡ Some row → HasClue (T.clues_of row) c → IsNoted slots.new place c) }
+    ensures noted { OnOk result ((row : _) (c : _) → slice_get rows.now place ≡ Some row
+        → HasClue (T.clues_of row) c → IsNoted slots.new place c) }
 {
     let clues = rows[place].clues();
     note(slots, rows, clues.first, place)?;
@@ -182,7 +183,8 @@ impl Index {
     /// The place of the first row that has this mark.
     pub fn first_of<T: Keyed>(&self, rows: &[T], mark: u64) -> Option<usize>
         requires { IsIndexOf T.clues_of rows.now T.mark_of self.now }
-        ensures { MatchOption result (NoneHasMark T.mark_of mark rows.now (length rows.now)) (IsFirstMarked T.mark_of mark rows.now) }
+        ensures { MatchOption result (NoneHasMark T.mark_of mark rows.now (length rows.now))
+            (IsFirstMarked T.mark_of mark rows.now) }
     {
         if let Some(place) = self.marks.first(mark) {
             return Some(place);

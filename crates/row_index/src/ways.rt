@@ -46,7 +46,8 @@ impl Ways {
     pub fn way<T: Keyed>(&self, rows: &[T], num: u64) -> Option<Way>
         requires { AreWaysOf (map T.link_of rows.now) self.now }
         ensures leads { IfSome result (λ way. Leads (map T.link_of rows.now) num way.root way.flagged) }
-        ensures known { (root : ℕ) (flagged : Bool) → num ≤ self.now.covered → Leads (map T.link_of rows.now) num root flagged → is_some result ≡ true }
+        ensures known { (root : ℕ) (flagged : Bool) → num ≤ self.now.covered
+            → Leads (map T.link_of rows.now) num root flagged → is_some result ≡ true }
     {
         if num == 0 {
             return None;

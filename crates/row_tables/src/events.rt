@@ -55,7 +55,8 @@ fn admin_set(
     num: u32,
     on: bool,
 ) -> Result<Option<Row>, Memory>
-    ensures { IfOk result (λ r. r ≡ option_map (stored 1 an_account num) (option_map (with_admin on) (option_copied row.entry))) }
+    ensures { IfOk result (λ r. r ≡ option_map (stored 1 an_account num)
+        (option_map (with_admin on) (option_copied row.entry))) }
 {
     match row {
         Some(row) => {
@@ -74,7 +75,8 @@ fn enabled_set(
     num: u32,
     on: bool,
 ) -> Result<Option<Row>, Memory>
-    ensures { IfOk result (λ r. r ≡ option_map (stored 1 an_account num) (option_map (with_enabled on) (option_copied row.entry))) }
+    ensures { IfOk result (λ r. r ≡ option_map (stored 1 an_account num)
+        (option_map (with_enabled on) (option_copied row.entry))) }
 {
     match row {
         Some(row) => {
@@ -93,7 +95,8 @@ fn trashed_set(
     num: u32,
     on: bool,
 ) -> Result<Option<Row>, Memory>
-    ensures { IfOk result (λ r. r ≡ option_map (stored 3 a_grain num) (option_map (with_trashed on) (option_copied row.entry))) }
+    ensures { IfOk result (λ r. r ≡ option_map (stored 3 a_grain num)
+        (option_map (with_trashed on) (option_copied row.entry))) }
 {
     match row {
         Some(row) => {
@@ -107,7 +110,8 @@ fn trashed_set(
 
 // The row of a grant after it was revoked.
 fn grant_revoked(alloc: Global, row: Option<&Grant>, num: u32) -> Result<Option<Row>, Memory>
-    ensures { IfOk result (λ r. r ≡ option_map (stored 4 a_grant num) (option_map revoked (option_copied row.entry))) }
+    ensures { IfOk result (λ r. r ≡ option_map (stored 4 a_grant num)
+        (option_map revoked (option_copied row.entry))) }
 {
     match row {
         Some(row) => {
@@ -121,7 +125,8 @@ fn grant_revoked(alloc: Global, row: Option<&Grant>, num: u32) -> Result<Option<
 
 // The row of a saved reference after it was dropped.
 fn saved_dropped(alloc: Global, row: Option<&Saved>, num: u32) -> Result<Option<Row>, Memory>
-    ensures { IfOk result (λ r. r ≡ option_map (stored 5 a_saved num) (option_map dropped (option_copied row.entry))) }
+    ensures { IfOk result (λ r. r ≡ option_map (stored 5 a_saved num)
+        (option_map dropped (option_copied row.entry))) }
 {
     match row {
         Some(row) => {
@@ -167,8 +172,9 @@ pub fn row_after(alloc: Global, tables: &Tables, event: &Event) -> Result<Option
     ensures row { IfOk result (λ r. r ≡ row_after tables.now event.now) }
 
     // Put among the rows of the tables, it makes them the rows of the tables after the event.
-    ensures kept { IfOk result (λ r. (s : State) (rows : List Row) → IsWellFormed s → s.tables ≡ tables.now → EventFits s event.now
-        → AreRowsOf tables.now rows → AreRowsOf (tables_after tables.now event.now) (with_row r rows)) }
+    ensures kept { IfOk result (λ r. (s : State) (rows : List Row) → IsWellFormed s → s.tables ≡ tables.now
+        → EventFits s event.now → AreRowsOf tables.now rows
+        → AreRowsOf (tables_after tables.now event.now) (with_row r rows)) }
 {
     event_row(alloc, tables, event)
 }

@@ -51,7 +51,8 @@ pub fn row_bytes(alloc: Global, tables: &Tables, kind: Kind, num: u32) -> Result
     ensures row { IfOk result (λ row. row_of tables.now kind num ≡ Some row) }
 
     // Where it stands among the rows of all tables.
-    ensures place { IfOk result (λ row. slice_get (rows_of tables.now) (start_of tables.now kind + (num - 1)) ≡ Some row) }
+    ensures place { IfOk result (λ row. slice_get (rows_of tables.now) (start_of tables.now kind + (num - 1))
+        ≡ Some row) }
 {
     match row_of(alloc, tables, kind, num)? {
         Some(row) => Ok(row),

@@ -47,7 +47,8 @@ pub(crate) fn section_of<T: Stored + Keyed + Drop>(
     requires limited { limit < 2 ^ 31 }
     ensures within { IfOk result (λ x. x.1 ≤ length rows.now) }
     ensures bytes { IfOk result (λ x. AreBytes rows.now from → AreBytes rows.now x.1) }
-    ensures exact { GivesRow (λ x. (x.0, (x.1, drop x.1 rows.now))) result (section_at kind limit (body_of T.format) 1 from (drop from rows.now)) }
+    ensures exact { GivesRow (λ x. (x.0, (x.1, drop x.1 rows.now))) result
+        (section_at kind limit (body_of T.format) 1 from (drop from rows.now)) }
 {
     let mut values = Rows::empty(alloc);
     let mut at = from;

@@ -47,7 +47,8 @@ fn put_section<T: Stored>(
     kind: u8,
     values: &[T],
 ) -> Result<(), Memory>
-    ensures written { OnOk result (rows.new.items ≡ rows.old.items ++ section_rows kind T.format 1 values.now) }
+    ensures written { OnOk result (rows.new.items
+        ≡ rows.old.items ++ section_rows kind T.format 1 values.now) }
     ensures fits { OnOk result (All (FitsOwn T.format T.carried T.is_countable) values.now) }
 {
     let mut num = 1;
@@ -64,7 +65,8 @@ pub fn rows_of(alloc: Global, tables: &Tables) -> Result<Vec<Row>, Memory>
     ensures rows { IfOk result (λ rows. rows.items ≡ rows_of tables.now) }
 
     // The tables of a well-formed state have rows, so these are read back.
-    ensures found { IfOk result (λ rows. (s : State) → IsWellFormed s → s.tables ≡ tables.now → AreRowsOf tables.now rows.items) }
+    ensures found { IfOk result (λ rows. (s : State) → IsWellFormed s → s.tables ≡ tables.now
+        → AreRowsOf tables.now rows.items) }
 {
     let mut rows = Vec::new(alloc);
     put_section(alloc, &mut rows, 1, tables.accounts.as_slice())?;

@@ -1,5 +1,5 @@
 -- The changes of each command fit.
-use Rattle.std.proofs.Common.{◌≡◌, ◌∙◌, ◌<◌, ◌≤◌, ℕ, Bool, true, false, All, Contains, List, [], Option, Some, None, length, refl, sym, ap, subst, arith, inl, inr}
+use Rattle.std.proofs.Common.{◌≡◌, ◌∙◌, ◌<◌, ◌≤◌, ℕ, Bool, true, false, All, Contains, List, [], Option, Some, None, length, refl, sym, ap, subst, arith}
 use Rattle.std.proofs.lemmas.List.Elements.{All-nil, All-cons}
 use Rattle.std.proofs.lemmas.Nat.Bits.{bit_at-zero}
 use Rattle.std.specs.Int.{bit_at}
@@ -16,7 +16,6 @@ use Rattle.share_graph.specs.declared.desk.Made.{Made}
 use Rattle.share_graph.specs.declared.desk.Offer.{Offer}
 use Rattle.share_graph.specs.declared.desk.Offer.TheVariants as offer
 use Rattle.share_graph.specs.declared.event.Event.TheVariants.{GrantAdded, SavedAdded, SavedDropped, Claimed, HandleMade}
-use Rattle.share_graph.specs.declared.facts.Node.{Node}
 use Rattle.share_graph.specs.declared.facts.Node.TheVariants as node
 use Rattle.share_graph.specs.declared.fault.Kind.TheVariants as kind
 use Rattle.share_graph.specs.declared.grants.Giver.TheVariants as giver
@@ -26,7 +25,7 @@ use Rattle.share_graph.specs.declared.grants.Need.TheVariants as need
 use Rattle.share_graph.specs.declared.grants.Target.{Target}
 use Rattle.share_graph.specs.declared.grants.Target.TheVariants as target
 use Rattle.share_graph.specs.declared.refusal.Refusal.{Refusal}
-use Rattle.share_graph.specs.declared.refusal.Refusal.TheVariants.{Denied, NoSuchOffer}
+use Rattle.share_graph.specs.declared.refusal.Refusal.TheVariants.{NoSuchOffer}
 use Rattle.share_graph.specs.declared.rows.Account.{Account}
 use Rattle.share_graph.specs.declared.rows.App.{App}
 use Rattle.share_graph.specs.declared.rows.Saved.{Saved}
@@ -48,47 +47,29 @@ use Rattle.state_step.proofs.HandleLaws.{handle_made_fits, claimed_fits}
 use Rattle.state_step.proofs.SavedLaws.{saved_added_fits, saved_dropped_fits}
 use Rattle.desk_base.specs.Fitting.{ChangeFits, RowFits}
 use Rattle.desk_base.specs.Limits.{first_of}
-use Rattle.desk_base.specs.Made.{nothing_made}
-use Rattle.desk_base.specs.Steps.{Step, Refuses, Keeps, Makes, Change, Plain, Drawn}
+use Rattle.desk_base.specs.Made.{nothing_made, made_grant}
+use Rattle.desk_base.specs.Steps.{Step, Refuses, Makes, Change, Plain, Drawn}
 use Rattle.desk_base.specs.Wording.{secret_of}
-use Rattle.desk_base.proofs.FitForms.{when_fits, unless_fits, must_fits, found_fits, some_fits, adds_fits}
+use Rattle.desk_base.specs.Roles.{MayGiveOn}
+use Rattle.desk_base.specs.Granting.{new_grant}
+use Rattle.desk_base.proofs.FitForms.{when_fits, unless_fits, must_fits, found_fits, some_fits, adds_fits, access_fits, keeps_fits}
 use Rattle.desk_base.proofs.Room.{room_of}
-use Rattle.share_desk.specs.Roles.{MayGiveOn}
-use Rattle.share_desk.specs.Rows.{new_grant, made_grant}
-use Rattle.share_desk.specs.Wording.{access◌of◌then◌, keeps◌of◌showing◌else◌}
-use Rattle.share_desk.proofs.GivenRoles.{assignment_for}
+use Rattle.desk_base.proofs.GivenRoles.{assignment_for}
 use Rattle.saved_refs.specs.Commands.{by_run, ChooseGrain, ChooseSite, ChooseOffer, Choose, Claim, Save, Restore, DropSaved}
 use Rattle.saved_refs.specs.Rows.{no_role, admin_needs, claimed_grant, claimed_handle, made_claim, new_saved, made_saved, new_handle, shown_handle, with_maker}
 use Rattle.saved_refs.proofs.Named.{run_grain, handle_grant, reference_grant, maker_is_there}
 
-module _ (s : State) where
-  -- a change that comes after the test of entry
-  access_cases : (at : Node) (Rest : Step → Type 0) → RowFits s Rest → (change : Change) (made : Made) → (access at of s then Rest) (Makes change made) → ChangeFits s change
-  access_cases at Rest rest change made (inl (reason, same, missing)) = let odd : Makes change made ≡ Refuses (Denied reason) = same in cc
-  access_cases at Rest rest change made (inr (held, is)) = rest.fits change made is
-
-  access_fits : {at : Node} {Rest : Step → Type 0} → RowFits s Rest → RowFits s (access at of s then Rest)
-  access_fits {at} {Rest} rest = record { fits = access_cases at Rest rest }
-
-  -- a change that comes where no row of a list is so
-  keeps_cases : {X : Type 0} (P : X → Type 0) (rows : List X) (shown : X → Made) (Rest : Step → Type 0) → RowFits s Rest → (change : Change) (made : Made)
-      → (keeps P of rows showing shown else Rest) (Makes change made) → ChangeFits s change
-  keeps_cases P rows shown Rest rest change made (inl (x, same, first)) = let odd : Makes change made ≡ Keeps (shown x) = same in cc
-  keeps_cases P rows shown Rest rest change made (inr (none, is)) = rest.fits change made is
-
-  keeps_fits : {X : Type 0} {P : X → Type 0} {rows : List X} {shown : X → Made} {Rest : Step → Type 0} → RowFits s Rest → RowFits s (keeps P of rows showing shown else Rest)
-  keeps_fits {X} {P} {rows} {shown} {Rest} rest = record { fits = keeps_cases P rows shown Rest rest }
-
+module _ (s : State) {draws : Bool} where
   -- a change with the root maker of a grant
-  maker_cases : (g : GrantId) (Rest : AccountId → Step → Type 0) → ((maker : AccountId) → IsRootMaker s.tables g maker → RowFits s (Rest maker)) → (change : Change) (made : Made)
-      → with_maker s.tables g Rest (Makes change made) → ChangeFits s change
+  maker_cases : (g : GrantId) (Rest : AccountId → Step → Type 0) → ((maker : AccountId) → IsRootMaker s.tables g maker → RowFits s draws (Rest maker)) → (change : Change) (made : Made)
+      → with_maker s.tables g Rest (Makes change made) → ChangeFits s draws change
   maker_cases g Rest rest change made (maker, is, x) = (rest maker is).fits change made x
 
-  maker_fits : (g : GrantId) {Rest : AccountId → Step → Type 0} → ((maker : AccountId) → IsRootMaker s.tables g maker → RowFits s (Rest maker)) → RowFits s (with_maker s.tables g Rest)
+  maker_fits : (g : GrantId) {Rest : AccountId → Step → Type 0} → ((maker : AccountId) → IsRootMaker s.tables g maker → RowFits s draws (Rest maker)) → RowFits s draws (with_maker s.tables g Rest)
   maker_fits g {Rest} rest = record { fits = maker_cases g Rest rest }
 
   -- a change of a run that calls
-  run_fits : (who : Caller) {Rest : Run → Step → Type 0} → ((run : Run) → IsOneOf s.runs (HasRunToken (secret_of who)) run → RowFits s (Rest run)) → RowFits s (by_run s who Rest)
+  run_fits : (who : Caller) {Rest : Run → Step → Type 0} → ((run : Run) → IsOneOf s.runs (HasRunToken (secret_of who)) run → RowFits s draws (Rest run)) → RowFits s draws (by_run s who Rest)
   run_fits who rest =
       some_fits s tt λ run is.
       unless_fits s tt λ kept.
@@ -175,7 +156,7 @@ module _ (s : State) (formed : IsWellFormed s) where
   listed_account account listed = (account, listed_row (λ (x : Account). x.num.0) s.tables.accounts account formed.numbered.accounts listed)
 
   -- a choice by its offer
-  grain_fits : (n m : GrainId) (query : List DescriptorData) (assignment : Assignment) (from : AccountId) → HasGrain s.tables n → HasAccount s.tables from → RowFits s (ChooseGrain s n m query assignment from)
+  grain_fits : (n m : GrainId) (query : List DescriptorData) (assignment : Assignment) (from : AccountId) → HasGrain s.tables n → HasAccount s.tables from → RowFits s true (ChooseGrain s n m query assignment from)
   grain_fits n m query assignment from there account =
       when_fits s tt λ another.
       found_fits s tt λ grain other.
@@ -186,10 +167,10 @@ module _ (s : State) (formed : IsWellFormed s) where
       grant_added_fits s formed (new_grant s.tables m (giver.Account from) (target.Claim n) assignment [] (Some d))
       (grain_is_new s n m from assignment d there (grain, other) account may (room_of kind.Grant 65536 _ room) unused))
 
-  none_offered : (change : Change) (made : Made) → Makes change made ≡ Refuses NoSuchOffer → ChangeFits s change
+  none_offered : (change : Change) (made : Made) → Makes change made ≡ Refuses NoSuchOffer → ChangeFits s true change
   none_offered change made same = cc same
 
-  site_fits : (n : GrainId) (tag item : ℕ) (found : Option Bool) (from : AccountId) → HasGrain s.tables n → HasAccount s.tables from → RowFits s (ChooseSite s n tag item found from)
+  site_fits : (n : GrainId) (tag item : ℕ) (found : Option Bool) (from : AccountId) → HasGrain s.tables n → HasAccount s.tables from → RowFits s true (ChooseSite s n tag item found from)
   site_fits n tag item None from there account = record { fits = none_offered }
   site_fits n tag item (Some admin_only) from there account =
       adds_fits s (Drawn λ d. GrantAdded (new_grant s.tables n (giver.Site from tag item) (target.Claim n) no_role (admin_needs admin_only from) (Some d))) (made_grant s.tables) λ room d unused.
@@ -197,13 +178,13 @@ module _ (s : State) (formed : IsWellFormed s) where
       (site_is_new s formed n tag item admin_only from d there account (room_of kind.Grant 65536 _ room) unused)
 
   offer_fits : (n : GrainId) (what : Offer) (query : List DescriptorData) (assignment : Assignment) (found : Option Bool) (from : AccountId) → HasGrain s.tables n → HasAccount s.tables from
-      → RowFits s (ChooseOffer s n what query assignment found from)
+      → RowFits s true (ChooseOffer s n what query assignment found from)
   offer_fits n (offer.Grain m) query assignment found from there account = grain_fits n m query assignment from there account
   offer_fits n (offer.Site tag item) query assignment found from there account = site_fits n tag item found from there account
 
 -- the commands
 pub choose_fits : (s : State) → IsWellFormed s → (who : Caller) (n : GrainId) (what : Offer) (query : List DescriptorData) (assignment : Assignment) (found : Option Bool)
-    → RowFits s (Choose s who n what query assignment found)
+    → RowFits s true (Choose s who n what query assignment found)
 choose_fits s formed who n what query assignment found =
     some_fits s tt λ from is.
     unless_fits s tt λ enabled.
@@ -211,7 +192,7 @@ choose_fits s formed who n what query assignment found =
     access_fits s (
     offer_fits s formed n what query assignment found from.num (grain, there) (listed_account s formed from is.listed))
 
-pub claim_fits : (s : State) → IsWellFormed s → (who : Caller) (token : Digest) (set : PermSet) → RowFits s (Claim s who token set)
+pub claim_fits : (s : State) → IsWellFormed s → (who : Caller) (token : Digest) (set : PermSet) → RowFits s false (Claim s who token set)
 claim_fits s formed who token set =
     run_fits s who λ run is.
     some_fits s tt λ chosen one.
@@ -232,7 +213,7 @@ claim_fits s formed who token set =
       num = refl;
     }))
 
-pub save_fits : (s : State) → IsWellFormed s → (who : Caller) (num : ℕ) (label : List ℕ) → RowFits s (Save s who num label)
+pub save_fits : (s : State) → IsWellFormed s → (who : Caller) (num : ℕ) (label : List ℕ) → RowFits s true (Save s who num label)
 save_fits s formed who num label =
     run_fits s who λ run is.
     some_fits s tt λ handle own.
@@ -247,7 +228,7 @@ save_fits s formed who num label =
       unused = unused;
     }))
 
-pub restore_fits : (s : State) → IsWellFormed s → (who : Caller) (token : Digest) → RowFits s (Restore s who token)
+pub restore_fits : (s : State) → IsWellFormed s → (who : Caller) (token : Digest) → RowFits s false (Restore s who token)
 restore_fits s formed who token =
     run_fits s who λ run is.
     some_fits s tt λ saved one.
@@ -268,7 +249,7 @@ restore_fits s formed who token =
       };
     })))
 
-pub drop_saved_fits : (s : State) → IsWellFormed s → (who : Caller) (token : Digest) → RowFits s (DropSaved s who token)
+pub drop_saved_fits : (s : State) → IsWellFormed s → (who : Caller) (token : Digest) → RowFits s false (DropSaved s who token)
 drop_saved_fits s formed who token =
     run_fits s who λ run is.
     some_fits s tt λ saved one.

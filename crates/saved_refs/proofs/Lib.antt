@@ -2,6 +2,8 @@ pub mod Scanned
 pub mod Ordered
 pub mod Chosen
 pub mod OneRow
+pub mod Members
+pub mod OneList
 pub mod OneHandle
 pub mod Claims
 pub mod Named

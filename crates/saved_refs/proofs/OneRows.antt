@@ -31,8 +31,8 @@ use Rattle.share_graph.proofs.WaysOne.{maker_one}
 use Rattle.desk_base.specs.Steps.{Step, denies}
 use Rattle.desk_base.specs.Wording.{secret_of}
 use Rattle.desk_base.proofs.OneWord.{by_account_one, known_grain_one, adds_one}
-use Rattle.share_desk.proofs.FirstRow.{keeps_one}
-use Rattle.share_desk.proofs.GivenRoles.{refusing_one, refusing_apart, role_one}
+use Rattle.desk_base.proofs.FirstRow.{keeps_one}
+use Rattle.desk_base.proofs.GivenRoles.{refusing_one, refusing_apart, role_one}
 use Rattle.saved_refs.specs.Commands.{by_run, ChooseGrain, choose_grain_step, ChooseSite, choose_site_step, ChooseOffer, Choose, Claim, claim_step, Save, save_step, Restore, restore_step, DropSaved, drop_step}
 use Rattle.saved_refs.specs.Rows.{IsClaimOf, IsOfAnother, with_maker}
 use Rattle.saved_refs.proofs.OneHandle.{handle_one}

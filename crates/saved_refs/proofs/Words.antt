@@ -22,3 +22,4 @@ pub checks_more : {X : Type 0} (Rest Row : Step → Type 0) (makes : X → Step)
 checks_more Rest Row makes more (Ok x) is = more (makes x) is
 checks_more Rest Row makes more (Err (stop.Refused r)) is = more (Refuses r) is
 checks_more Rest Row makes more (Err (stop.Same made)) is = more (Keeps made) is
+checks_more Rest Row makes more (Err stop.Memory) is = absurd is

@@ -11,7 +11,7 @@ use Rattle.powerbox_match.specs.Descriptor.{DescriptorData}
 use Rattle.share_graph.specs.declared.desk.Caller.{Caller}
 use Rattle.share_graph.specs.declared.desk.Offer.{Offer}
 use Rattle.share_graph.specs.declared.desk.Offer.TheVariants as offer
-use Rattle.share_graph.specs.declared.event.Event.TheVariants.{GrantAdded, SavedAdded, SavedDropped, Claimed, HandleMade}
+use Rattle.share_graph.specs.declared.event.Event.TheVariants.{SavedAdded, SavedDropped, Claimed, HandleMade}
 use Rattle.share_graph.specs.declared.facts.Node.TheVariants as node
 use Rattle.share_graph.specs.declared.grants.Giver.TheVariants as giver
 use Rattle.share_graph.specs.declared.grants.Grant.{Grant}
@@ -27,12 +27,11 @@ use Rattle.share_graph.specs.Fitting.{SetFits}
 use Rattle.share_graph.specs.Forms.{when◌then◌else◌, unless◌then◌else◌, must◌or◌then◌, found◌or◌then◌, none, some◌of◌or◌then◌}
 use Rattle.share_graph.specs.Keys.{HasReference, IsHandleOf, IsHandleTo}
 use Rattle.share_graph.specs.Rows.{IsGrain}
+use Rattle.desk_base.specs.Granting.{token_step}
 use Rattle.desk_base.specs.Limits.{adds}
 use Rattle.desk_base.specs.Made.{nothing_made}
 use Rattle.desk_base.specs.Steps.{Step, Refuses, Keeps, Makes, Plain, Drawn, denies, refusing}
-use Rattle.desk_base.specs.Wording.{secret_of, by_account, known_grain}
-use Rattle.share_desk.specs.Rows.{new_grant, made_grant}
-use Rattle.share_desk.specs.Wording.{access◌of◌then◌, role◌on◌of◌then◌, keeps◌of◌showing◌else◌}
+use Rattle.desk_base.specs.Wording.{secret_of, by_account, known_grain, access◌of◌then◌, role◌on◌of◌then◌, keeps◌of◌showing◌else◌}
 use Rattle.saved_refs.specs.Rows.{no_role, admin_needs, claimed_grant, claimed_handle, made_claim, new_saved, made_saved, new_handle, shown_handle, IsClaimOf, IsOfAnother, IsClaimed, IsMatching, with_maker}
 
 -- the run that calls: Denied(UnknownKey), Denied(GrainTrashed) of its grain, Denied(GrainStopped) where it is stopped
@@ -41,11 +40,10 @@ by_run s who Rest = callers.by_run denies s (secret_of who) Rest
 
 -- what is added, and what the reply shows
 abbrev pub choose_grain_step : Tables → GrainId → GrainId → Assignment → AccountId → Step
-choose_grain_step t n m assignment from = Makes (Drawn λ d. GrantAdded (new_grant t m (giver.Account from) (target.Claim n) assignment [] (Some d))) (made_grant t)
+choose_grain_step t n m assignment from = token_step t m (giver.Account from) (target.Claim n) assignment []
 
 abbrev pub choose_site_step : Tables → GrainId → ℕ → ℕ → Bool → AccountId → Step
-choose_site_step t n tag item admin_only from =
-    Makes (Drawn λ d. GrantAdded (new_grant t n (giver.Site from tag item) (target.Claim n) no_role (admin_needs admin_only from) (Some d))) (made_grant t)
+choose_site_step t n tag item admin_only from = token_step t n (giver.Site from tag item) (target.Claim n) no_role (admin_needs admin_only from)
 
 abbrev pub claim_with : Tables → GrainId → Grant → PermSet → AccountId → Handle → Step
 claim_with t holder chosen set maker handle = Makes (Plain (Claimed (claimed_grant t holder chosen set maker) handle)) (made_claim t handle)

@@ -31,7 +31,7 @@ use Rattle.share_graph.specs.Keys.{IsOneOf, IsGivenFrom, HasToken}
 use Rattle.share_graph.specs.Ways.{IsRootMaker}
 use Rattle.desk_base.specs.Made.{next, nothing_made}
 use Rattle.desk_base.specs.Steps.{Step}
-use Rattle.share_desk.specs.Rows.{new_grant, all_access}
+use Rattle.desk_base.specs.Granting.{new_grant, all_access}
 
 -- no role, and nothing added or removed
 abbrev pub no_role : Assignment

@@ -22,7 +22,8 @@ pub(crate) struct Question<'a> {
 
 // The choice that a grain is, if it is another one, its application's offers match, and the account has access.
 fn choice_of(question: &Question, grain: &Grain) -> Option<Choice>
-    ensures { result ≡ choice_of question.now.num question.now.account question.now.solved.now question.now.found.now grain.now }
+    ensures { result
+        ≡ choice_of question.now.num question.now.account question.now.solved.now question.now.found.now grain.now }
 {
     if grain.num == question.num {
         return None;

@@ -1,7 +1,6 @@
 //! Claiming of what was chosen.
 
-ghost use Rattle.std.specs.Prelude.{◌≡◌, ◌↔◌, IsTrue, MatchResult};
-ghost use Rattle.share_graph.specs.Fitting.{SetFits};
+ghost use Rattle.std.specs.Prelude.{◌↔◌, IsTrue, MatchResult, false};
 ghost use Rattle.share_graph.specs.Forms.{IsOne};
 ghost use Rattle.share_graph.specs.WellFormed.{IsWellFormed};
 ghost use Rattle.least_access.specs.Solved.{IsSolutionOf};
@@ -12,24 +11,25 @@ ghost use Rattle.saved_refs.specs.Commands.{Claim, claim_with};
 ghost use Rattle.saved_refs.specs.Rows.{IsClaimed};
 
 use crate::handles::next_handle;
-use crate::needs::{all_access, one_need};
+use crate::needs::one_need;
 use crate::runs::caller_run;
-use desk_base::{NOTHING, Stop};
+use desk_base::{
+    NOTHING, Outcome, Stop, all_access, has_entry, has_grant_room, new_grant, set_fits,
+};
 use host_base::{AccountId, Denial, Digest, GrainId, GrantId};
 use least_access::Solved;
 use perm_roles::PermSet;
-use session_desk::has_entry;
-use share_desk::has_grant_room;
 use share_graph::{
-    Caller, DeskFault, Event, Giver, Grant, Handle, Made, Need, Node, Outcome, Refusal, State,
-    Tables, Target, app_of, by_grant_token, given_from, root_maker,
+    Caller, Event, Giver, Grant, Handle, Made, Need, Node, Refusal, State, Tables, Target,
+    by_grant_token, given_from, root_maker,
 };
 use std::alloc::Global;
 
 // The grant of a token, which is for the grain to claim.
 fn own_claim<'a>(state: &'a State, token: &Digest, holder: GrainId) -> Result<&'a Grant, Refusal>
     requires { IsWellFormed state.now }
-    ensures { MatchResult result (λ grant. IsClaimBy state.now.tables token.now holder grant.now) (IsNoClaimBy state.now.tables token.now holder) }
+    ensures { MatchResult result (λ grant. IsClaimBy state.now.tables token.now holder grant.now)
+        (IsNoClaimBy state.now.tables token.now holder) }
 {
     let Some(grant) = by_grant_token(&state.tables, token) else {
         return Err(Refusal::Denied(Denial::UnknownKey));
@@ -50,16 +50,6 @@ fn is_claimed(tables: &Tables, num: GrantId) -> bool
     match given_from(&tables.grants, num) {
         None => false,
         Some(_) => true,
-    }
-}
-
-// Whether a set fits the application of a grain.
-fn set_fits(tables: &Tables, num: GrainId, set: &PermSet) -> bool
-    ensures { IsTrue result ↔ SetFits tables.now num set.now }
-{
-    match app_of(tables, num) {
-        None => false,
-        Some(app) => set.fits(app.manifest.permissions.as_slice().len()),
     }
 }
 
@@ -108,6 +98,7 @@ fn check_claim<'a>(
 
 /// Claims, by its token, what was chosen for the grain of the run that calls: the grain has it from then on, and the run a handle
 /// to it, as long as whoever gave it first holds the set on the grain. The reply shows the numbers of the grant and of the handle.
+#[tactic(auto, using(crate::proofs::OneRows::claim_one, crate::proofs::FitRows::claim_fits))]
 pub fn claim(
     alloc: Global,
     state: &State,
@@ -115,34 +106,29 @@ pub fn claim(
     caller: &Caller,
     token: &Digest,
     set: &PermSet,
-) -> Result<Outcome, DeskFault>
+) -> Result<Outcome, Stop>
     requires formed { IsWellFormed state.now }
     requires solution { IsSolutionOf state.now.tables solved.now }
     ensures row { IsCarried (Claim state.now caller.now token.now set.now) result }
     ensures one { IsOne (Claim state.now caller.now token.now set.now) }
-    ensures fits { RowFits state.now (Claim state.now caller.now token.now set.now) }
+    ensures fits { RowFits state.now false (Claim state.now caller.now token.now set.now) }
 {
-    let found = match check_claim(state, solved, caller, token, set) {
-        Ok(found) => found,
-        Err(stop) => return stop.outcome(),
-    };
+    let found = check_claim(state, solved, caller, token, set)?;
     let need = Need::PermissionsHeld {
         holder: Node::User(found.holder, found.maker),
         set: *set,
     };
-    let place = state.tables.grants.as_slice().len() as u32 + 1;
-    let grant = Grant {
-        num: GrantId(place),
-        grain: found.chosen.grain,
-        giver: Giver::Grant(found.chosen.num),
-        target: Target::Grain(found.holder),
-        assignment: all_access(),
-        needs: one_need(alloc, need)?,
-        digest: None,
-        revoked: false,
-    };
+    let grant = new_grant(
+        state,
+        found.chosen.grain,
+        Giver::Grant(found.chosen.num),
+        Target::Grain(found.holder),
+        all_access(),
+        one_need(alloc, need)?,
+        None,
+    );
     let made = Made {
-        grant: Some(place),
+        grant: Some(grant.num.0),
         handle: Some(found.handle.num),
         ..NOTHING
     };

@@ -10,13 +10,12 @@ mod needs;
 mod offers;
 mod options;
 mod restoring;
-mod room;
 mod runs;
 mod saving;
 
 pub use claiming::claim;
 pub use listed::Listed;
-pub use offers::{choose, choose_ready};
+pub use offers::choose;
 pub use options::{GrainChoices, grain_options};
 pub use restoring::{drop_saved, restore};
-pub use saving::{save, save_ready};
+pub use saving::save;

@@ -1,23 +1,12 @@
 //! What the grants that are added here give and need.
 
 ghost use Rattle.std.specs.Prelude.{◌≡◌, [], ◌∷◌, IfOk};
-ghost use Rattle.share_desk.specs.Rows.{all_access as the_all_access};
 ghost use Rattle.saved_refs.specs.Rows.{admin_needs, no_role as the_no_role};
 
-use host_base::{AccountId, Memory};
+use host_base::AccountId;
 use perm_roles::{Assignment, Base, PermSet};
 use share_graph::{Need, Needs};
-use std::alloc::Global;
-
-pub(crate) fn all_access() -> Assignment
-    ensures { result ≡ the_all_access }
-{
-    Assignment {
-        base: Base::AllAccess,
-        add: PermSet::empty(),
-        remove: PermSet::empty(),
-    }
-}
+use std::alloc::{AllocError, Global};
 
 pub(crate) fn no_role() -> Assignment
     ensures { result ≡ the_no_role }
@@ -30,7 +19,7 @@ pub(crate) fn no_role() -> Assignment
 }
 
 // One need alone.
-pub(crate) fn one_need(alloc: Global, need: Need) -> Result<Needs, Memory>
+pub(crate) fn one_need(alloc: Global, need: Need) -> Result<Needs, AllocError>
     ensures { IfOk result (λ needs. needs ≡ need ∷ []) }
 {
     let mut needs = Needs::empty(alloc);
@@ -43,7 +32,7 @@ pub(crate) fn admin_needs(
     alloc: Global,
     admin_only: bool,
     account: AccountId,
-) -> Result<Needs, Memory>
+) -> Result<Needs, AllocError>
     ensures { IfOk result (λ needs. needs ≡ admin_needs admin_only account) }
 {
     if admin_only {

@@ -1,28 +1,25 @@
 //! Choosing of what is offered.
 
-ghost use Rattle.std.specs.Prelude.{◌≡◌};
+ghost use Rattle.std.specs.Prelude.{true};
 ghost use Rattle.share_graph.specs.Forms.{IsOne};
 ghost use Rattle.share_graph.specs.Known.{HasAccount};
 ghost use Rattle.share_graph.specs.WellFormed.{IsWellFormed};
 ghost use Rattle.least_access.specs.Solved.{IsSolutionOf};
 ghost use Rattle.desk_base.specs.Fitting.{RowFits};
-ghost use Rattle.desk_base.specs.Outcomes.{Checks, IsReady, IsCarriedAt};
+ghost use Rattle.desk_base.specs.Outcomes.{Checks, IsCarried};
 ghost use Rattle.saved_refs.specs.Commands.{Choose, ChooseGrain, ChooseSite};
 ghost use Rattle.saved_refs.specs.Offers.{chosen_step};
 
 use crate::applications::has_match;
 use crate::needs::{admin_needs, no_role};
-use desk_base::{NOTHING, Stop, caller_account, known_grain};
-use host_base::{AccountId, Digest, GrainId, GrantId};
+use desk_base::{
+    Outcome, Stop, caller_account, draft_grant, given_role, has_entry, has_grant_room, known_grain,
+};
+use host_base::{AccountId, GrainId};
 use least_access::Solved;
 use perm_roles::Assignment;
 use powerbox_match::Query;
-use session_desk::has_entry;
-use share_desk::{given_role, has_grant_room};
-use share_graph::{
-    Caller, DeskFault, Event, Giver, Grant, Made, Node, Offer, Outcome, Readiness, Refusal, State,
-    Tables, Target, clash, has_grain,
-};
+use share_graph::{Caller, Giver, Node, Offer, Refusal, State, Target, has_grain};
 use std::alloc::Global;
 
 // What was chosen, and by whom: the grant is to be on the grain, by the giver and the assignment.
@@ -48,7 +45,8 @@ fn check_grain(
     requires formed { IsWellFormed state.now }
     requires solution { IsSolutionOf state.now.tables solved.now }
     requires there { HasAccount state.now.tables by }
-    ensures { Checks (ChooseGrain state.now num other query.now assignment.now by) (chosen_step state.now.tables num) result }
+    ensures { Checks (ChooseGrain state.now num other query.now assignment.now by)
+        (chosen_step state.now.tables num) result }
 {
     if other == num {
         return Err(Stop::Refused(Refusal::NoSuchOffer));
@@ -80,7 +78,8 @@ fn check_site(
     found: Option<bool>,
     by: AccountId,
 ) -> Result<Picked, Stop>
-    ensures { Checks (ChooseSite state.now num tag item found by) (chosen_step state.now.tables num) result }
+    ensures { Checks (ChooseSite state.now num tag item found by)
+        (chosen_step state.now.tables num) result }
 {
     let Some(admin_only) = found else {
         return Err(Stop::Refused(Refusal::NoSuchOffer));
@@ -108,7 +107,8 @@ fn check_choose(
 ) -> Result<Picked, Stop>
     requires formed { IsWellFormed state.now }
     requires solution { IsSolutionOf state.now.tables solved.now }
-    ensures { Checks (Choose state.now caller.now num offer.now query.now assignment.now found) (chosen_step state.now.tables num) result }
+    ensures { Checks (Choose state.now caller.now num offer.now query.now assignment.now found)
+        (chosen_step state.now.tables num) result }
 {
     let account = caller_account(state, caller)?;
     known_grain(&state.tables, num)?;
@@ -121,30 +121,10 @@ fn check_choose(
     }
 }
 
-/// Whether a choice that is to be made gets as far as drawing its token. It takes no memory.
-pub fn choose_ready(
-    state: &State,
-    solved: &Solved,
-    caller: &Caller,
-    num: GrainId,
-    offer: &Offer,
-    query: &Query,
-    assignment: &Assignment,
-    found: Option<bool>,
-) -> Result<Readiness, DeskFault>
-    requires formed { IsWellFormed state.now }
-    requires solution { IsSolutionOf state.now.tables solved.now }
-    ensures { IsReady (Choose state.now caller.now num offer.now query.now assignment.now found) result }
-{
-    match check_choose(state, solved, caller, num, offer, query, assignment, found) {
-        Ok(_) => Ok(Readiness::Draw),
-        Err(stop) => stop.readiness(),
-    }
-}
-
-/// Chooses what a grain, to which the caller has access, may claim by a token, which has the digest: another grain of which the
-/// caller gives what the assignment says, where its application's offers match the query, or an item of a site, where the sites
+/// Chooses what a grain, to which the caller has access, may claim by a token, which is drawn: another grain of which the caller
+/// gives what the assignment says, where its application's offers match the query, or an item of a site, where the sites
 /// have it. The reply shows the number of the grant.
+#[tactic(auto, using(crate::proofs::OneRows::choose_one, crate::proofs::FitRows::choose_fits))]
 pub fn choose(
     alloc: Global,
     state: &State,
@@ -155,35 +135,23 @@ pub fn choose(
     query: &Query,
     assignment: &Assignment,
     found: Option<bool>,
-    digest: Digest,
-) -> Result<Outcome, DeskFault>
+) -> Result<Outcome, Stop>
     requires formed { IsWellFormed state.now }
     requires solution { IsSolutionOf state.now.tables solved.now }
-    ensures row { IsCarriedAt state.now digest (Choose state.now caller.now num offer.now query.now assignment.now found) result }
+    ensures row { IsCarried
+        (Choose state.now caller.now num offer.now query.now assignment.now found) result }
     ensures one { IsOne (Choose state.now caller.now num offer.now query.now assignment.now found) }
-    ensures fits { RowFits state.now (Choose state.now caller.now num offer.now query.now assignment.now found) }
+    ensures fits { RowFits state.now true
+        (Choose state.now caller.now num offer.now query.now assignment.now found) }
 {
-    let picked = match check_choose(state, solved, caller, num, offer, query, assignment, found) {
-        Ok(picked) => picked,
-        Err(stop) => return stop.outcome(),
-    };
-    if let Some((kind, row)) = clash(state, &digest) {
-        return Err(DeskFault::Refused(Refusal::TokenClash(kind, row)));
-    }
-    let place = state.tables.grants.as_slice().len() as u32 + 1;
-    let grant = Grant {
-        num: GrantId(place),
-        grain: picked.grain,
-        giver: picked.giver,
-        target: Target::Claim(num),
-        assignment: picked.assignment,
-        needs: admin_needs(alloc, picked.admin_only, picked.by)?,
-        digest: Some(digest),
-        revoked: false,
-    };
-    let made = Made {
-        grant: Some(place),
-        ..NOTHING
-    };
-    Ok(Outcome::Change(Event::GrantAdded(grant), made))
+    let picked = check_choose(state, solved, caller, num, offer, query, assignment, found)?;
+    let needs = admin_needs(alloc, picked.admin_only, picked.by)?;
+    Ok(draft_grant(
+        state,
+        picked.grain,
+        picked.giver,
+        Target::Claim(num),
+        picked.assignment,
+        needs,
+    ))
 }

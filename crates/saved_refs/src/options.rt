@@ -10,12 +10,11 @@ ghost use Rattle.saved_refs.specs.Options.{Options, ForCaller, AreOptions, IsAns
 
 use crate::applications::matches_of;
 use crate::choosing::{Question, choices_of, preferred_first};
-use desk_base::{caller_account, known_grain};
+use desk_base::{caller_account, has_entry, known_grain};
 use host_base::{AccountId, GrainId};
 use least_access::Solved;
 use plain_data::List;
 use powerbox_match::{Choice, Query};
-use session_desk::has_entry;
 use share_graph::{Caller, DeskFault, Node, Refusal, State};
 use std::alloc::Global;
 
@@ -32,7 +31,8 @@ fn asking_account(
     requires formed { IsWellFormed state.now }
     requires solution { IsSolutionOf state.now.tables solved.now }
     ensures { MatchResult result
-        (λ a. Options state.now caller.now num (Keeps nothing_made) × ForCaller state.now caller.now (λ account. a ≡ account.num))
+        (λ a. Options state.now caller.now num (Keeps nothing_made)
+        × ForCaller state.now caller.now (λ account. a ≡ account.num))
         (λ refusal. Options state.now caller.now num (Refuses refusal)) }
 {
     let account = caller_account(state, caller)?;
@@ -43,7 +43,7 @@ fn asking_account(
 
 /// The grains that the caller may choose for a grain: others to which it has access, and of whose application some offer matches the
 /// query. The query is matched once with each application's offers.
-#[tactic(auto, using(crate::proofs::OneRow::options_one))]
+#[tactic(auto, using(crate::proofs::OneRow::options_one, crate::proofs::OneList::options_one_list))]
 pub fn grain_options(
     alloc: Global,
     state: &State,
@@ -54,8 +54,10 @@ pub fn grain_options(
 ) -> Result<GrainChoices, DeskFault>
     requires formed { IsWellFormed state.now }
     requires solution { IsSolutionOf state.now.tables solved.now }
-    ensures row { IsAnswered (Options state.now caller.now num) (AreOptions state.now caller.now num query.now) result }
+    ensures row { IsAnswered (Options state.now caller.now num)
+        (AreOptions state.now caller.now num query.now) result }
     ensures one { IsOne (Options state.now caller.now num) }
+    ensures one_list { IsOne (AreOptions state.now caller.now num query.now) }
 {
     let account = match asking_account(state, solved, caller, num) {
         Ok(account) => account,

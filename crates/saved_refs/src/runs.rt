@@ -1,6 +1,6 @@
 //! The run that calls.
 
-ghost use Rattle.std.specs.Prelude.{◌≡◌, MatchResult};
+ghost use Rattle.std.specs.Prelude.{MatchResult};
 ghost use Rattle.desk_base.specs.Wording as wording;
 ghost use Rattle.saved_refs.specs.Calling.{IsCallingRun, IsNoCallingRun};
 

@@ -1,11 +1,10 @@
 -- Connections that are served one after another by one desk.
 use Rattle.std.specs.Prelude.{◌≡◌, ℕ, ◌+◌, List, [], ◌∷◌, length, sum}
-use Rattle.host_base.specs.Outside.{Inlet, Outlet}
-use Rattle.grain_supervise.specs.Line.{Line, fresh_line}
+use Rattle.grain_supervise.specs.Line.{fresh_line}
 use Rattle.conn_door.specs.Doors.{Doorway, IsFreshInlet, IsFreshOutlet}
 use Rattle.hub_core.specs.Book.{Book}
 use Rattle.cloud_serve.specs.declared.serve.End.{End}
-use Rattle.cloud_serve.specs.Served.{World, Served}
+use Rattle.cloud_serve.specs.Served.{World, Wired, Served, with_book}
 
 -- A CONNECTION WAS SERVED and stands so now: by the headline, from an input of which nothing was read, to an output to which nothing was written,
 -- over a link without a fault of which nothing was asked.
@@ -19,14 +18,12 @@ pub record IsServed (new : World) (end : End) (from : ℕ) (places : List ℕ) (
 
 -- One connection was served by a desk, which told the one thing before it and tells the other behind it, with so many requests answered.
 pub record ServesOne (old new : Book) (served : ℕ) : Type 0 where
-  pub inlet : Inlet
-  pub outlet : Outlet
-  pub line : Line
+  pub wire : Wired
   pub end : End
   pub from : ℕ
   pub places : List ℕ
   pub forwarded : ℕ
-  pub connection : IsServed (record { inlet = inlet; outlet = outlet; line = line; book = new }) end from places served forwarded
+  pub connection : IsServed (with_book wire new) end from places served forwarded
   pub begins : connection.old.book ≡ old
 
 -- Connections were served one after another, each where the one before it left the desk, with so many requests answered on each.

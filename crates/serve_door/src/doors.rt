@@ -28,7 +28,10 @@ impl ServeDoor for MemDoor {
         requires few { end.now.served ≤ 1000000 }
 
         // It keeps the connection, as long as there are fewer than its list had.
-        ensures keeps { self.new ≡ record self.old { kept = kept_with self.old (input, output); returns = counted self.old.returns end.now.served } }
+        ensures keeps { self.new ≡ record self.old {
+          kept = kept_with self.old (input, output);
+          returns = counted self.old.returns end.now.served;
+        } }
     {
         self.give_back(input, output, end.served);
     }

@@ -22,7 +22,16 @@ pub trait ServeDoor: Door {
         link: &L,
     )
         requires room { (Self.doorway self.old).back < 4294967296 }
-        requires served { IsServed (record { inlet = Self.Input.inlet input; outlet = Self.Output.outlet output; line = L.line link.now; book = D.book desk.now }) end.now.end end.now.from end.now.places end.now.served end.now.forwarded }
+        requires served { IsServed (record {
+          inlet = Self.Input.inlet input;
+          outlet = Self.Output.outlet output;
+          line = L.line link.now;
+          book = D.book desk.now;
+        }) end.now.end end.now.from
+            end.now.places end.now.served end.now.forwarded }
         requires start { (state : State) → start ≡ Some state → (D.book desk.now).start ≡ state }
-        ensures { Self.doorway self.new ≡ record (Self.doorway self.old) { back = (Self.doorway self.old).back + 1; answered = (Self.doorway self.old).answered + end.now.served } };
+        ensures { Self.doorway self.new ≡ record (Self.doorway self.old) {
+          back = (Self.doorway self.old).back + 1;
+          answered = (Self.doorway self.old).answered + end.now.served;
+        } };
 }

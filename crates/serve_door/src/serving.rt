@@ -7,8 +7,9 @@ ghost use Rattle.hub_core.specs.Book.{Book};
 ghost use Rattle.serve_door.specs.Connections.{ServesMany, ServesOne};
 
 use crate::serve_door::ServeDoor;
-use cloud_serve::serve_conn;
+use cloud_serve::{Wire, serve_conn};
 use conn_door::DoorFailed;
+use front_http::Routes;
 use grain_supervise::Link;
 use host_base::Memory;
 use hub_core::Desk;
@@ -35,6 +36,7 @@ pub struct Stopped {
 // Serves the next connection, over a link of its own: how many requests were answered on it.
 fn serve_next<E: ServeDoor, D: Desk, L: Link + Drop>(
     alloc: Global,
+    routes: &Routes,
     door: &mut E,
     desk: &mut D,
     link: &L,
@@ -44,27 +46,38 @@ fn serve_next<E: ServeDoor, D: Desk, L: Link + Drop>(
     ensures serves { IfOk result (λ served. ServesOne (D.book desk.old) (D.book desk.new) served) }
     ensures few { IfOk result (λ served. served ≤ 1000000) }
     ensures begins { (D.book desk.new).start ≡ (D.book desk.old).start }
-    ensures back { IfOk result (λ served. E.doorway door.new ≡ record { faults = (E.doorway door.new).faults; given = (E.doorway door.old).given + 1; back = (E.doorway door.old).back + 1; answered = (E.doorway door.old).answered + served }) }
+    ensures back { IfOk result (λ served. E.doorway door.new
+        ≡ record {
+          faults = (E.doorway door.new).faults;
+          given = (E.doorway door.old).given + 1;
+          back = (E.doorway door.old).back + 1;
+          answered = (E.doorway door.old).answered + served;
+        }) }
     ensures counts { (E.doorway door.old).faults ≤ (E.doorway door.new).faults }
     ensures unserved { OnErr result (desk.new ≡ desk.old) }
-    ensures ungiven { OnErr result (E.doorway door.new ≡ record (E.doorway door.old) { faults = (E.doorway door.new).faults }) }
-    ensures cause { IsErrOf result Stop.DoorFailed → Rose (E.doorway door.old).faults (E.doorway door.new).faults }
+    ensures ungiven { OnErr result (E.doorway door.new
+        ≡ record (E.doorway door.old) { faults = (E.doorway door.new).faults }) }
+    ensures cause { IsErrOf result Stop.DoorFailed
+        → Rose (E.doorway door.old).faults (E.doorway door.new).faults }
     ensures ends { IsErrOf result Stop.All → ⊥ }
 {
-    let Ok(mut own) = link.another(alloc) else {
+    let Ok(link) = link.another(alloc) else {
         return Err(Stop::Memory);
     };
-    let Ok((mut input, mut output)) = door.accept() else {
+    let Ok((input, out)) = door.accept() else {
         return Err(Stop::DoorFailed);
     };
-    let end = serve_conn(alloc, &mut input, &mut output, desk, &mut own);
-    door.done(input, output, &end, desk, &own);
+    let mut wire = Wire { input, out, link };
+    let end = serve_conn(alloc, routes, &mut wire, desk);
+    let Wire { input, out, link } = wire;
+    door.done(input, out, &end, desk, &link);
     Ok(end.served)
 }
 
 /// Serves so many connections, one after another, each over a link of its own, and gives each back to the door.
 pub fn serve_all<E: ServeDoor, D: Desk, L: Link + Drop>(
     alloc: Global,
+    routes: &Routes,
     door: &mut E,
     desk: &mut D,
     link: &L,
@@ -72,15 +85,17 @@ pub fn serve_all<E: ServeDoor, D: Desk, L: Link + Drop>(
 ) -> Stopped
     requires room { (E.doorway door.old).back + count ≤ 4294967296 }
     requires start { (state : State) → E.start ≡ Some state → (D.book desk.old).start ≡ state }
-    ensures served { ServesMany (D.book desk.old) (D.book desk.new) (E.doorway door.old) (E.doorway door.new) result.answered }
+    ensures served { ServesMany (D.book desk.old) (D.book desk.new) (E.doorway door.old) (E.doorway door.new)
+        result.answered }
     ensures begins { (D.book desk.new).start ≡ (D.book desk.old).start }
     ensures all { result.stop ≡ Stop.All → (E.doorway door.new).back ≡ (E.doorway door.old).back + count }
     ensures counts { (E.doorway door.old).faults ≤ (E.doorway door.new).faults }
-    ensures cause { result.stop ≡ Stop.DoorFailed → Rose (E.doorway door.old).faults (E.doorway door.new).faults }
+    ensures cause { result.stop ≡ Stop.DoorFailed
+        → Rose (E.doorway door.old).faults (E.doorway door.new).faults }
 {
     let mut answered = 0;
     'connections: for _taken in 0..count {
-        match serve_next(alloc, door, desk, link) {
+        match serve_next(alloc, routes, door, desk, link) {
             Ok(served) => answered += served,
             Err(stop) => return Stopped { stop, answered },
         }

@@ -1,20 +1,17 @@
 -- The changes of each command fit.
-use Rattle.std.proofs.Common.{◌≡◌, ℕ, Contains, Option, Some, None, refl, inl, inr}
+use Rattle.std.proofs.Common.{ℕ, Bool, true, false, Contains, Option, Some, None, refl, inl, inr}
 use Rattle.host_base.specs.declared.ids.GrainId.{GrainId}
 use Rattle.host_base.specs.declared.ids.SessionId.{SessionId}
 use Rattle.share_graph.specs.declared.desk.Caller.{Caller}
 use Rattle.share_graph.specs.declared.desk.Caller.TheVariants as caller
 use Rattle.share_graph.specs.declared.desk.Made.{Made}
 use Rattle.share_graph.specs.declared.event.Event.TheVariants.{RunStarted, RunStopped, SessionOpened, SessionClosed}
-use Rattle.share_graph.specs.declared.facts.Node.{Node}
 use Rattle.share_graph.specs.declared.grants.Grant.{Grant}
-use Rattle.share_graph.specs.declared.refusal.Refusal.TheVariants.{Denied}
 use Rattle.share_graph.specs.declared.rows.Account.{Account}
 use Rattle.share_graph.specs.declared.sessions.Root.{Root}
 use Rattle.share_graph.specs.declared.sessions.Root.TheVariants as root
 use Rattle.share_graph.specs.declared.sessions.Run.{Run}
 use Rattle.share_graph.specs.declared.state.State.{State}
-use Rattle.share_graph.specs.Callers.{entry}
 use Rattle.share_graph.specs.Keys.{IsOneOf, IsBearerOf}
 use Rattle.share_graph.specs.Known.{HasGrain}
 use Rattle.share_graph.specs.WellFormed.{IsWellFormed, MayRoot}
@@ -24,11 +21,11 @@ use Rattle.state_step.proofs.RunLaws.{run_started_fits, run_stopped_fits}
 use Rattle.state_step.proofs.SessionLaws.{session_opened_fits, session_closed_fits}
 use Rattle.desk_base.specs.Fitting.{ChangeFits, RowFits}
 use Rattle.desk_base.specs.Made.{nothing_made}
-use Rattle.desk_base.specs.Steps.{Step, Refuses, Makes, Change, Plain, Drawn, denies}
+use Rattle.desk_base.specs.Steps.{Step, Makes, Change, Plain, Drawn}
 use Rattle.desk_base.specs.Wording.{secret_of, by_account}
-use Rattle.desk_base.proofs.FitForms.{when_fits, unless_fits, found_fits, some_fits, adds_fits}
+use Rattle.desk_base.proofs.FitForms.{when_fits, unless_fits, found_fits, some_fits, adds_fits, access_fits, bearer_fits, none_fits}
 use Rattle.session_desk.specs.declared.actor.Actor.{Actor}
-use Rattle.session_desk.specs.Calling.{by_bearer, by_root, with_access, on_grain, account_on, bearer_of}
+use Rattle.session_desk.specs.Calling.{by_root, with_access, on_grain, account_on, bearer_of}
 use Rattle.session_desk.specs.Commands.{StartRun, StopRun, OpenSession, CloseBy, CloseSession}
 use Rattle.session_desk.specs.Rows.{new_run, new_session, made_session}
 
@@ -36,24 +33,6 @@ use Rattle.session_desk.specs.Rows.{new_run, new_session, made_session}
 record MayAct (s : State) (actor : Actor) : Type 0 where
   grain : HasGrain s.tables actor.grain
   root : MayRoot s.tables actor.grain actor.root
-
-module _ (s : State) where
-  -- a change that comes after the test of entry
-  entry_cases : (at : Node) (Rest : Step → Type 0) → RowFits s Rest → (change : Change) (made : Made) → entry denies s.tables at Rest (Makes change made) → ChangeFits s change
-  entry_cases at Rest rest change made (inl (reason, same, missing)) = let odd : Makes change made ≡ Refuses (Denied reason) = same in cc
-  entry_cases at Rest rest change made (inr (held, is)) = rest.fits change made is
-
-  entry_fits : {at : Node} {Rest : Step → Type 0} → RowFits s Rest → RowFits s (entry denies s.tables at Rest)
-  entry_fits {at} {Rest} rest = record { fits = entry_cases at Rest rest }
-
-  bearer_fits : (who : Caller) {Rest : Grant → Step → Type 0} → ((grant : Grant) → IsOneOf s.tables.grants (IsBearerOf (secret_of who)) grant → RowFits s (Rest grant)) → RowFits s (by_bearer s who Rest)
-  bearer_fits who rest =
-      some_fits s tt λ grant is.
-      entry_fits (rest grant is)
-
-  -- no change is made where there is no step
-  none_fits : RowFits s (λ step. ⊥)
-  none_fits = record { fits = λ change made never. absurd never }
 
 module _ (s : State) (formed : IsWellFormed s) where
   -- an account that calls may act on a grain that is there
@@ -72,33 +51,34 @@ module _ (s : State) (formed : IsWellFormed s) where
         root = (grant, row, refl, is.is.bearer);
       }
 
-  access_fits : (who : Caller) (n : GrainId) {Rest : Actor → Step → Type 0} → ((actor : Actor) → MayAct s actor → RowFits s (Rest actor)) → RowFits s (with_access s who n Rest)
-  access_fits who n rest =
+module _ (s : State) (formed : IsWellFormed s) {draws : Bool} where
+  account_fits : (who : Caller) (n : GrainId) {Rest : Actor → Step → Type 0} → ((actor : Actor) → MayAct s actor → RowFits s draws (Rest actor)) → RowFits s draws (with_access s who n Rest)
+  account_fits who n rest =
       some_fits s tt λ account is.
       unless_fits s tt λ enabled.
       found_fits s tt λ grain there.
-      entry_fits s (rest (account_on n account.num) (account_acts n account is.listed (grain, there)))
+      access_fits s (rest (account_on n account.num) (account_acts s formed n account is.listed (grain, there)))
 
-  grain_fits : (who : Caller) (n : Option GrainId) {Rest : Actor → Step → Type 0} → ((actor : Actor) → MayAct s actor → RowFits s (Rest actor)) → RowFits s (on_grain s who n Rest)
-  grain_fits (caller.Login d) (Some n) rest = access_fits (caller.Login d) n rest
-  grain_fits (caller.Bearer d) None rest = bearer_fits s (caller.Bearer d) (λ grant is. rest (bearer_of grant) (bearer_acts (caller.Bearer d) grant is))
+  grain_fits : (who : Caller) (n : Option GrainId) {Rest : Actor → Step → Type 0} → ((actor : Actor) → MayAct s actor → RowFits s draws (Rest actor)) → RowFits s draws (on_grain s who n Rest)
+  grain_fits (caller.Login d) (Some n) rest = account_fits (caller.Login d) n rest
+  grain_fits (caller.Bearer d) None rest = bearer_fits s (caller.Bearer d) (λ grant is. rest (bearer_of grant) (bearer_acts s formed (caller.Bearer d) grant is))
   grain_fits (caller.Login d) None rest = none_fits s
   grain_fits (caller.Bearer d) (Some n) rest = none_fits s
   grain_fits (caller.Run d) n rest = none_fits s
   grain_fits (caller.Either d) n rest = none_fits s
 
-  root_cases : (who : Caller) (Rest : Root → Step → Type 0) → ((root : Root) → RowFits s (Rest root)) → (change : Change) (made : Made) → by_root s who Rest (Makes change made) → ChangeFits s change
+  root_cases : (who : Caller) (Rest : Root → Step → Type 0) → ((root : Root) → RowFits s draws (Rest root)) → (change : Change) (made : Made) → by_root s who Rest (Makes change made) → ChangeFits s draws change
   root_cases who Rest rest change made (inl (login, is)) =
-      let as_account : RowFits s (by_account s who (λ account. Rest (root.Account account.num))) =
+      let as_account : RowFits s draws (by_account s who (λ account. Rest (root.Account account.num))) =
       (some_fits s tt λ account one. unless_fits s tt λ enabled. rest (root.Account account.num)) in
       as_account.fits change made is
   root_cases who Rest rest change made (inr (never, is)) = (bearer_fits s who (λ grant one. rest (root.Grant grant.num))).fits change made is
 
-  root_fits : (who : Caller) {Rest : Root → Step → Type 0} → ((root : Root) → RowFits s (Rest root)) → RowFits s (by_root s who Rest)
+  root_fits : (who : Caller) {Rest : Root → Step → Type 0} → ((root : Root) → RowFits s draws (Rest root)) → RowFits s draws (by_root s who Rest)
   root_fits who {Rest} rest = record { fits = root_cases who Rest rest }
 
 -- the commands
-pub start_run_fits : (s : State) → IsWellFormed s → (who : Caller) (n : Option GrainId) → RowFits s (StartRun s who n)
+pub start_run_fits : (s : State) → IsWellFormed s → (who : Caller) (n : Option GrainId) → RowFits s true (StartRun s who n)
 start_run_fits s formed who n =
     grain_fits s formed who n λ actor may.
     when_fits s tt λ idle.
@@ -110,7 +90,7 @@ start_run_fits s formed who n =
       unused = unused;
     })
 
-pub stop_run_fits : (s : State) → IsWellFormed s → (who : Caller) (n : GrainId) → RowFits s (StopRun s who n)
+pub stop_run_fits : (s : State) → IsWellFormed s → (who : Caller) (n : GrainId) → RowFits s false (StopRun s who n)
 stop_run_fits s formed who n =
     some_fits s tt λ account is.
     unless_fits s tt λ enabled.
@@ -120,7 +100,7 @@ stop_run_fits s formed who n =
     adds_fits s (Plain (RunStopped run.num)) nothing_made λ room.
     run_stopped_fits s formed run.num (run, listed_row (λ (x : Run). x.num.0) s.runs run formed.numbered.runs live.listed)
 
-pub open_session_fits : (s : State) → IsWellFormed s → (who : Caller) (n : Option GrainId) (tab : Option ℕ) → RowFits s (OpenSession s who n tab)
+pub open_session_fits : (s : State) → IsWellFormed s → (who : Caller) (n : Option GrainId) (tab : Option ℕ) → RowFits s true (OpenSession s who n tab)
 open_session_fits s formed who n tab =
     grain_fits s formed who n λ actor may.
     adds_fits s (Drawn λ d. SessionOpened (new_session s actor tab d)) (made_session s) λ room d unused.
@@ -130,7 +110,7 @@ open_session_fits s formed who n tab =
       unused = unused;
     })
 
-close_by_fits : (s : State) → IsWellFormed s → (n : SessionId) (its : Root) → RowFits s (CloseBy s n its)
+close_by_fits : (s : State) → IsWellFormed s → (n : SessionId) (its : Root) → RowFits s false (CloseBy s n its)
 close_by_fits s formed n its =
     found_fits s tt λ session there.
     unless_fits s tt λ its_root.
@@ -138,5 +118,5 @@ close_by_fits s formed n its =
     adds_fits s (Plain (SessionClosed n)) nothing_made λ room.
     session_closed_fits s formed n (session, there)
 
-pub close_session_fits : (s : State) → IsWellFormed s → (who : Caller) (n : SessionId) → RowFits s (CloseSession s who n)
+pub close_session_fits : (s : State) → IsWellFormed s → (who : Caller) (n : SessionId) → RowFits s false (CloseSession s who n)
 close_session_fits s formed who n = root_fits s formed who {Rest = CloseBy s n} (λ its. close_by_fits s formed n its)

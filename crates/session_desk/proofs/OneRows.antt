@@ -15,15 +15,13 @@ use Rattle.share_graph.specs.declared.state.State.{State}
 use Rattle.share_graph.specs.Forms.{IsOne}
 use Rattle.share_graph.specs.Keys.{IsOneOf, IsLiveRun}
 use Rattle.share_graph.specs.WellFormed.{IsWellFormed}
-use Rattle.share_graph.proofs.Apart.{bearer_one}
 use Rattle.share_graph.proofs.Contained.{place_of}
 use Rattle.share_graph.proofs.MissingOne.{entry_one}
 use Rattle.share_graph.proofs.OneAnswer.{when_one, unless_one, some_of_one, found_or_none_one}
 use Rattle.desk_base.specs.Steps.{Step, denies}
-use Rattle.desk_base.specs.Wording.{secret_of}
-use Rattle.desk_base.proofs.OneWord.{by_account_one, known_grain_one, adds_one}
+use Rattle.desk_base.proofs.OneWord.{by_account_one, by_bearer_one, numbered_one, known_grain_one, adds_one}
 use Rattle.session_desk.specs.declared.actor.Actor.{Actor}
-use Rattle.session_desk.specs.Calling.{by_bearer, by_either, by_root, with_access, on_grain, known_session, bearer_of}
+use Rattle.session_desk.specs.Calling.{by_either, by_root, with_access, on_grain, known_session, bearer_of}
 use Rattle.session_desk.specs.Commands.{StartRun, start_step, StopRun, stop_step, OpenSession, open_step, CloseBy, CloseSession, close_step}
 
 -- a grain has one live run
@@ -37,17 +35,10 @@ live_one s formed n = record {
       cc);
 }
 
--- a session of a number is one
-session_one : (o : Option Session) → IsOne (λ (x : Session). o ≡ Some x)
-session_one o = record { one = λ a b x y. (let same : Some a ≡ Some b = sym x ∙ y in cc) }
-
 known_session_one : (s : State) (n : SessionId) {Rest : Session → Step → Type 0} → ((session : Session) → IsOne (Rest session)) → IsOne (known_session s n Rest)
-known_session_one s n rest = found_or_none_one (session_one _) rest
+known_session_one s n rest = found_or_none_one (numbered_one _) rest
 
 -- the words for those who call
-pub by_bearer_one : (s : State) → IsWellFormed s → (who : Caller) {Rest : Grant → Step → Type 0} → ((grant : Grant) → IsOne (Rest grant)) → IsOne (by_bearer s who Rest)
-by_bearer_one s formed who rest = some_of_one (bearer_one s formed (secret_of who)) (λ grant. entry_one denies s.tables (node.Grant grant.num) (rest grant))
-
 module _ (s : State) (formed : IsWellFormed s) (who : Caller) (AsAccount : Account → Step → Type 0) (AsBearer : Grant → Step → Type 0)
     (account : (account : Account) → IsOne (AsAccount account)) (bearer : (grant : Grant) → IsOne (AsBearer grant)) where
   either_cases : (a b : Step) → by_either s who AsAccount AsBearer a → by_either s who AsAccount AsBearer b → a ≡ b

@@ -1,49 +1,20 @@
 -- From what a test tells into the row that begins with its word, and from its refusals.
-use Rattle.std.proofs.Common.{◌≡◌, Option, Some, None, Result, Ok, Err, IsErrAnd, MatchResult, sym, ap, subst, inl, inr}
+use Rattle.std.proofs.Common.{◌≡◌, Option, Some, None, Result, Ok, Err, MatchResult, sym, subst, inl, inr}
 use Rattle.host_base.specs.declared.ids.GrainId.{GrainId}
 use Rattle.share_graph.specs.declared.desk.Caller.{Caller}
 use Rattle.share_graph.specs.declared.desk.Caller.TheVariants as caller
-use Rattle.share_graph.specs.declared.grants.Grant.{Grant}
-use Rattle.share_graph.specs.declared.grants.Target.{Target}
-use Rattle.share_graph.specs.declared.grants.Target.TheVariants as target
 use Rattle.share_graph.specs.declared.refusal.Refusal.{Refusal}
-use Rattle.share_graph.specs.declared.refusal.Refusal.TheVariants.{Denied}
-use Rattle.share_graph.specs.declared.facts.Node.{Node}
 use Rattle.share_graph.specs.declared.sessions.Root.{Root}
 use Rattle.share_graph.specs.declared.sessions.Root.TheVariants as root
 use Rattle.share_graph.specs.declared.state.State.{State}
-use Rattle.share_graph.specs.declared.state.Tables.{Tables}
-use Rattle.share_graph.specs.Callers.{LacksEntry}
-use Rattle.share_graph.specs.Keys.{IsBearer}
-use Rattle.share_graph.specs.Parents.{IsNoUser}
-use Rattle.desk_base.specs.Steps.{Step, Refuses, denies}
+use Rattle.desk_base.specs.Steps.{Step, Refuses}
+use Rattle.desk_base.proofs.Words.{bearer_more}
 use Rattle.session_desk.specs.declared.actor.Actor.{Actor}
-use Rattle.session_desk.specs.Calling.{by_bearer, by_root, bearer_of, with_access, with_token, on_grain, NamesGrain}
-use Rattle.session_desk.specs.Passing.{Passes, Fails}
-
--- a bearer is no account
-pub bearer_is_no_user : (to : Target) → IsBearer to → IsNoUser to
-bearer_is_no_user (target.Bearer for_sharing) is = tt
-bearer_is_no_user (target.User a) is = absurd is
-bearer_is_no_user (target.Claim h) is = absurd is
-bearer_is_no_user (target.Grain h) is = absurd is
-
--- a refusal that is handed on
-pub handed_on : {X : Type 0} (P : X → Type 0) (Q : Refusal → Type 0) (result : Result X Refusal) (r : Refusal) → IsErrAnd result (λ e. e ≡ r) → Q r → MatchResult result P Q
-handed_on P Q (Ok x) r odd is = absurd odd
-handed_on P Q (Err e) r same is = subst Q (sym same) is
-
--- the denial of a node without entry
-pub lacking : (t : Tables) (at : Node) (r : Refusal) → LacksEntry Denied t at r → LacksEntry denies t at (Refuses r)
-lacking t at r (reason, same, missing) = (reason, ap Refuses same, missing)
+use Rattle.session_desk.specs.Calling.{by_root, bearer_of, with_access, with_token, on_grain, NamesGrain}
+use Rattle.desk_base.specs.Passing.{Passes, Fails}
 
 module _ (s : State) (who : Caller) where
   -- the rest may be more
-  pub bearer_more : (Rest More : Grant → Step → Type 0) (step : Step) → ((grant : Grant) → Rest grant step → More grant step) → by_bearer s who Rest step → by_bearer s who More step
-  bearer_more Rest More step more (inl none) = inl none
-  bearer_more Rest More step more (inr (grant, one, inl lacks)) = inr (grant, one, inl lacks)
-  bearer_more Rest More step more (inr (grant, one, inr (held, rest))) = inr (grant, one, inr (held, more grant rest))
-
   pub access_more : (n : GrainId) (Rest More : Actor → Step → Type 0) (step : Step) → ((actor : Actor) → Rest actor step → More actor step) → with_access s who n Rest step → with_access s who n More step
   access_more n Rest More step more (inl none) = inl none
   access_more n Rest More step more (inr (account, one, inl off)) = inr (account, one, inl off)
@@ -56,7 +27,7 @@ module _ (s : State) (who : Caller) where
   root_more Rest More step more (inl (login, inr (account, one, inl off))) = inl (login, inr (account, one, inl off))
   root_more Rest More step more (inl (login, inr (account, one, inr (on, rest)))) = inl (login, inr (account, one, inr (on, more _ rest)))
   root_more Rest More step more (inr (no_login, is)) =
-      inr (no_login, bearer_more (λ grant. Rest (root.Grant grant.num)) (λ grant. More (root.Grant grant.num)) step (λ grant. more (root.Grant grant.num)) is)
+      inr (no_login, bearer_more s who (λ grant. Rest (root.Grant grant.num)) (λ grant. More (root.Grant grant.num)) step (λ grant. more (root.Grant grant.num)) is)
 
 pub grain_more : (s : State) (who : Caller) (n : Option GrainId) (Rest More : Actor → Step → Type 0) (step : Step) → ((actor : Actor) → Rest actor step → More actor step)
     → on_grain s who n Rest step → on_grain s who n More step
@@ -83,12 +54,6 @@ named_bearer s (caller.Either d) Rest step named is = absurd named
 
 module _ (s : State) (who : Caller) where
   -- whoever the test lets through goes on, and whoever it refuses is refused
-  pub bearer_passes : (Rest : Grant → Step → Type 0) (grant : Grant) (step : Step) → Passes (by_bearer s who) grant → Rest grant step → by_bearer s who Rest step
-  bearer_passes Rest grant step passes rest = bearer_more s who (λ other any. other ≡ grant) Rest step (λ other same. subst (λ (x : Grant). Rest x step) (sym same) rest) (passes step)
-
-  pub bearer_fails : (Rest : Grant → Step → Type 0) (r : Refusal) → Fails (by_bearer s who) r → by_bearer s who Rest (Refuses r)
-  bearer_fails Rest r fails = bearer_more s who (λ other any. ⊥) Rest (Refuses r) (λ other never. absurd never) fails
-
   pub root_passes : (Rest : Root → Step → Type 0) (its : Root) (step : Step) → Passes (by_root s who) its → Rest its step → by_root s who Rest step
   root_passes Rest its step passes rest = root_more s who (λ other any. other ≡ its) Rest step (λ other same. subst (λ (x : Root). Rest x step) (sym same) rest) (passes step)
 

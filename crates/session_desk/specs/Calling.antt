@@ -19,12 +19,8 @@ use Rattle.share_graph.specs.Callers.{entry}
 use Rattle.share_graph.specs.Forms.{found◌or◌then◌, none}
 use Rattle.share_graph.specs.Rows.{IsSession}
 use Rattle.desk_base.specs.Steps.{Step, Refuses, denies}
-use Rattle.desk_base.specs.Wording.{secret_of, by_account, known_grain}
+use Rattle.desk_base.specs.Wording.{secret_of, by_account, by_bearer, known_grain}
 use Rattle.session_desk.specs.declared.actor.Actor.{Actor}
-
--- the grant whose token the caller bears: Denied(UnknownKey), and Denied of the first step that is missing for its entry
-abbrev pub by_bearer : State → Caller → (Grant → Step → Type 0) → Step → Type 0
-by_bearer s who Rest = callers.by_bearer denies s (secret_of who) Rest
 
 -- the caller's account where it shows the login of one, else the grant whose token it bears
 abbrev pub by_either : State → Caller → (Account → Step → Type 0) → (Grant → Step → Type 0) → Step → Type 0

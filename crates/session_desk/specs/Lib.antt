@@ -1,4 +1,3 @@
 pub mod Calling
 pub mod Rows
 pub mod Commands
-pub mod Passing

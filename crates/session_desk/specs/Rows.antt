@@ -46,4 +46,4 @@ MayStop account grain = (grain.owner ≡ account.num) ⊎ (account.admin ≡ tru
 
 -- the refusal where a session of the root would be one too many; a root with 32 open sessions has one of its own closed for it
 abbrev pub session_limit : State → Root → Option Refusal
-session_limit s root = if nat_lt (count_by (is_open_of root) s.sessions) 32 then too_many kind.Session 4096 (count_by is_open s.sessions) else None
+session_limit s root = if nat_lt (count_by (is_open_of root) s.sessions) 32 then too_many kind.Session (count_by is_open s.sessions) else None

@@ -1,53 +1,18 @@
-//! Who calls: bearers, either of the two, and whoever acts on a grain.
+//! Who calls: an account or a bearer, and whoever acts on a grain.
 
-ghost use Rattle.std.specs.Prelude.{◌≡◌, ◌↔◌, IsTrue, MatchResult};
-ghost use Rattle.share_graph.specs.declared.facts.Fact.TheVariants.{Open};
-ghost use Rattle.share_graph.specs.declared.refusal.Refusal.TheVariants.{Denied};
-ghost use Rattle.share_graph.specs.Callers.{LacksEntry, IsSomeLogin};
-ghost use Rattle.share_graph.specs.Checked.{IsChecked};
-ghost use Rattle.share_graph.specs.Derivation.{Holds};
-ghost use Rattle.share_graph.specs.Missing.{IsNode};
+ghost use Rattle.std.specs.Prelude.{◌↔◌, IsTrue, MatchResult};
+ghost use Rattle.share_graph.specs.Callers.{IsSomeLogin};
 ghost use Rattle.share_graph.specs.WellFormed.{IsWellFormed};
 ghost use Rattle.least_access.specs.Solved.{IsSolutionOf};
+ghost use Rattle.desk_base.specs.Passing.{Passes, Fails};
 ghost use Rattle.desk_base.specs.Wording as wording;
-ghost use Rattle.session_desk.specs.Calling.{by_bearer, by_root, with_access, with_token, on_grain, NamesGrain};
-ghost use Rattle.session_desk.specs.Passing.{Passes, Fails};
+ghost use Rattle.session_desk.specs.Calling.{by_root, with_access, with_token, on_grain, NamesGrain};
 
 use crate::actor::Actor;
-use desk_base::{caller_account, known_grain, secret_of};
-use host_base::{Denial, GrainId};
+use desk_base::{caller_account, caller_grant, has_entry, known_grain, secret_of};
+use host_base::GrainId;
 use least_access::Solved;
-use share_graph::{Caller, Grant, Node, Refusal, Root, State, Tables, by_bearer_token, by_login};
-
-/// Whether a node holds entry; else the first step that is missing for it.
-pub fn has_entry(tables: &Tables, solved: &Solved, node: Node) -> Result<(), Refusal>
-    requires solution { IsSolutionOf tables.now solved.now }
-    requires checked { IsChecked tables.now }
-    requires there { IsNode tables.now node }
-    ensures { MatchResult result (λ _. Holds tables.now node Open) (LacksEntry Denied tables.now node) }
-{
-    match solved.why_not(tables, node) {
-        None => Ok(()),
-        Some(reason) => Err(Refusal::Denied(reason)),
-    }
-}
-
-/// The grant whose token the caller bears, which holds entry.
-pub fn caller_grant<'a>(
-    state: &'a State,
-    solved: &Solved,
-    caller: &Caller,
-) -> Result<&'a Grant, Refusal>
-    requires formed { IsWellFormed state.now }
-    requires solution { IsSolutionOf state.now.tables solved.now }
-    ensures { MatchResult result (λ grant. Passes (by_bearer state.now caller.now) grant.now) (Fails (by_bearer state.now caller.now)) }
-{
-    let Some(grant) = by_bearer_token(&state.tables, &secret_of(caller)) else {
-        return Err(Refusal::Denied(Denial::UnknownKey));
-    };
-    has_entry(&state.tables, solved, Node::Grant(grant.num))?;
-    Ok(grant)
-}
+use share_graph::{Caller, Node, Refusal, Root, State, by_login};
 
 // Whether the caller shows the login of an account.
 fn is_login(state: &State, caller: &Caller) -> bool
@@ -63,7 +28,7 @@ fn is_login(state: &State, caller: &Caller) -> bool
 pub fn caller_root(state: &State, solved: &Solved, caller: &Caller) -> Result<Root, Refusal>
     requires formed { IsWellFormed state.now }
     requires solution { IsSolutionOf state.now.tables solved.now }
-    ensures { MatchResult result (Passes (by_root state.now caller.now)) (Fails (by_root state.now caller.now)) }
+    ensures { let Word = by_root state.now caller.now in MatchResult result (Passes Word) (Fails Word) }
 {
     if is_login(state, caller) {
         let account = caller_account(state, caller)?;
@@ -82,7 +47,8 @@ fn account_on(
 ) -> Result<Actor, Refusal>
     requires formed { IsWellFormed state.now }
     requires solution { IsSolutionOf state.now.tables solved.now }
-    ensures { MatchResult result (Passes (with_access state.now caller.now num)) (Fails (with_access state.now caller.now num)) }
+    ensures { let Word = with_access state.now caller.now num in
+        MatchResult result (Passes Word) (Fails Word) }
 {
     let account = caller_account(state, caller)?;
     known_grain(&state.tables, num)?;
@@ -97,7 +63,7 @@ fn account_on(
 fn bearer_on(state: &State, solved: &Solved, caller: &Caller) -> Result<Actor, Refusal>
     requires formed { IsWellFormed state.now }
     requires solution { IsSolutionOf state.now.tables solved.now }
-    ensures { MatchResult result (Passes (with_token state.now caller.now)) (Fails (with_token state.now caller.now)) }
+    ensures { let Word = with_token state.now caller.now in MatchResult result (Passes Word) (Fails Word) }
 {
     let grant = caller_grant(state, solved, caller)?;
     Ok(Actor {
@@ -116,7 +82,7 @@ pub fn actor_of(
     requires formed { IsWellFormed state.now }
     requires solution { IsSolutionOf state.now.tables solved.now }
     requires named { NamesGrain caller.now num }
-    ensures { MatchResult result (Passes (on_grain state.now caller.now num)) (Fails (on_grain state.now caller.now num)) }
+    ensures { let Word = on_grain state.now caller.now num in MatchResult result (Passes Word) (Fails Word) }
 {
     match num {
         Some(num) => account_on(state, solved, caller, num),

@@ -8,6 +8,5 @@ mod runs;
 mod sessions;
 
 pub use actor::Actor;
-pub use callers::{caller_grant, has_entry};
-pub use runs::{start_run, start_run_ready, stop_run};
-pub use sessions::{close_session, open_session, open_session_ready};
+pub use runs::{start_run, stop_run};
+pub use sessions::{close_session, open_session};

@@ -1,21 +1,18 @@
-ghost use Rattle.std.specs.Prelude.{◌≡◌, ◌↔◌, IsTrue};
+ghost use Rattle.std.specs.Prelude.{◌↔◌, IsTrue, true, false};
 ghost use Rattle.share_graph.specs.Forms.{IsOne};
 ghost use Rattle.share_graph.specs.WellFormed.{IsWellFormed};
 ghost use Rattle.least_access.specs.Solved.{IsSolutionOf};
 ghost use Rattle.desk_base.specs.Fitting.{RowFits};
-ghost use Rattle.desk_base.specs.Outcomes.{Checks, IsReady, IsCarried, IsCarriedAt};
+ghost use Rattle.desk_base.specs.Outcomes.{Checks, IsCarriedExactly};
 ghost use Rattle.session_desk.specs.Calling.{NamesGrain};
 ghost use Rattle.session_desk.specs.Commands.{StartRun, start_step, StopRun, stop_step};
 ghost use Rattle.session_desk.specs.Rows.{MayStop};
 
 use crate::callers::actor_of;
-use desk_base::{NOTHING, Stop, caller_account, known_grain};
-use host_base::{Digest, GrainId, RunId};
+use desk_base::{BLANK, Draft, NOTHING, Outcome, Stop, caller_account, known_grain};
+use host_base::{GrainId, RunId};
 use least_access::Solved;
-use share_graph::{
-    Account, Caller, DeskFault, Event, Grain, Outcome, Readiness, Refusal, Run, State, clash,
-    live_run,
-};
+use share_graph::{Account, Caller, Event, Grain, Refusal, Run, State, live_run};
 
 // The checks of `start_run`: the grain that is to run.
 fn check_start_run(
@@ -36,54 +33,32 @@ fn check_start_run(
     }
 }
 
-/// Whether a grain that is to run gets as far as drawing the token of its run. It takes no memory.
-pub fn start_run_ready(
-    state: &State,
-    solved: &Solved,
-    caller: &Caller,
-    num: Option<GrainId>,
-) -> Result<Readiness, DeskFault>
-    requires formed { IsWellFormed state.now }
-    requires solution { IsSolutionOf state.now.tables solved.now }
-    requires named { NamesGrain caller.now num }
-    ensures { IsReady (StartRun state.now caller.now num) result }
-{
-    match check_start_run(state, solved, caller, num) {
-        Ok(_) => Ok(Readiness::Draw),
-        Err(stop) => stop.readiness(),
-    }
-}
-
-/// Starts a run of a grain, whose token has the digest: of the grain that a login names and has access to, or that of a
+/// Starts a run of a grain, whose token is drawn: of the grain that a login names and has access to, or that of a
 /// bearer's grant. Where a run of it is live nothing is to be done.
 pub fn start_run(
     state: &State,
     solved: &Solved,
     caller: &Caller,
     num: Option<GrainId>,
-    digest: Digest,
-) -> Result<Outcome, DeskFault>
+) -> Result<Outcome, Stop>
     requires formed { IsWellFormed state.now }
     requires solution { IsSolutionOf state.now.tables solved.now }
     requires named { NamesGrain caller.now num }
-    ensures row { IsCarriedAt state.now digest (StartRun state.now caller.now num) result }
+    ensures row { IsCarriedExactly (StartRun state.now caller.now num) result }
     ensures one { IsOne (StartRun state.now caller.now num) }
-    ensures fits { RowFits state.now (StartRun state.now caller.now num) }
+    ensures fits { RowFits state.now true (StartRun state.now caller.now num) }
 {
-    let grain = match check_start_run(state, solved, caller, num) {
-        Ok(grain) => grain,
-        Err(stop) => return stop.outcome(),
-    };
-    if let Some((kind, row)) = clash(state, &digest) {
-        return Err(DeskFault::Refused(Refusal::TokenClash(kind, row)));
-    }
+    let grain = check_start_run(state, solved, caller, num)?;
     let run = Run {
         num: RunId(state.runs.as_slice().len() as u64 + 1),
         grain,
-        digest,
+        digest: BLANK,
         stopped: false,
     };
-    Ok(Outcome::Change(Event::RunStarted(run), NOTHING))
+    Ok(Outcome::Draft(Draft {
+        event: Event::RunStarted(run),
+        made: NOTHING,
+    }))
 }
 
 // Whether an account may stop the run of a grain.
@@ -109,20 +84,13 @@ fn check_stop_run(state: &State, caller: &Caller, num: GrainId) -> Result<RunId,
 }
 
 /// Stops the live run of a grain, which its owner and admins may. Where none is live nothing is to be done.
-pub fn stop_run(
-    state: &State,
-    solved: &Solved,
-    caller: &Caller,
-    num: GrainId,
-) -> Result<Outcome, DeskFault>
+#[tactic(auto, using(crate::proofs::OneRows::stop_run_one, crate::proofs::FitRows::stop_run_fits))]
+pub fn stop_run(state: &State, caller: &Caller, num: GrainId) -> Result<Outcome, Stop>
     requires { IsWellFormed state.now }
-    ensures row { IsCarried (StopRun state.now caller.now num) result }
+    ensures row { IsCarriedExactly (StopRun state.now caller.now num) result }
     ensures one { IsOne (StopRun state.now caller.now num) }
-    ensures fits { RowFits state.now (StopRun state.now caller.now num) }
+    ensures fits { RowFits state.now false (StopRun state.now caller.now num) }
 {
-    let _ = solved;
-    match check_stop_run(state, caller, num) {
-        Ok(run) => Ok(Outcome::Change(Event::RunStopped(run), NOTHING)),
-        Err(stop) => stop.outcome(),
-    }
+    let run = check_stop_run(state, caller, num)?;
+    Ok(Outcome::Change(Event::RunStopped(run), NOTHING))
 }

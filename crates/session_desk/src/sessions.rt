@@ -1,4 +1,4 @@
-ghost use Rattle.std.specs.Prelude.{◌≡◌, ◌<◌, ◌-◌, ◌^◌, MatchResult, length};
+ghost use Rattle.std.specs.Prelude.{◌<◌, ◌-◌, ◌^◌, MatchResult, length, true, false};
 ghost use Rattle.share_graph.specs.declared.fault.Kind.TheVariants as kind;
 ghost use Rattle.share_graph.specs.declared.refusal.Refusal.TheVariants as refusal;
 ghost use Rattle.share_graph.specs.Forms.{IsOne, none};
@@ -6,20 +6,17 @@ ghost use Rattle.share_graph.specs.Rows.{IsSession};
 ghost use Rattle.share_graph.specs.WellFormed.{IsWellFormed};
 ghost use Rattle.least_access.specs.Solved.{IsSolutionOf};
 ghost use Rattle.desk_base.specs.Fitting.{RowFits};
-ghost use Rattle.desk_base.specs.Outcomes.{Checks, IsReady, IsCarried, IsCarriedAt};
+ghost use Rattle.desk_base.specs.Outcomes.{Checks, IsCarriedExactly};
 ghost use Rattle.session_desk.specs.Calling.{NamesGrain};
 ghost use Rattle.session_desk.specs.Commands.{OpenSession, open_step, CloseSession, close_step};
 
 use crate::actor::Actor;
 use crate::callers::{actor_of, caller_root};
 use crate::room::has_session_room;
-use desk_base::{NOTHING, Stop};
-use host_base::{Digest, GrainId, SessionId};
+use desk_base::{BLANK, Draft, NOTHING, Outcome, Stop};
+use host_base::{GrainId, SessionId};
 use least_access::Solved;
-use share_graph::{
-    Caller, DeskFault, Event, Kind, Made, Outcome, Readiness, Refusal, Session, State, clash,
-    session as find_session,
-};
+use share_graph::{Caller, Event, Kind, Made, Refusal, Session, State, session as find_session};
 
 // The checks of `open_session`: who is to act in it.
 fn check_open_session(
@@ -32,33 +29,15 @@ fn check_open_session(
     requires formed { IsWellFormed state.now }
     requires solution { IsSolutionOf state.now.tables solved.now }
     requires named { NamesGrain caller.now num }
-    ensures { Checks (OpenSession state.now caller.now num tab) (λ actor. open_step state.now actor tab) result }
+    ensures { Checks (OpenSession state.now caller.now num tab)
+        (λ actor. open_step state.now actor tab) result }
 {
     let actor = actor_of(state, solved, caller, num)?;
     has_session_room(state, actor.root)?;
     Ok(actor)
 }
 
-/// Whether a session that is to be opened gets as far as drawing its key. It takes no memory.
-pub fn open_session_ready(
-    state: &State,
-    solved: &Solved,
-    caller: &Caller,
-    num: Option<GrainId>,
-    tab: Option<u64>,
-) -> Result<Readiness, DeskFault>
-    requires formed { IsWellFormed state.now }
-    requires solution { IsSolutionOf state.now.tables solved.now }
-    requires named { NamesGrain caller.now num }
-    ensures { IsReady (OpenSession state.now caller.now num tab) result }
-{
-    match check_open_session(state, solved, caller, num, tab) {
-        Ok(_) => Ok(Readiness::Draw),
-        Err(stop) => stop.readiness(),
-    }
-}
-
-/// Opens a session, whose key has the digest: on the grain that a login names and has access to, or on that of a bearer's
+/// Opens a session, whose key is drawn: on the grain that a login names and has access to, or on that of a bearer's
 /// grant. Its tab is the named one, else its own number. The reply shows its number.
 pub fn open_session(
     state: &State,
@@ -66,27 +45,20 @@ pub fn open_session(
     caller: &Caller,
     num: Option<GrainId>,
     tab: Option<u64>,
-    digest: Digest,
-) -> Result<Outcome, DeskFault>
+) -> Result<Outcome, Stop>
     requires formed { IsWellFormed state.now }
     requires few { length state.now.sessions < 2 ^ 32 - 1 }
     requires solution { IsSolutionOf state.now.tables solved.now }
     requires named { NamesGrain caller.now num }
-    ensures row { IsCarriedAt state.now digest (OpenSession state.now caller.now num tab) result }
+    ensures row { IsCarriedExactly (OpenSession state.now caller.now num tab) result }
     ensures one { IsOne (OpenSession state.now caller.now num tab) }
-    ensures fits { RowFits state.now (OpenSession state.now caller.now num tab) }
+    ensures fits { RowFits state.now true (OpenSession state.now caller.now num tab) }
 {
-    let actor = match check_open_session(state, solved, caller, num, tab) {
-        Ok(actor) => actor,
-        Err(stop) => return stop.outcome(),
-    };
-    if let Some((kind, row)) = clash(state, &digest) {
-        return Err(DeskFault::Refused(Refusal::TokenClash(kind, row)));
-    }
+    let actor = check_open_session(state, solved, caller, num, tab)?;
     let next = state.sessions.as_slice().len() as u32 + 1;
     let session = Session {
         num: SessionId(next),
-        digest,
+        digest: BLANK,
         grain: actor.grain,
         root: actor.root,
         tab: tab.unwrap_or(u64::from(next)),
@@ -96,12 +68,14 @@ pub fn open_session(
         session: Some(next),
         ..NOTHING
     };
-    Ok(Outcome::Change(Event::SessionOpened(session), made))
+    let event = Event::SessionOpened(session);
+    Ok(Outcome::Draft(Draft { event, made }))
 }
 
 // The session of a number.
 fn known_session(state: &State, num: SessionId) -> Result<&Session, Refusal>
-    ensures { MatchResult result (λ row. IsSession state.now num row.now) (none (IsSession state.now num) (refusal.Unknown kind.Session num.0)) }
+    ensures { MatchResult result (λ row. IsSession state.now num row.now)
+        (none (IsSession state.now num) (refusal.Unknown kind.Session num.0)) }
 {
     find_session(state, num).ok_or(Refusal::Unknown(Kind::Session, num.0))
 }
@@ -130,20 +104,19 @@ fn check_close_session(
 
 /// Closes a session, which whoever it acts as may: the account of a login, or the bearer of a grant. Where it is closed
 /// nothing is to be done.
+#[tactic(auto, using(crate::proofs::OneRows::close_session_one, crate::proofs::FitRows::close_session_fits))]
 pub fn close_session(
     state: &State,
     solved: &Solved,
     caller: &Caller,
     num: SessionId,
-) -> Result<Outcome, DeskFault>
+) -> Result<Outcome, Stop>
     requires formed { IsWellFormed state.now }
     requires solution { IsSolutionOf state.now.tables solved.now }
-    ensures row { IsCarried (CloseSession state.now caller.now num) result }
+    ensures row { IsCarriedExactly (CloseSession state.now caller.now num) result }
     ensures one { IsOne (CloseSession state.now caller.now num) }
-    ensures fits { RowFits state.now (CloseSession state.now caller.now num) }
+    ensures fits { RowFits state.now false (CloseSession state.now caller.now num) }
 {
-    match check_close_session(state, solved, caller, num) {
-        Ok(()) => Ok(Outcome::Change(Event::SessionClosed(num), NOTHING)),
-        Err(stop) => stop.outcome(),
-    }
+    check_close_session(state, solved, caller, num)?;
+    Ok(Outcome::Change(Event::SessionClosed(num), NOTHING))
 }

@@ -35,7 +35,7 @@ use Rattle.share_graph.proofs.MissingOne.{entry_one}
 use Rattle.share_graph.proofs.OneAnswer.{answers_one, when_one, unless_one, some_of_one}
 use Rattle.share_graph.proofs.WaysOne.{origin_one, shown_one}
 use Rattle.session_table.specs.Standing.{Standing, behind_grant, IsShownBy, IsShownFor}
-use Rattle.session_table.specs.Verdict.{names_at, IsPermit, Goes, Stands, EndsAt, Reaches, IsVerdict}
+use Rattle.session_table.specs.Verdict.{names_at, IsPermit, Goes, Stands, VerdictAtEnd, Reaches, IsVerdict}
 use Rattle.session_table.proofs.Ascending.{same_ascending}
 
 -- a grain has one live run
@@ -126,7 +126,7 @@ goes_one s standing run = record { one = λ v w x y. x.1 ∙ ap (λ (p : Permit)
 stands_one : (s : State) → IsWellFormed s → (standing : Standing) → IsOne (Stands s standing)
 stands_one s formed standing = entry_one verdict.Deny s.tables _ (some_of_one (live_one s formed standing.grain) (λ run. goes_one s standing run))
 
-end_one : (s : State) → IsWellFormed s → (g : GrantId) (grant : Grant) (end : Origin) → IsOne (EndsAt s g grant end)
+end_one : (s : State) → IsWellFormed s → (g : GrantId) (grant : Grant) (end : Origin) → IsOne (VerdictAtEnd s g grant end)
 end_one s formed g grant (origin.Account a) = stands_one s formed (behind_grant g grant)
 end_one s formed g grant (origin.Site by tag item) = entry_one verdict.Deny s.tables _ (answers_one (verdict.Site tag item))
 
@@ -136,7 +136,7 @@ reaches_one s formed g = record {
       (let rows : grant ≡ other = (let both : Some grant ≡ Some other = sym is ∙ there in cc) in
       let ends : end ≡ last = (origin_one s.tables g).one end last on along in
       (end_one s formed g grant end).one v w x
-      (subst (λ (e : Origin). EndsAt s g grant e w) (sym ends) (subst (λ (row : Grant). EndsAt s g row last w) (sym rows) y)));
+      (subst (λ (e : Origin). VerdictAtEnd s g grant e w) (sym ends) (subst (λ (row : Grant). VerdictAtEnd s g row last w) (sym rows) y)));
 }
 
 -- ONE VERDICT on each key, in a well-formed state.

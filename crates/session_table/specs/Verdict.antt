@@ -57,13 +57,13 @@ Stands s standing =
 
 -- The verdict on a grant of which the way ends there: as above at an account; at the site, the first step that is missing, else the
 -- item of the site.
-abbrev pub EndsAt : State → GrantId → Grant → Origin → Verdict → Type 0
-EndsAt s g grant (origin.Account a) = Stands s (behind_grant g grant)
-EndsAt s g grant (origin.Site by tag item) = entry verdict.Deny s.tables (node.Grant g) (answers (verdict.Site tag item))
+abbrev pub VerdictAtEnd : State → GrantId → Grant → Origin → Verdict → Type 0
+VerdictAtEnd s g grant (origin.Account a) = Stands s (behind_grant g grant)
+VerdictAtEnd s g grant (origin.Site by tag item) = entry verdict.Deny s.tables (node.Grant g) (answers (verdict.Site tag item))
 
 -- the verdict on the grant of a good handle
 abbrev pub Reaches : State → GrantId → Verdict → Type 0
-Reaches s g v = (grant : Grant) × (end : Origin) × IsGrant s.tables g grant × IsOrigin s.tables g end × EndsAt s g grant end v
+Reaches s g v = (grant : Grant) × (end : Origin) × IsGrant s.tables g grant × IsOrigin s.tables g end × VerdictAtEnd s g grant end v
 
 -- THE VERDICT on a key of a session, a bearer's token, or a handle of a run
 abbrev pub IsVerdict : State → Key → Verdict → Type 0

@@ -1,5 +1,5 @@
 -- The changes of each command fit.
-use Rattle.std.proofs.Common.{◌≡◌, ◌<◌, ℕ, Bool, All, Contains, List, [], Option, Some, None, length, refl, sym, ◌∙◌, arith, inl, inr}
+use Rattle.std.proofs.Common.{◌≡◌, ◌<◌, ℕ, Bool, true, false, All, Contains, List, [], Option, Some, None, length, refl, sym, ◌∙◌, arith}
 use Rattle.std.specs.Int.{bit_at}
 use Rattle.std.proofs.lemmas.Nat.Bits.{bit_at-zero}
 use Rattle.host_base.specs.declared.digest.Digest.{Digest}
@@ -9,9 +9,7 @@ use Rattle.host_base.specs.declared.ids.GrantId.{GrantId}
 use Rattle.perm_roles.specs.PermSet.{Has, IsWithin, no_permissions}
 use Rattle.perm_roles.specs.declared.roles.Assignment.{Assignment}
 use Rattle.share_graph.specs.declared.desk.Caller.{Caller}
-use Rattle.share_graph.specs.declared.desk.Made.{Made}
 use Rattle.share_graph.specs.declared.event.Event.TheVariants.{GrantAdded, GrantRevoked}
-use Rattle.share_graph.specs.declared.facts.Node.{Node}
 use Rattle.share_graph.specs.declared.fault.Kind.TheVariants as kind
 use Rattle.share_graph.specs.declared.grants.Giver.{Giver}
 use Rattle.share_graph.specs.declared.grants.Giver.TheVariants as giver
@@ -19,11 +17,10 @@ use Rattle.share_graph.specs.declared.grants.Grant.{Grant}
 use Rattle.share_graph.specs.declared.grants.Need.{Need}
 use Rattle.share_graph.specs.declared.grants.Target.{Target}
 use Rattle.share_graph.specs.declared.grants.Target.TheVariants as target
-use Rattle.share_graph.specs.declared.refusal.Refusal.TheVariants.{Denied}
 use Rattle.share_graph.specs.declared.rows.Account.{Account}
 use Rattle.share_graph.specs.declared.state.State.{State}
 use Rattle.share_graph.specs.Fitting.{NeedSetFits, TokenFits}
-use Rattle.share_graph.specs.Keys.{IsOneOf, IsBearer, IsBearerOf}
+use Rattle.share_graph.specs.Keys.{IsBearer}
 use Rattle.share_graph.specs.Known.{HasAccount, HasGrain, KnowsNeed, KnowsGiver, KnowsTarget}
 use Rattle.share_graph.specs.Parents.{NeedFits, GiverFits, PassesTo, IsUnclaimed}
 use Rattle.share_graph.specs.Rows.{IsGrant}
@@ -32,43 +29,17 @@ use Rattle.share_graph.proofs.Coherence.{coherent}
 use Rattle.share_graph.proofs.Contained.{listed_row}
 use Rattle.state_step.specs.NewRows.{IsUnusedBy, IsNewGrant}
 use Rattle.state_step.proofs.GrantLaws.{grant_added_fits, grant_revoked_fits}
-use Rattle.desk_base.specs.Fitting.{ChangeFits, RowFits}
-use Rattle.desk_base.specs.Made.{nothing_made}
-use Rattle.desk_base.specs.Steps.{Step, Refuses, Keeps, Makes, Change, Plain, Drawn}
-use Rattle.desk_base.specs.Wording.{secret_of}
-use Rattle.desk_base.proofs.FitForms.{when_fits, unless_fits, must_fits, found_fits, some_fits, adds_fits}
+use Rattle.desk_base.specs.Fitting.{RowFits}
+use Rattle.desk_base.specs.Made.{nothing_made, made_grant}
+use Rattle.desk_base.specs.Steps.{Plain, Drawn}
+use Rattle.desk_base.specs.Needs.{AreGood}
+use Rattle.desk_base.specs.Roles.{MayGiveOn}
+use Rattle.desk_base.specs.Granting.{new_grant, all_access}
+use Rattle.desk_base.proofs.FitForms.{when_fits, unless_fits, must_fits, found_fits, some_fits, adds_fits, access_fits, keeps_fits, bearer_fits}
 use Rattle.desk_base.proofs.Room.{room_of}
-use Rattle.session_desk.specs.Calling.{by_bearer}
+use Rattle.desk_base.proofs.GivenRoles.{assignment_for}
+use Rattle.desk_base.proofs.GoodNeeds.{known_needs, fitting_needs, fitting_sets, few_needs}
 use Rattle.share_desk.specs.Commands.{Share, MakeToken, ChildOf, Child, Redeem, Revoke}
-use Rattle.share_desk.specs.Needs.{AreGood}
-use Rattle.share_desk.specs.Roles.{MayGiveOn}
-use Rattle.share_desk.specs.Rows.{new_grant, made_grant, all_access}
-use Rattle.share_desk.specs.Wording.{access◌of◌then◌, keeps◌of◌showing◌else◌}
-use Rattle.share_desk.proofs.GivenRoles.{assignment_for}
-use Rattle.share_desk.proofs.GoodNeeds.{known_needs, fitting_needs, fitting_sets, few_needs}
-
-module _ (s : State) where
-  -- a change that comes after the test of entry
-  access_cases : (at : Node) (Rest : Step → Type 0) → RowFits s Rest → (change : Change) (made : Made) → (access at of s then Rest) (Makes change made) → ChangeFits s change
-  access_cases at Rest rest change made (inl (reason, same, missing)) = let odd : Makes change made ≡ Refuses (Denied reason) = same in cc
-  access_cases at Rest rest change made (inr (held, is)) = rest.fits change made is
-
-  access_fits : {at : Node} {Rest : Step → Type 0} → RowFits s Rest → RowFits s (access at of s then Rest)
-  access_fits {at} {Rest} rest = record { fits = access_cases at Rest rest }
-
-  -- a change that comes where no row of a list is so
-  keeps_cases : {X : Type 0} (P : X → Type 0) (rows : List X) (shown : X → Made) (Rest : Step → Type 0) → RowFits s Rest → (change : Change) (made : Made)
-      → (keeps P of rows showing shown else Rest) (Makes change made) → ChangeFits s change
-  keeps_cases P rows shown Rest rest change made (inl (x, same, first)) = let odd : Makes change made ≡ Keeps (shown x) = same in cc
-  keeps_cases P rows shown Rest rest change made (inr (none, is)) = rest.fits change made is
-
-  keeps_fits : {X : Type 0} {P : X → Type 0} {rows : List X} {shown : X → Made} {Rest : Step → Type 0} → RowFits s Rest → RowFits s (keeps P of rows showing shown else Rest)
-  keeps_fits {X} {P} {rows} {shown} {Rest} rest = record { fits = keeps_cases P rows shown Rest rest }
-
-  bearer_fits : (who : Caller) {Rest : Grant → Step → Type 0} → ((grant : Grant) → IsOneOf s.tables.grants (IsBearerOf (secret_of who)) grant → RowFits s (Rest grant)) → RowFits s (by_bearer s who Rest)
-  bearer_fits who rest =
-      some_fits s tt λ grant is.
-      access_fits (rest grant is)
 
 -- whoever gives may give so on the grain, which is there
 record MayGiveTo (s : State) (n : GrainId) (from : Giver) (to : Target) (digest : Option Digest) : Type 0 where
@@ -133,7 +104,7 @@ redeemed_is_new s formed link there bearer a account room =
     }
 
 -- the commands
-pub share_fits : (s : State) → IsWellFormed s → (who : Caller) (n : GrainId) (to : AccountId) (assignment : Assignment) (wanted : List Need) → RowFits s (Share s who n to assignment wanted)
+pub share_fits : (s : State) → IsWellFormed s → (who : Caller) (n : GrainId) (to : AccountId) (assignment : Assignment) (wanted : List Need) → RowFits s false (Share s who n to assignment wanted)
 share_fits s formed who n to assignment wanted =
     some_fits s tt λ from is.
     unless_fits s tt λ enabled.
@@ -150,7 +121,7 @@ share_fits s formed who n to assignment wanted =
     assignment wanted may good (room_of kind.Grant 65536 _ room)))
 
 pub make_token_fits : (s : State) → IsWellFormed s → (who : Caller) (n : GrainId) (for_sharing : Bool) (assignment : Assignment) (wanted : List Need)
-    → RowFits s (MakeToken s who n for_sharing assignment wanted)
+    → RowFits s true (MakeToken s who n for_sharing assignment wanted)
 make_token_fits s formed who n for_sharing assignment wanted =
     some_fits s tt λ from is.
     unless_fits s tt λ enabled.
@@ -165,7 +136,7 @@ make_token_fits s formed who n for_sharing assignment wanted =
     assignment wanted may good (room_of kind.Grant 65536 _ room)))
 
 child_of_fits : (s : State) → IsWellFormed s → (for_sharing : Bool) (assignment : Assignment) (wanted : List Need) (from : Grant) → IsGrant s.tables from.num from → IsBearer from.target
-    → RowFits s (ChildOf s for_sharing assignment wanted from)
+    → RowFits s true (ChildOf s for_sharing assignment wanted from)
 child_of_fits s formed for_sharing assignment wanted from there bearer =
     must_fits s λ may.
     must_fits s λ good.
@@ -182,12 +153,12 @@ child_of_fits s formed for_sharing assignment wanted from there bearer =
     })
     assignment wanted may good (room_of kind.Grant 65536 _ room))
 
-pub child_fits : (s : State) → IsWellFormed s → (who : Caller) (for_sharing : Bool) (assignment : Assignment) (wanted : List Need) → RowFits s (Child s who for_sharing assignment wanted)
+pub child_fits : (s : State) → IsWellFormed s → (who : Caller) (for_sharing : Bool) (assignment : Assignment) (wanted : List Need) → RowFits s true (Child s who for_sharing assignment wanted)
 child_fits s formed who for_sharing assignment wanted =
     bearer_fits s who {Rest = ChildOf s for_sharing assignment wanted} λ from is.
     child_of_fits s formed for_sharing assignment wanted from (listed_grant s formed from is.listed) is.is.bearer
 
-pub redeem_fits : (s : State) → IsWellFormed s → (who : Caller) (token : Digest) → RowFits s (Redeem s who token)
+pub redeem_fits : (s : State) → IsWellFormed s → (who : Caller) (token : Digest) → RowFits s false (Redeem s who token)
 redeem_fits s formed who token =
     some_fits s tt λ account is.
     unless_fits s tt λ enabled.
@@ -199,7 +170,7 @@ redeem_fits s formed who token =
     grant_added_fits s formed (new_grant s.tables link.grain (giver.Grant link.num) (target.User account.num) all_access [] None)
     (redeemed_is_new s formed link (listed_grant s formed link one.listed) one.is.bearer account.num (listed_account s formed account is.listed) (room_of kind.Grant 65536 _ room))))
 
-pub revoke_fits : (s : State) → IsWellFormed s → (who : Caller) (g : GrantId) → RowFits s (Revoke s who g)
+pub revoke_fits : (s : State) → IsWellFormed s → (who : Caller) (g : GrantId) → RowFits s false (Revoke s who g)
 revoke_fits s formed who g =
     some_fits s tt λ account is.
     unless_fits s tt λ enabled.

@@ -1,5 +1,5 @@
 -- Each command makes one step at the most.
-use Rattle.std.proofs.Common.{◌≡◌, ◌∙◌, Bool, List, Option, Some, sym}
+use Rattle.std.proofs.Common.{Bool, List}
 use Rattle.host_base.specs.declared.digest.Digest.{Digest}
 use Rattle.host_base.specs.declared.ids.AccountId.{AccountId}
 use Rattle.host_base.specs.declared.ids.GrainId.{GrainId}
@@ -14,22 +14,13 @@ use Rattle.share_graph.specs.Forms.{IsOne}
 use Rattle.share_graph.specs.WellFormed.{IsWellFormed}
 use Rattle.share_graph.proofs.Apart.{bearer_one}
 use Rattle.share_graph.proofs.MissingOne.{entry_one}
-use Rattle.share_graph.proofs.OneAnswer.{when_one, unless_one, some_of_one, found_or_none_one}
-use Rattle.desk_base.specs.Steps.{Step, denies}
-use Rattle.desk_base.proofs.OneWord.{by_account_one, known_account_one, known_grain_one, adds_one}
-use Rattle.session_desk.proofs.OneRows.{by_bearer_one}
-use Rattle.share_desk.specs.Commands.{Share, share_step, MakeToken, token_step, ChildOf, Child, child_step, Redeem, redeem_step, Revoke, revoke_step}
-use Rattle.share_desk.specs.Wording.{known_grant}
-use Rattle.share_desk.proofs.FirstRow.{keeps_one}
-use Rattle.share_desk.proofs.GoodNeeds.{needs_one}
-use Rattle.share_desk.proofs.GivenRoles.{role_one}
-
--- a grant of a number is one
-grant_one : (o : Option Grant) → IsOne (λ (x : Grant). o ≡ Some x)
-grant_one o = record { one = λ a b x y. (let same : Some a ≡ Some b = sym x ∙ y in cc) }
-
-known_grant_one : (s : State) (g : GrantId) {Rest : Grant → Step → Type 0} → ((grant : Grant) → IsOne (Rest grant)) → IsOne (known_grant s g Rest)
-known_grant_one s g rest = found_or_none_one (grant_one _) rest
+use Rattle.share_graph.proofs.OneAnswer.{when_one, unless_one, some_of_one}
+use Rattle.desk_base.specs.Steps.{denies}
+use Rattle.desk_base.proofs.OneWord.{by_account_one, by_bearer_one, known_account_one, known_grain_one, known_grant_one, adds_one}
+use Rattle.desk_base.proofs.FirstRow.{keeps_one}
+use Rattle.desk_base.proofs.GoodNeeds.{needs_one}
+use Rattle.desk_base.proofs.GivenRoles.{role_one}
+use Rattle.share_desk.specs.Commands.{Share, share_step, MakeToken, make_step, ChildOf, Child, child_step, Redeem, redeem_step, Revoke, revoke_step}
 
 -- the commands
 pub share_one : (s : State) → IsWellFormed s → (who : Caller) (n : GrainId) (to : AccountId) (assignment : Assignment) (wanted : List Need) → IsOne (Share s who n to assignment wanted)
@@ -51,7 +42,7 @@ make_token_one s formed who n for_sharing assignment wanted =
     entry_one denies s.tables (node.User n from.num) (
     role_one s n assignment (
     needs_one s wanted (
-    adds_one s (token_step s.tables n for_sharing assignment wanted from.num))))
+    adds_one s (make_step s.tables n for_sharing assignment wanted from.num))))
 
 child_of_one : (s : State) (for_sharing : Bool) (assignment : Assignment) (wanted : List Need) (from : Grant) → IsOne (ChildOf s for_sharing assignment wanted from)
 child_of_one s for_sharing assignment wanted from =

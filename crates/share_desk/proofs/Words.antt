@@ -1,5 +1,5 @@
 -- From what a test tells into the row that begins with its word, and from its refusals.
-use Rattle.std.proofs.Common.{◌≡◌, ◌∙◌, ◌↔◌, Bool, IsTrue, Some, sym, ap, subst, inl, inr}
+use Rattle.std.proofs.Common.{◌≡◌, ◌↔◌, Bool, IsTrue, ap, subst, inl, inr}
 use Rattle.host_base.specs.declared.ids.AccountId.{AccountId}
 use Rattle.host_base.specs.declared.ids.GrantId.{GrantId}
 use Rattle.share_graph.specs.declared.desk.Caller.{Caller}
@@ -13,17 +13,14 @@ use Rattle.share_graph.specs.Callers.{LacksEntry}
 use Rattle.share_graph.specs.Forms.{IsOne}
 use Rattle.share_graph.specs.Keys.{IsOneOf, IsBearerOf}
 use Rattle.share_graph.specs.Known.{HasGrain}
-use Rattle.share_graph.specs.Rows.{IsGrant}
 use Rattle.share_graph.specs.Ways.{IsRootMaker}
 use Rattle.share_graph.specs.WellFormed.{IsWellFormed}
 use Rattle.share_graph.proofs.Coherence.{coherent}
 use Rattle.share_graph.proofs.Contained.{listed_row}
 use Rattle.desk_base.specs.Made.{nothing_made}
 use Rattle.desk_base.specs.Steps.{Step, Refuses, Keeps}
-use Rattle.desk_base.specs.Wording.{secret_of}
-use Rattle.session_desk.specs.Calling.{by_bearer}
-use Rattle.session_desk.specs.Passing.{Passes}
-use Rattle.share_desk.specs.Wording.{access◌of◌then◌}
+use Rattle.desk_base.specs.Wording.{secret_of, by_bearer, access◌of◌then◌}
+use Rattle.desk_base.specs.Passing.{Passes}
 
 -- where a step is missing for entry, the row refuses
 pub access_fails : (s : State) (at : Node) (Rest : Step → Type 0) (r : Refusal) → LacksEntry Denied s.tables at r → (access at of s then Rest) (Refuses r)
@@ -44,10 +41,3 @@ caller_grain s formed who grant passes =
 -- the account that gave first on a grant's way is one
 pub maker_by : (t : Tables) (g : GrantId) (made a : AccountId) (test : Bool) → IsRootMaker t g made → IsOne (IsRootMaker t g) → IsTrue test ↔ (made ≡ a) → IsTrue test ↔ IsRootMaker t g a
 maker_by t g made a test is one tells = (λ yes. subst (λ (x : AccountId). IsRootMaker t g x) (tells.0 yes) is, λ other. tells.1 (one.one made a is other))
-
--- what a test tells of a grant's row it tells of the grant
-pub for_grant : (t : Tables) (g : GrantId) (P : Grant → Type 0) (row : Grant) (test : Bool) → IsGrant t g row → IsTrue test ↔ P row → IsTrue test ↔ ((grant : Grant) × IsGrant t g grant × P grant)
-for_grant t g P row test is tells = (
-  λ yes. (row, is, tells.0 yes),
-  λ f. (let both : Some f.0 ≡ Some row = sym f.1 ∙ is in let same : f.0 ≡ row = cc in tells.1 (subst P same f.2)),
-)

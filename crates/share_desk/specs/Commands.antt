@@ -1,5 +1,5 @@
 -- THE COMMANDS on shares, links and tokens. Each definition reads like its row of the table of commands.
-use Rattle.std.specs.Prelude.{◌≡◌, Bool, List, [], Some, None, true}
+use Rattle.std.specs.Prelude.{◌≡◌, Bool, List, [], true}
 use Rattle.host_base.specs.declared.digest.Digest.{Digest}
 use Rattle.host_base.specs.declared.ids.AccountId.{AccountId}
 use Rattle.host_base.specs.declared.ids.GrainId.{GrainId}
@@ -7,7 +7,7 @@ use Rattle.host_base.specs.declared.ids.GrantId.{GrantId}
 use Rattle.host_base.specs.declared.verdict.Denial.TheVariants.{UnknownKey}
 use Rattle.perm_roles.specs.declared.roles.Assignment.{Assignment}
 use Rattle.share_graph.specs.declared.desk.Caller.{Caller}
-use Rattle.share_graph.specs.declared.event.Event.TheVariants.{GrantAdded, GrantRevoked}
+use Rattle.share_graph.specs.declared.event.Event.TheVariants.{GrantRevoked}
 use Rattle.share_graph.specs.declared.facts.Node.TheVariants as node
 use Rattle.share_graph.specs.declared.grants.Giver.TheVariants as giver
 use Rattle.share_graph.specs.declared.grants.Grant.{Grant}
@@ -18,28 +18,25 @@ use Rattle.share_graph.specs.declared.state.State.{State}
 use Rattle.share_graph.specs.declared.state.Tables.{Tables}
 use Rattle.share_graph.specs.Forms.{when◌then◌else◌, unless◌then◌else◌, some◌of◌or◌then◌}
 use Rattle.share_graph.specs.Keys.{IsBearerOf, IsShareFrom}
+use Rattle.desk_base.specs.Granting.{all_access, grant_step, token_step}
 use Rattle.desk_base.specs.Limits.{adds}
-use Rattle.desk_base.specs.Made.{nothing_made}
-use Rattle.desk_base.specs.Steps.{Step, Refuses, Keeps, Makes, Plain, Drawn, denies}
-use Rattle.desk_base.specs.Wording.{by_account, known_account, known_grain}
-use Rattle.session_desk.specs.Calling.{by_bearer}
-use Rattle.share_desk.specs.Rows.{new_grant, made_grant, shown_grant, all_access, MayRevoke}
-use Rattle.share_desk.specs.Wording.{known_grant, access◌of◌then◌, role◌on◌of◌then◌, needs◌of◌then◌, keeps◌of◌showing◌else◌}
+use Rattle.desk_base.specs.Made.{nothing_made, shown_grant}
+use Rattle.desk_base.specs.Steps.{Step, Refuses, Keeps, Makes, Plain, denies}
+use Rattle.desk_base.specs.Wording.{by_account, known_account, known_grain, by_bearer, known_grant, access◌of◌then◌, role◌on◌of◌then◌, needs◌of◌then◌, keeps◌of◌showing◌else◌}
+use Rattle.share_desk.specs.Rows.{MayRevoke}
 
 -- what is added, and what the reply shows
 abbrev pub share_step : Tables → GrainId → AccountId → Assignment → List Need → AccountId → Step
-share_step t n to assignment wanted from = Makes (Plain (GrantAdded (new_grant t n (giver.Account from) (target.User to) assignment wanted None))) (made_grant t)
+share_step t n to assignment wanted from = grant_step t n (giver.Account from) (target.User to) assignment wanted
 
-abbrev pub token_step : Tables → GrainId → Bool → Assignment → List Need → AccountId → Step
-token_step t n for_sharing assignment wanted from =
-    Makes (Drawn λ d. GrantAdded (new_grant t n (giver.Account from) (target.Bearer for_sharing) assignment wanted (Some d))) (made_grant t)
+abbrev pub make_step : Tables → GrainId → Bool → Assignment → List Need → AccountId → Step
+make_step t n for_sharing assignment wanted from = token_step t n (giver.Account from) (target.Bearer for_sharing) assignment wanted
 
 abbrev pub child_step : Tables → GrainId → Bool → Assignment → List Need → GrantId → Step
-child_step t n for_sharing assignment wanted from =
-    Makes (Drawn λ d. GrantAdded (new_grant t n (giver.Grant from) (target.Bearer for_sharing) assignment wanted (Some d))) (made_grant t)
+child_step t n for_sharing assignment wanted from = token_step t n (giver.Grant from) (target.Bearer for_sharing) assignment wanted
 
 abbrev pub redeem_step : Tables → GrainId → GrantId → AccountId → Step
-redeem_step t n from to = Makes (Plain (GrantAdded (new_grant t n (giver.Grant from) (target.User to) all_access [] None))) (made_grant t)
+redeem_step t n from to = grant_step t n (giver.Grant from) (target.User to) all_access []
 
 abbrev pub revoke_step : GrantId → Step
 revoke_step g = Makes (Plain (GrantRevoked g)) nothing_made
@@ -64,7 +61,7 @@ MakeToken s who n for_sharing assignment wanted =
     access (node.User n from.num) of s then
     role assignment on n of s then
     needs wanted of s then
-    adds s (token_step s.tables n for_sharing assignment wanted from.num)
+    adds s (make_step s.tables n for_sharing assignment wanted from.num)
 
 -- what a bearer's grant gives a child
 abbrev pub ChildOf : State → Bool → Assignment → List Need → Grant → Step → Type 0

@@ -1,33 +1,22 @@
 //! Revocation of grants.
 
-ghost use Rattle.std.specs.Prelude.{◌≡◌, ◌↔◌, IsTrue, MatchResult};
-ghost use Rattle.share_graph.specs.declared.fault.Kind.TheVariants as kind;
-ghost use Rattle.share_graph.specs.declared.refusal.Refusal.TheVariants as refusal;
+ghost use Rattle.std.specs.Prelude.{◌↔◌, IsTrue, false};
 ghost use Rattle.share_graph.specs.Checked.{IsChecked};
-ghost use Rattle.share_graph.specs.Forms.{IsOne, none};
+ghost use Rattle.share_graph.specs.Forms.{IsOne};
 ghost use Rattle.share_graph.specs.Known.{HasGrant};
 ghost use Rattle.share_graph.specs.Rows.{IsGrant};
 ghost use Rattle.share_graph.specs.Ways.{IsRootMaker};
 ghost use Rattle.share_graph.specs.WellFormed.{IsWellFormed};
 ghost use Rattle.desk_base.specs.Fitting.{RowFits};
-ghost use Rattle.desk_base.specs.Outcomes.{Checks, IsCarried};
+ghost use Rattle.desk_base.specs.Outcomes.{Checks, IsCarriedExactly};
 ghost use Rattle.share_desk.specs.Commands.{Revoke, revoke_step};
 ghost use Rattle.share_desk.specs.Rows.{IsOwnerOf, MayRevoke};
 
-use desk_base::{NOTHING, Stop, caller_account};
+use desk_base::{NOTHING, Outcome, Stop, caller_account, known_grant};
 use host_base::{AccountId, GrainId, GrantId};
-use least_access::Solved;
 use share_graph::{
-    Caller, DeskFault, Event, Grant, Kind, Outcome, Refusal, State, Tables, Target,
-    grain as find_grain, grant as find_grant, root_maker,
+    Caller, Event, Grant, Refusal, State, Tables, Target, grain as find_grain, root_maker,
 };
-
-// The grant of a number.
-fn known_grant(tables: &Tables, num: GrantId) -> Result<&Grant, Refusal>
-    ensures { MatchResult result (λ row. IsGrant tables.now num row.now) (none (IsGrant tables.now num) (refusal.Unknown kind.Grant num.0)) }
-{
-    find_grant(tables, num).ok_or(Refusal::Unknown(Kind::Grant, num.0))
-}
 
 // Whether an account owns a grain.
 fn is_owner_of(tables: &Tables, num: GrainId, account: AccountId) -> bool
@@ -77,20 +66,13 @@ fn check_revoke(state: &State, caller: &Caller, num: GrantId) -> Result<(), Stop
 
 /// Revokes a grant, which the owner of its grain, its root maker and its recipient may. Where it is revoked nothing is to be
 /// done.
-pub fn revoke(
-    state: &State,
-    solved: &Solved,
-    caller: &Caller,
-    num: GrantId,
-) -> Result<Outcome, DeskFault>
+#[tactic(auto, using(crate::proofs::OneRows::revoke_one, crate::proofs::FitRows::revoke_fits))]
+pub fn revoke(state: &State, caller: &Caller, num: GrantId) -> Result<Outcome, Stop>
     requires { IsWellFormed state.now }
-    ensures row { IsCarried (Revoke state.now caller.now num) result }
+    ensures row { IsCarriedExactly (Revoke state.now caller.now num) result }
     ensures one { IsOne (Revoke state.now caller.now num) }
-    ensures fits { RowFits state.now (Revoke state.now caller.now num) }
+    ensures fits { RowFits state.now false (Revoke state.now caller.now num) }
 {
-    let _ = solved;
-    match check_revoke(state, caller, num) {
-        Ok(()) => Ok(Outcome::Change(Event::GrantRevoked(num), NOTHING)),
-        Err(stop) => stop.outcome(),
-    }
+    check_revoke(state, caller, num)?;
+    Ok(Outcome::Change(Event::GrantRevoked(num), NOTHING))
 }

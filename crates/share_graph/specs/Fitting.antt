@@ -7,7 +7,7 @@ use Rattle.app_manifest.specs.declared.manifest.Manifest.{Manifest}
 use Rattle.perm_roles.specs.declared.perm_set.PermSet.{PermSet}
 use Rattle.perm_roles.specs.declared.roles.Assignment.{Assignment}
 use Rattle.perm_roles.specs.PermSet.{IsWithin}
-use Rattle.perm_roles.specs.Roles.{IsListed}
+use Rattle.perm_roles.specs.Roles.{IsInRoles}
 use Rattle.share_graph.specs.declared.facts.Node.{Node}
 use Rattle.share_graph.specs.declared.facts.Node.TheVariants as node
 use Rattle.share_graph.specs.declared.grants.Grant.{Grant}
@@ -43,7 +43,7 @@ SetFits t n set = ForApp t n (λ app. IsWithin set (length app.manifest.permissi
 pub record IsAssignmentFor (m : Manifest) (a : Assignment) : Type 0 where
   pub add : IsWithin a.add (length m.permissions)
   pub remove : IsWithin a.remove (length m.permissions)
-  pub listed : IsListed m.roles a.base
+  pub listed : IsInRoles m.roles a.base
 
 -- the grant's assignment fits the application of its grain
 abbrev pub AssignmentFits : Tables → Grant → Type 0

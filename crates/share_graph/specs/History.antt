@@ -74,3 +74,18 @@ after s (event.HandleMade handle) = record s { handles = s.handles ++ handle ∷
 abbrev pub replay : State → List Event → State
 replay s [] = s
 replay s (event ∷ events) = replay (after s event) events
+
+-- the event starts a run or stops one: then it is the spawner's to do
+abbrev pub IsOfRuns : Event → Type 0
+IsOfRuns (event.RunStarted run) = Unit {0}
+IsOfRuns (event.RunStopped r) = Unit {0}
+IsOfRuns _ = ⊥
+
+-- the event adds or changes a row of the tables: then it is the keeper's to store
+abbrev pub IsOfTables : Event → Type 0
+IsOfTables (event.RunStarted run) = ⊥
+IsOfTables (event.RunStopped r) = ⊥
+IsOfTables (event.SessionOpened session) = ⊥
+IsOfTables (event.SessionClosed n) = ⊥
+IsOfTables (event.HandleMade handle) = ⊥
+IsOfTables _ = Unit {0}

@@ -44,4 +44,4 @@ MayReceive t (target.Grain h) = Unit {0}
 -- the grant lets the fact through: entry always, a permission where its assignment gives it by the grain's application
 abbrev pub Gives : Tables → Grant → Fact → Type 0
 Gives t grant Open = Unit {0}
-Gives t grant (Perm p) = (app : App) × IsAppOf t grant.grain app × roles.Gives app.manifest.roles (length app.manifest.permissions) grant.assignment p
+Gives t grant (Perm p) = (app : App) × IsAppOf t grant.grain app × roles.GivesPermission app.manifest.roles (length app.manifest.permissions) grant.assignment p

@@ -69,7 +69,8 @@ pub fn may_receive(tables: &Tables, target: Target) -> bool
 
 /// The application of a grain.
 pub fn app_of(tables: &Tables, num: GrainId) -> Option<&App>
-    ensures { MatchOption result ((app : App) → IsAppOf tables.now num app → ⊥) (λ app. IsAppOf tables.now num app.now) }
+    ensures { MatchOption result ((app : App) → IsAppOf tables.now num app
+        → ⊥) (λ app. IsAppOf tables.now num app.now) }
 {
     app(tables, grain(tables, num)?.app)
 }

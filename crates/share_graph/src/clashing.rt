@@ -9,7 +9,8 @@ use host_base::Digest;
 /// The first row that has a digest, in the order of kinds and then of the rows: its kind and its number. Closed sessions, stopped
 /// runs, revoked grants and dropped references are among the rows. In a well-formed state one row at the most has it.
 pub fn clash(state: &State, digest: &Digest) -> Option<(Kind, u64)>
-    ensures found { MatchOption result (IsUnused state.now digest.now) (λ row. HasDigest state.now digest.now row.0 row.1) }
+    ensures found { MatchOption result (IsUnused state.now digest.now) (λ row.
+        HasDigest state.now digest.now row.0 row.1) }
     ensures first { IfSome result (λ row. IsFirstWith state.now digest.now row.0 row.1) }
 {
     if let Some(account) = first_login(&state.tables.accounts, digest) {

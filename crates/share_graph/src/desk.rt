@@ -1,4 +1,3 @@
-use crate::event::Event;
 use crate::refusal::Refusal;
 use host_base::{Digest, GrainId, Memory};
 use thiserror::Error;
@@ -33,20 +32,6 @@ pub struct Made {
     pub handle: Option<u32>,
     pub saved: Option<u32>,
     pub session: Option<u32>,
-}
-
-/// What becomes of a command: it changes the state, or things are as it asks already.
-#[derive(Drop)]
-pub enum Outcome {
-    Change(Event, Made),
-    Same(Made),
-}
-
-/// Whether a command that needs a secret gets as far as drawing it.
-#[derive(Clone, Copy, Debug, PartialEq, Eq)]
-pub enum Readiness {
-    Draw,
-    Same(Made),
 }
 
 /// Why a command isn't carried out.

@@ -16,7 +16,8 @@ fn is_given_from(grant: &Grant, from: GrantId) -> bool
 
 /// The first grant that was given from a grant, revoked or not.
 pub fn given_from(grants: &Rows<Grant>, from: GrantId) -> Option<&Grant>
-    ensures { MatchOption result (IsNoneOf grants.now (IsGivenFrom from)) (λ grant. IsFirstOf grants.now (IsGivenFrom from) grant.now) }
+    ensures { MatchOption result (IsNoneOf grants.now (IsGivenFrom from)) (λ grant.
+        IsFirstOf grants.now (IsGivenFrom from) grant.now) }
 {
     grants
         .candidates(given_clue(from))
@@ -31,7 +32,8 @@ fn is_share_from(grant: &Grant, from: GrantId, to: AccountId) -> bool
 
 /// The first unrevoked grant from a grant to an account.
 pub fn share_from(grants: &Rows<Grant>, from: GrantId, to: AccountId) -> Option<&Grant>
-    ensures { MatchOption result (IsNoneOf grants.now (IsShareFrom from to)) (λ share. IsFirstOf grants.now (IsShareFrom from to) share.now) }
+    ensures { MatchOption result (IsNoneOf grants.now (IsShareFrom from to)) (λ share.
+        IsFirstOf grants.now (IsShareFrom from to) share.now) }
 {
     grants
         .candidates(share_clue(from, to))

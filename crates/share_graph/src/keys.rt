@@ -251,7 +251,8 @@ fn is_handle_to(handle: &Handle, run: RunId, grant: GrantId) -> bool
 
 /// The first handle of a run to a grant.
 pub fn handle_to(handles: &Rows<Handle>, run: RunId, grant: GrantId) -> Option<&Handle>
-    ensures { MatchOption result (IsNoneOf handles.now (IsHandleTo run grant)) (λ handle. IsFirstOf handles.now (IsHandleTo run grant) handle.now) }
+    ensures { MatchOption result (IsNoneOf handles.now (IsHandleTo run grant)) (λ handle.
+        IsFirstOf handles.now (IsHandleTo run grant) handle.now) }
 {
     handles
         .candidates(held_clue(run, grant))

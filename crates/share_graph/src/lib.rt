@@ -24,7 +24,7 @@ mod ways;
 
 pub use asking::{app_of, is_admin, is_bearer, is_enabled, is_kept, is_node, may_receive};
 pub use clashing::clash;
-pub use desk::{Caller, DeskFault, Made, Offer, Outcome, Readiness};
+pub use desk::{Caller, DeskFault, Made, Offer};
 pub use event::Event;
 pub use facts::{Fact, Node};
 pub use fault::{GraphFault, Kind};

@@ -141,7 +141,8 @@ impl<T: Keyed> Rows<T> {
 
     // The place of the first row that has this mark.
     pub(crate) fn first_marked(&self, mark: u64) -> Option<usize>
-        ensures { MatchOption result (NoneHasMark T.mark_of mark self.now (length self.now)) (IsFirstMarked T.mark_of mark self.now) }
+        ensures { MatchOption result (NoneHasMark T.mark_of mark self.now (length self.now))
+            (IsFirstMarked T.mark_of mark self.now) }
     {
         self.index.first_of(self.items.as_slice(), mark)
     }

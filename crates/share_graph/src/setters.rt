@@ -13,7 +13,8 @@ use row_index::Keyed;
 
 // The place, from 0, of the row of a number, from 1.
 fn place_of(num: u64, length: usize) -> Option<usize>
-    ensures { MatchOption result ((num ≡ 0) ⊎ (length < num)) (λ place. (num ≡ place + 1) × (place < length)) }
+    ensures { MatchOption result ((num ≡ 0) ⊎ (length < num)) (λ place. (num ≡ place + 1)
+        × (place < length)) }
 {
     if num == 0 || num > length as u64 {
         return None;

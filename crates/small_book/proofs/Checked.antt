@@ -14,7 +14,7 @@ use Rattle.share_graph.specs.Known.{KnowsNeed}
 use Rattle.share_graph.specs.Parents.{NeedFits, NeedIsEarlier}
 use Rattle.app_manifest.specs.Manifest.{manifest_of}
 use Rattle.perm_roles.specs.PermSet.{no_permissions}
-use Rattle.perm_roles.specs.Roles.{IsListed}
+use Rattle.perm_roles.specs.Roles.{IsInRoles}
 use Rattle.small_book.specs.SmallBook.{small_book, first_share, second_share, ada, zoe, ben, dan, notes, poll, app_row, grain_row, small_accounts, small_apps, small_grains, small_grants}
 use Rattle.small_book.proofs.Digests.{differ}
 use Rattle.small_book.proofs.Manifests.{notes_sound, poll_sound, none_within}
@@ -75,7 +75,7 @@ grains_fit = (
 )
 
 -- a share that changes nothing of its base
-sets_fit : (grant : Grant) → grant.grain ≡ record { 0 = 1 } → grant.needs ≡ [] → grant.assignment.add ≡ no_permissions → grant.assignment.remove ≡ no_permissions → IsListed (manifest_of notes).roles grant.assignment.base → SetsFit rows grant
+sets_fit : (grant : Grant) → grant.grain ≡ record { 0 = 1 } → grant.needs ≡ [] → grant.assignment.add ≡ no_permissions → grant.assignment.remove ≡ no_permissions → IsInRoles (manifest_of notes).roles grant.assignment.base → SetsFit rows grant
 sets_fit grant on needs add remove listed = record {
   assignment = rw on (app_row 1 notes, (grain_row 1 1 1 (codes "Minutes"), refl, refl), record { add = rw add (none_within 3); remove = rw remove (none_within 3); listed = listed });
   needs = rw needs (All-nil (NeedSetFits rows));

@@ -28,7 +28,8 @@ fn add(
     requires handle { is_plain handle.now ≡ true }
     requires name { is_plain name.now ≡ true }
     requires few { length list.old ≤ 3 }
-    ensures { OnOk result (list.new ≡ list.old ++ account_row (length list.old + 1) handle.now name.now login.now admin ∷ []) }
+    ensures { OnOk result (list.new ≡ list.old ++ account_row (length list.old + 1) handle.now name.now
+        login.now admin ∷ []) }
 {
     let num = list.as_slice().len() as u32 + 1;
     let row = Account {

@@ -86,7 +86,8 @@ fn load_from<S: Alter>(
     opened: &mut Result<Connection<S>, Error>,
 ) -> Result<Vec<Row>, KeepFault>
     ensures loads { LoadsIfOpen S.Store (λ rows. rows.items) opened.old opened.new result }
-    ensures unopened { IfErr opened.old (λ error. (result ≡ Err (fault_of error)) × (opened.new ≡ Err error)) }
+    ensures unopened { IfErr opened.old (λ error. (result ≡ Err (fault_of error))
+        × (opened.new ≡ Err error)) }
 {
     match opened {
         Err(error) => Err(keep_fault(*error)),
@@ -100,7 +101,8 @@ fn commit_to<S: Alter>(
     row: &Row,
 ) -> Result<(), KeepFault>
     ensures upserts { UpsertsIfOpen S.Store row.now opened.old opened.new result }
-    ensures unopened { IfErr opened.old (λ error. (result ≡ Err (fault_of error)) × (opened.new ≡ Err error)) }
+    ensures unopened { IfErr opened.old (λ error. (result ≡ Err (fault_of error))
+        × (opened.new ≡ Err error)) }
 {
     match opened {
         Err(error) => Err(keep_fault(*error)),
@@ -116,13 +118,17 @@ impl<S: Alter> Keeper for SqlKeeper<S> {
 
     fn load(&mut self, alloc: Global) -> Result<Vec<Row>, KeepFault>
         ensures counts { faults_of self.old ≤ faults_of self.new }
-        ensures cause { IsErrOf result KeepFault.StoreFailed → Rose (faults_of self.old) (faults_of self.new) }
+        ensures steady { OnOk result (faults_of self.new ≡ faults_of self.old) }
+        ensures cause { IsErrOf result KeepFault.StoreFailed
+            → Rose (faults_of self.old) (faults_of self.new) }
 
         // A fault of the store is counted once, and nothing else is. Where no connection was opened, it answers why.
-        ensures counted { OnOk result (faults_of self.new ≡ faults_of self.old) }
-        ensures counted_fault { IfErr result (λ fault. faults_of self.new ≡ count_after fault (faults_of self.old)) }
-        ensures loads { LoadsIfOpen S.Store (λ rows. rows.items) (opened_of self.old) (opened_of self.new) result }
-        ensures unopened { IfErr (opened_of self.old) (λ error. (result ≡ Err (fault_of error)) × (opened_of self.new ≡ Err error)) }
+        ensures counted_fault { IfErr result (λ fault. faults_of self.new
+            ≡ count_after fault (faults_of self.old)) }
+        ensures loads { LoadsIfOpen S.Store (λ rows.
+            rows.items) (opened_of self.old) (opened_of self.new) result }
+        ensures unopened { IfErr (opened_of self.old) (λ error. (result ≡ Err (fault_of error))
+            × (opened_of self.new ≡ Err error)) }
     {
         match load_from(alloc, &mut self.opened) {
             Ok(rows) => Ok(rows),
@@ -132,13 +138,16 @@ impl<S: Alter> Keeper for SqlKeeper<S> {
 
     fn commit(&mut self, _alloc: Global, row: &Row) -> Result<(), KeepFault>
         ensures counts { faults_of self.old ≤ faults_of self.new }
-        ensures cause { IsErrOf result KeepFault.StoreFailed → Rose (faults_of self.old) (faults_of self.new) }
+        ensures steady { OnOk result (faults_of self.new ≡ faults_of self.old) }
+        ensures cause { IsErrOf result KeepFault.StoreFailed
+            → Rose (faults_of self.old) (faults_of self.new) }
 
         // A fault of the store is counted once, and nothing else is. Where no connection was opened, it answers why.
-        ensures counted { OnOk result (faults_of self.new ≡ faults_of self.old) }
-        ensures counted_fault { IfErr result (λ fault. faults_of self.new ≡ count_after fault (faults_of self.old)) }
+        ensures counted_fault { IfErr result (λ fault. faults_of self.new
+            ≡ count_after fault (faults_of self.old)) }
         ensures upserts { UpsertsIfOpen S.Store row.now (opened_of self.old) (opened_of self.new) result }
-        ensures unopened { IfErr (opened_of self.old) (λ error. (result ≡ Err (fault_of error)) × (opened_of self.new ≡ Err error)) }
+        ensures unopened { IfErr (opened_of self.old) (λ error. (result ≡ Err (fault_of error))
+            × (opened_of self.new ≡ Err error)) }
     {
         match commit_to(&mut self.opened, row) {
             Ok(()) => Ok(()),

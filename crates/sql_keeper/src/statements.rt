@@ -17,16 +17,21 @@ const SELECT: &str = "SELECT kind, num, body FROM rows ORDER BY kind, num";
 
 /// Makes the table where it is missing.
 pub fn create_table<S: Alter>(conn: &mut Connection<S>) -> Result<usize, Error>
-    ensures runs { HasCleanDisk (state S.Store conn.new) → Executes create_text [] (state S.Store conn.old) (state S.Store conn.new) result }
-    ensures survives { Survives (state S.Store conn.old) (state S.Store conn.new) (CommitsBy create_text [] (state S.Store conn.old)) }
+    ensures runs { HasCleanDisk (state S.Store conn.new)
+        → Executes create_text [] (state S.Store conn.old) (state S.Store conn.new) result }
+    ensures survives { Survives (state S.Store conn.old) (state S.Store conn.new)
+        (CommitsBy create_text [] (state S.Store conn.old)) }
 {
     conn.execute(CREATE, &[])
 }
 
 /// Adds a row, or replaces the body of the one of its kind and number.
 pub fn upsert_row<S: Alter>(conn: &mut Connection<S>, row: &Row) -> Result<usize, Error>
-    ensures runs { HasCleanDisk (state S.Store conn.new) → Executes upsert_text (values_of row.now) (state S.Store conn.old) (state S.Store conn.new) result }
-    ensures survives { Survives (state S.Store conn.old) (state S.Store conn.new) (CommitsBy upsert_text (values_of row.now) (state S.Store conn.old)) }
+    ensures runs { HasCleanDisk (state S.Store conn.new)
+        → Executes upsert_text (values_of row.now) (state S.Store conn.old)
+        (state S.Store conn.new) result }
+    ensures survives { Survives (state S.Store conn.old) (state S.Store conn.new)
+        (CommitsBy upsert_text (values_of row.now) (state S.Store conn.old)) }
 {
     conn.execute(
         UPSERT,
@@ -36,8 +41,11 @@ pub fn upsert_row<S: Alter>(conn: &mut Connection<S>, row: &Row) -> Result<usize
 
 /// All rows of the table, by kind and then by number.
 pub fn select_rows<S: Alter>(conn: &mut Connection<S>) -> Result<Vec<StoredRow>, Error>
-    ensures shown { HasCleanDisk (state S.Store conn.new) → IfOk result (λ rows. Shown select_text [] (state S.Store conn.old) (state S.Store conn.new) rows.items) }
-    ensures survives { Survives (state S.Store conn.old) (state S.Store conn.new) (CommitsShowing select_text [] (state S.Store conn.old)) }
+    ensures shown { HasCleanDisk (state S.Store conn.new)
+        → IfOk result (λ rows. Shown select_text [] (state S.Store conn.old)
+        (state S.Store conn.new) rows.items) }
+    ensures survives { Survives (state S.Store conn.old) (state S.Store conn.new)
+        (CommitsShowing select_text [] (state S.Store conn.old)) }
 {
     conn.query_all(SELECT, &[])
 }

@@ -111,14 +111,16 @@ impl Keyed for Run {
 
 // Whether a row hasn't the digest, or is the one of that kind and number.
 fn is_no_other<R: Keyed>(row: &R, digest: &Digest, kind: Kind, num: u64) -> bool
-    ensures { IsTrue result ↔ (R.digest_of row.now ≡ Some digest.now → (R.kind_of row.now ≡ kind) × (R.num_of row.now ≡ num)) }
+    ensures { IsTrue result ↔ (R.digest_of row.now ≡ Some digest.now
+        → (R.kind_of row.now ≡ kind) × (R.num_of row.now ≡ num)) }
 {
     row.digest() != Some(*digest) || row.kind() == kind && row.num() == num
 }
 
 // Whether no row but the one of that kind and number has the digest.
 fn have_no_other<R: Keyed>(rows: &[R], digest: &Digest, kind: Kind, num: u64) -> bool
-    ensures { IsTrue result ↔ All (λ row. R.digest_of row ≡ Some digest.now → (R.kind_of row ≡ kind) × (R.num_of row ≡ num)) rows.now }
+    ensures { IsTrue result ↔ All (λ row. R.digest_of row ≡ Some digest.now
+        → (R.kind_of row ≡ kind) × (R.num_of row ≡ num)) rows.now }
 {
     rows.iter().all(|row| is_no_other(row, digest, kind, num))
 }
@@ -153,7 +155,8 @@ fn is_apart<R: Keyed>(state: &State, row: &R) -> bool
 }
 
 fn are_apart<R: Keyed>(state: &State, rows: &[R]) -> bool
-    ensures { IsTrue result ↔ All (λ row. IsApart state.now (R.kind_of row) (R.num_of row) (R.digest_of row)) rows.now }
+    ensures { IsTrue result ↔ All (λ row.
+        IsApart state.now (R.kind_of row) (R.num_of row) (R.digest_of row)) rows.now }
 {
     rows.iter().all(|row| is_apart(state, row))
 }

@@ -14,7 +14,8 @@ fn count_of(handles: &[Handle], run: RunId) -> usize
 
 // Whether the handle at a place carries the number of that place among those of its run.
 fn is_numbered_at(handles: &[Handle], place: usize, handle: &Handle) -> bool
-    ensures { IsTrue result ↔ (handle.now.num ≡ count_by (λ other. other.run.0 == handle.now.run.0) (take place handles.now) + 1) }
+    ensures { IsTrue result ↔ (handle.now.num
+        ≡ count_by (λ other. other.run.0 == handle.now.run.0) (take place handles.now) + 1) }
 {
     handle.num != 0 && handle.num as usize - 1 == count_of(rows_before(handles, place), handle.run)
 }

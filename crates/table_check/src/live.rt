@@ -35,7 +35,8 @@ fn is_first_live(runs: &[Run], place: usize, run: &Run) -> bool
 
 // Whether each run is stopped, or the first live one of its grain.
 fn are_first_live(runs: &[Run]) -> bool
-    ensures { IsTrue result ↔ ((k : ℕ) (run : Run) → slice_get runs.now k ≡ Some run → IsFirstLive (take k runs.now) run.grain run.stopped) }
+    ensures { IsTrue result ↔ ((k : ℕ) (run : Run) → slice_get runs.now k ≡ Some run
+        → IsFirstLive (take k runs.now) run.grain run.stopped) }
 {
     for (place, run) in runs.iter().enumerate() {
         if !is_first_live(runs, place, run) {

@@ -27,7 +27,8 @@ fn passes_to(parent: Target, own: Target) -> bool
 }
 
 fn passes_on(parent: &Grant, grant: &Grant) -> bool
-    ensures { IsTrue result ↔ ((parent.now.grain ≡ grant.now.grain) × PassesTo parent.now.target grant.now.target) }
+    ensures { IsTrue result ↔ ((parent.now.grain ≡ grant.now.grain)
+        × PassesTo parent.now.target grant.now.target) }
 {
     parent.grain == grant.grain && passes_to(parent.target, grant.target)
 }

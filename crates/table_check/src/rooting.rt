@@ -68,7 +68,8 @@ fn is_claimed_by(run: &Run, num: RunId, target: Target) -> bool
 
 // Whether a run of the number is one of a grain that claimed.
 fn has_claimed(runs: &[Run], num: RunId, target: Target) -> bool
-    ensures { IsTrue result ↔ ((run : Run) × IsOneOf runs.now (λ run. (run.num ≡ num) × (target ≡ Target.Grain run.grain)) run) }
+    ensures { IsTrue result ↔ ((run : Run)
+        × IsOneOf runs.now (λ run. (run.num ≡ num) × (target ≡ Target.Grain run.grain)) run) }
 {
     runs.iter().any(|run| is_claimed_by(run, num, target))
 }

@@ -1,4 +1,4 @@
-ghost use Rattle.std.specs.Prelude.{◌≡◌, ◌↔◌, ◌+◌, ◌<◌, ◌≤◌, IsTrue, IsSome, IfOk, OnOk, OnErr};
+ghost use Rattle.std.specs.Prelude.{◌≡◌, ◌+◌, ◌<◌, ◌≤◌, IsSome, IfOk, OnOk, OnErr};
 ghost use Rattle.host_base.specs.CallCounts.{next_count};
 ghost use Rattle.host_base.specs.Outside.{Rose};
 ghost use Rattle.conn_door.specs.Doors.{IsFreshInlet, IsFreshOutlet};
@@ -60,13 +60,6 @@ impl TcpDoor {
         }
     }
 
-    /// Whether it could be bound.
-    pub fn is_bound(&self) -> bool
-        ensures { IsTrue result ↔ IsSome self.now.port }
-    {
-        self.bound.is_some()
-    }
-
     /// The port that it is bound to, if it could be bound.
     pub fn port(&self) -> Option<u16>
         ensures { result ≡ self.now.port }
@@ -93,7 +86,10 @@ impl TcpDoor {
     )
         requires room { self.old.back < 4294967296 }
         requires few { served ≤ 1000000 }
-        ensures { self.new ≡ record self.old { back = self.old.back + 1; answered = self.old.answered + served } }
+        ensures { self.new ≡ record self.old {
+          back = self.old.back + 1;
+          answered = self.old.answered + served;
+        } }
     {
         self.returns.count(served);
     }
@@ -115,6 +111,7 @@ impl Door for TcpDoor {
 
     fn accept(&mut self) -> Result<(StdSource<TcpStream>, StdSink<TcpStream>), DoorFailed>
         ensures counts { self.old.faults ≤ self.new.faults }
+        ensures steady { OnOk result (self.new.faults ≡ self.old.faults) }
         ensures cause { OnErr result (Rose self.old.faults self.new.faults) }
         ensures given { OnOk result (self.new.given ≡ self.old.given + 1) }
         ensures kept { OnErr result (self.new.given ≡ self.old.given) }
@@ -125,7 +122,6 @@ impl Door for TcpDoor {
 
         // It gives a connection only where it is bound, and each failure counts one fault.
         ensures bound { OnOk result (IsSome self.old.port) }
-        ensures uncounted { OnOk result (self.new.faults ≡ self.old.faults) }
         ensures counted { OnErr result (self.new.faults ≡ next_count self.old.faults) }
         ensures port { self.new.port ≡ self.old.port }
     {

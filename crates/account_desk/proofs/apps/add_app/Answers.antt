@@ -2,17 +2,17 @@ use Rattle.account_desk.proofs.OneRows.{add_app_one}
 use Rattle.account_desk.proofs.FitRows.{add_app_fits}
 use Rattle.account_desk.proofs.apps.add_app.Goals as goal
 
-pub returns-in-Err-clause-one : goal.returns-in-Err-clause-one
-returns-in-Err-clause-one c = add_app_one c.args.state.now c.requires.formed c.args.caller.now c.args.manifest.now
+pub returns-in_err-check_add_app-clause-one : goal.returns-in_err-check_add_app-clause-one
+returns-in_err-check_add_app-clause-one c = add_app_one c.args.state.now c.requires.formed c.args.caller.now c.args.manifest.now
 
-pub returns-in-Err-clause-fits : goal.returns-in-Err-clause-fits
-returns-in-Err-clause-fits c = add_app_fits c.args.state.now c.requires.formed c.args.caller.now c.args.manifest.now c.requires.sound
+pub returns-in_err-check_add_app-clause-fits : goal.returns-in_err-check_add_app-clause-fits
+returns-in_err-check_add_app-clause-fits c = add_app_fits c.args.state.now c.requires.formed c.args.caller.now c.args.manifest.now c.requires.sound
 
-pub returns-in_err-copy_of_manifest-clause-one : goal.returns-in_err-copy_of_manifest-clause-one
-returns-in_err-copy_of_manifest-clause-one c = add_app_one c.args.state.now c.requires.formed c.args.caller.now c.args.manifest.now
+pub returns-in_err-clone-clause-one : goal.returns-in_err-clone-clause-one
+returns-in_err-clone-clause-one c = add_app_one c.args.state.now c.requires.formed c.args.caller.now c.args.manifest.now
 
-pub returns-in_err-copy_of_manifest-clause-fits : goal.returns-in_err-copy_of_manifest-clause-fits
-returns-in_err-copy_of_manifest-clause-fits c = add_app_fits c.args.state.now c.requires.formed c.args.caller.now c.args.manifest.now c.requires.sound
+pub returns-in_err-clone-clause-fits : goal.returns-in_err-clone-clause-fits
+returns-in_err-clone-clause-fits c = add_app_fits c.args.state.now c.requires.formed c.args.caller.now c.args.manifest.now c.requires.sound
 
 pub returns-clause-one : goal.returns-clause-one
 returns-clause-one c = add_app_one c.args.state.now c.requires.formed c.args.caller.now c.args.manifest.now

@@ -1,7 +1,7 @@
 use Rattle.std.proofs.Common.{ap}
 use Rattle.cloud_keeper.specs.InMemory.{MemRows}
 use Rattle.small_book.specs.SmallBook.{small_book}
-use Rattle.admin_run.specs.Book.{HasBook}
+use Rattle.admin_run.specs.Connection.{HasBook}
 use Rattle.admin_run.proofs.BookRows.{stored_book}
 use Rattle.admin_run.proofs.keeping.book_keeper.Goals as goal
 

@@ -3,13 +3,13 @@ use Rattle.admin_run.specs.Program.{AtDoor}
 use Rattle.admin_run.proofs.program.perform.Goals as goal
 
 pub returns-in-Check-clause-does : goal.returns-in-Check-clause-does
-returns-in-Check-clause-does g c = rw c.in-Check.is (c.check.ensures.checks (g.I.Source.inlet c.args.input.now) (g.E.Door.doorway c.args.door.now))
+returns-in-Check-clause-does g c = rw c.in-Check.is c.check.ensures.checks
 
 pub returns-in-Serve-clause-does : goal.returns-in-Serve-clause-does
-returns-in-Serve-clause-does g c = rw c.in-Serve.is (c.serve.ensures.serves (g.I.Source.inlet c.args.input.now))
+returns-in-Serve-clause-does g c = rw c.in-Serve.is c.serve.ensures.serves
 
 pub returns-in-Unknown-clause-does : goal.returns-in-Unknown-clause-does
-returns-in-Unknown-clause-does g c = rw c.in-Unknown.is (c.usage.ensures.tells (g.I.Source.inlet c.args.input.now) (g.E.Door.doorway c.args.door.now))
+returns-in-Unknown-clause-does g c = rw c.in-Unknown.is c.usage.ensures.tells
 
 pub serve-requires-clause-start : goal.serve-requires-clause-start
 serve-requires-clause-start g c = c.requires.start (subst AtDoor (sym c.in-Serve.is) tt)

@@ -1,28 +1,26 @@
-use Rattle.std.proofs.Common.{◌∙◌, inl, inr}
-use Rattle.admin_run.proofs.Opened.{from_opened, stops_at_rows}
+use Rattle.std.proofs.Common.{refl, ap, subst, ◌∙◌, inl, inr}
+use Rattle.share_graph.specs.History.{replay}
+use Rattle.hub_core.specs.Opening.{AreLoaded}
+use Rattle.hub_core.specs.Sharing.{Sharing}
+use Rattle.row_tables.specs.Kept.{IsStored}
+use Rattle.admin_run.specs.Outside.{Outside}
+use Rattle.admin_run.proofs.Opened.{stops_at_rows}
+use Rattle.admin_run.proofs.ServedRows.{opens_from}
 use Rattle.admin_run.proofs.serving.serve_rows.Goals as goal
 
-pub serve_desk-requires-clause-start : goal.serve_desk-requires-clause-start
-serve_desk-requires-clause-start g c = λ state is.
-    let ok = c.in-Ok.ensures.ok in
-    ok.start ∙ c.requires.start state is ok.tables ok.loaded
+pub serve_all-stopped-requires-clause-start : goal.serve_all-stopped-requires-clause-start
+serve_all-stopped-requires-clause-start g c = λ state is.
+    let o = c.in-Ok.ensures.ok in
+    o.start ∙ c.requires.start state is o.tables (subst (λ (w : Outside). AreLoaded w.holds.keeping o.tables) c.world.view_is o.loaded)
 
-pub returns-in-Ok-clause-opens : goal.returns-in-Ok-clause-opens
-returns-in-Ok-clause-opens g c = λ inlet.
-    let ok = c.in-Ok.ensures.ok in
-    inr (record {
-      keeping = g.K.Keeper.keeping c.in-Ok.desk.keeper;
-      kept = ok.kept;
-      tables = ok.tables;
-      loaded = ok.loaded;
-      served =
-          from_opened g.S.Secrets.drawer g.P.Spawner.spawns inlet (g.O.Sink.outlet c.args.out.now) (g.L.Link.line c.args.objects.link) (g.E.Door.doorway c.args.door.now)
-          _ ok.tables c.args.count (g.K.Keeper.keeping c.in-Ok.desk.keeper) _ c.args.objects.secrets c.in-Ok.desk.secrets c.args.objects.spawner c.in-Ok.desk.spawner c.serve_desk.result.status
-          ok.secrets_are ok.spawner_is (c.serve_desk.ensures.serves inlet ok.tables ok.start ok.history);
-    })
+pub returns-clause-opens : goal.returns-clause-opens
+returns-clause-opens g c = rw (← c.world.view_is, c.joined-world-2.ensures)
+    (let stopped = c.serve_all-stopped.result in
+    inr (opens_from g.C.Law.SiteLaw.law c.args.count stopped.answered c.tell_stop-status.result _ _ c.in-Ok.desk c.serve_all-stopped.new.desk c.in-Ok.ensures.ok c.serve_all-stopped.ensures.begins
+    (c.into_held-held.ensures.held ∙ ap (λ (x : Sharing). x.holds) c.into_locked.ensures) c.serve_all-stopped.ensures.served
+    (subst (λ (x : Sharing). IsStored c.into_held-held.result.keeping (replay x.start x.history).tables) c.into_locked.ensures c.into_held-held.ensures.stored)
+    (record { why = stopped.stop; told = c.tell_stop-status.ensures.tells; all = c.serve_all-stopped.ensures.all; failed = c.serve_all-stopped.ensures.cause }) refl))
 
 pub returns-in-Err-clause-opens : goal.returns-in-Err-clause-opens
-returns-in-Err-clause-opens g c = λ inlet.
-    let closed = c.in-Err.closed in
-    inl (stops_at_rows g.S.Secrets.drawer g.P.Spawner.spawns inlet (g.O.Sink.outlet c.args.out.now) (g.L.Link.line c.args.objects.link) (g.E.Door.doorway c.args.door.now)
-    (g.K.Keeper.keeping c.args.objects.keeper) (g.K.Keeper.keeping closed.keeper) c.args.objects.secrets closed.secrets c.args.objects.spawner closed.spawner closed.fault c.status_of_fault.result c.status_of_fault.ensures c.in-Err.ensures.err)
+returns-in-Err-clause-opens g c = rw (← c.world.view_is, c.joined-world.ensures)
+    (inl (stops_at_rows _ _ c.in-Err.closed.fault c.status_of_fault-status.result c.status_of_fault-status.ensures c.in-Err.ensures.err refl))

@@ -2,7 +2,7 @@ use Rattle.std.proofs.Common.{◌≡◌, ◌++◌, List, ℕ, true, codes, decim
 use Rattle.std.specs.List.{list_any}
 use Rattle.std.proofs.lemmas.Result.{on_ok_weaker}
 use Rattle.host_base.specs.declared.request.Field.{Field}
-use Rattle.bridge_headers.specs.Lines.{Line, line_text, lines_text}
+use Rattle.bridge_headers.specs.Lines.{HeaderLine, line_text, lines_text}
 use Rattle.bridge_headers.specs.Text.{client_lines, length_line}
 use Rattle.bridge_headers.specs.Lines.{states_length}
 use Rattle.bridge_headers.proofs.ClientLines.{length_sent}
@@ -18,4 +18,4 @@ returns-then-has_length c =
     on_ok_weaker c.put_line.result
     (λ (put : c.put_line.new.text.items ≡ c.args.text.now.items ++ line_text (codes "Content-Length", c.as_bytes.result.now)).
     let line : c.put_line.new.text.items ≡ c.args.text.now.items ++ line_text (length_line request) = put ∙ ap (λ (n : List ℕ). c.args.text.now.items ++ line_text (codes "Content-Length", n)) number in
-    one_line _ _ (length_line request) line ∙ ap (λ (lines : List Line). c.args.text.now.items ++ lines_text lines) (sym (length_sent request sent))) c.put_line.ensures
+    one_line _ _ (length_line request) line ∙ ap (λ (lines : List HeaderLine). c.args.text.now.items ++ lines_text lines) (sym (length_sent request sent))) c.put_line.ensures

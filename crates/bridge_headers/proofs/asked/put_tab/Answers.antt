@@ -1,14 +1,14 @@
 use Rattle.std.proofs.Common.{◌≡◌, ◌++◌, [], ◌∷◌, codes}
 use Rattle.std.proofs.lemmas.Result.{on_ok_weaker}
 use Rattle.bridge_headers.proofs.LineLemmas.{one_line, more_line}
-use Rattle.bridge_headers.specs.Lines.{Line, line_text}
+use Rattle.bridge_headers.specs.Lines.{HeaderLine, line_text}
 use Rattle.bridge_headers.specs.Text.{number_text}
 use Rattle.bridge_headers.proofs.asked.put_tab.Goals as goal
 
 pub returns-in_ok-put_line-in-Some : goal.returns-in_ok-put_line-in-Some
 returns-in_ok-put_line-in-Some c =
-    let tab : Line = (codes "X-Sandstorm-Tab-Id", number_text c.in-Some.mark.tab) in
-    let session : Line = (codes "X-Sandstorm-Session-Id", number_text c.in-Some.mark.session.0) in
+    let tab : HeaderLine = (codes "X-Sandstorm-Tab-Id", number_text c.in-Some.mark.tab) in
+    let session : HeaderLine = (codes "X-Sandstorm-Session-Id", number_text c.in-Some.mark.session.0) in
     let first : c.put_line.new.text.items ≡ c.args.text.now.items ++ line_text tab = cc (c.in_ok-put_line-in-Some.ensures, c.number_digits.ensures) in
     rw c.in-Some.is
     (on_ok_weaker c.put_line-in-Some.result

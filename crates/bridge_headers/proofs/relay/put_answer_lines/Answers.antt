@@ -1,6 +1,6 @@
 use Rattle.std.proofs.Common.{◌≡◌, ◌+◌, ◌++◌, List, [], ◌∷◌, ℕ, get_or, take, ap, ◌∙◌}
 use Rattle.httparse.specs.Spans.{header_bytes}
-use Rattle.bridge_headers.specs.Lines.{Line, lines_text, passed}
+use Rattle.bridge_headers.specs.Lines.{HeaderLine, lines_text, passed}
 use Rattle.bridge_headers.specs.Relay.{answer_names}
 use Rattle.bridge_headers.proofs.FramingLemmas.{blank, lines_at, lines_more}
 use Rattle.bridge_headers.proofs.LineLemmas.{passed_next}
@@ -11,7 +11,7 @@ loop-field-preserved c =
     let head = c.args.head.now in
     let fields = c.args.fields.now in
     let i = c.loop-field.field-index in
-    let line : Line = header_bytes head (get_or fields i blank) in
+    let line : HeaderLine = header_bytes head (get_or fields i blank) in
     let put : c.put_passed.new.text.items ≡ c.loop-field.text.items ++ lines_text (passed answer_names (line ∷ [])) =
     c.in_ok-put_passed.ensures ∙ ap (λ (name : List ℕ). c.loop-field.text.items ++ lines_text (passed answer_names ((name, c.of-value.result.now) ∷ []))) c.of-name.ensures
     ∙ ap (λ (value : List ℕ). c.loop-field.text.items ++ lines_text (passed answer_names ((line.0, value) ∷ []))) c.of-value.ensures in

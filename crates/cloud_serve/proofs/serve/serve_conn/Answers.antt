@@ -1,7 +1,6 @@
 use Rattle.std.proofs.Common.{rules, ◌≡◌, ◌++◌, [], ◌∷◌, ap, arith}
 use Rattle.front_http.specs.Reading.{Reading, unread}
-use Rattle.cloud_serve.specs.Served.{World}
-use Rattle.cloud_serve.proofs.Runs.{so_far_none, so_far_more, served_when, served_spent, served_at_once, complete_when}
+use Rattle.cloud_serve.proofs.Runs.{so_far_none, so_far_more, served_when, served_spent, complete_when}
 use Rattle.cloud_serve.proofs.serve.serve_conn.Goals as goal
 
 pub requests-init : goal.requests-init
@@ -12,25 +11,25 @@ requests-init g c =
 
 pub requests-preserved : goal.requests-preserved
 requests-preserved g c =
-    let pushed : c.push.new.self.items ≡ c.requests.places.items ++ c.in-Ok-serve_one.place ∷ [] = search rules in
+    let pushed : c.push.new.self.items ≡ c.requests.places.items ++ c.in-Ok.place ∷ [] = search rules in
     let s = c.requests.invariant.so_far in
     record {
-      running = c.in-Ok-serve_one.ensures.running;
+      running = c.in-Ok.ensures.running;
       few = omega (arith, c.serve_one.ensures.few);
-      so_far = rw pushed (so_far_more _ _ _ c.requests.reader c.serve_one.new.reader c.place-from.result c.requests.last c.requests.places.items c.requests.served c.requests.forwarded c.serve_one.new.forwarded c.in-Ok-serve_one.place s
-          (c.in-Ok-serve_one.ensures.steps s.high s.high_within) c.serve_one.ensures.reads c.serve_one.ensures.writes c.serve_one.ensures.whole);
+      so_far = rw pushed (so_far_more _ _ _ c.requests.reader c.serve_one.new.reader c.place-from.result c.requests.last c.requests.places.items c.requests.served c.requests.forwarded c.serve_one.new.forwarded c.in-Ok.place s
+          (c.in-Ok.ensures.steps s.high s.high_within) c.serve_one.ensures.reads c.serve_one.ensures.writes c.serve_one.ensures.whole);
     }
 
 pub returns-in-Err-clause-served : goal.returns-in-Err-clause-served
 returns-in-Err-clause-served g c =
     let s = c.requests.invariant.so_far in
-    rw (c.ended-in-Err.ensures, c.serve_one.ensures.places) (served_when _ _ _ c.requests.reader c.place-from.result c.requests.last c.requests.places.items c.requests.served c.requests.forwarded c.serve_one.new.forwarded c.in-Err.end c.place-from.ensures s
+    rw (c.ended.ensures, c.serve_one.ensures.places) (served_when _ _ _ c.requests.reader c.place-from.result c.requests.last c.requests.places.items c.requests.served c.requests.forwarded c.serve_one.new.forwarded c.in-Err.end c.place-from.ensures s
     (c.in-Err.ensures.steps s.high s.high_within) (omega arith) c.serve_one.ensures.reads c.serve_one.ensures.writes)
 
 pub returns-in-Err-clause-complete : goal.returns-in-Err-clause-complete
 returns-in-Err-clause-complete g c input all told means few reads writes =
     let s = c.requests.invariant.so_far in
-    rw c.ended-in-Err.ensures (complete_when _ _ c.in-Err.end c.place-from.result c.requests.places.items c.requests.served c.serve_one.new.forwarded
+    rw c.ended.ensures (complete_when _ _ c.in-Err.end c.place-from.result c.requests.places.items c.requests.served c.serve_one.new.forwarded
     (served_when _ _ _ c.requests.reader c.place-from.result c.requests.last c.requests.places.items c.requests.served c.requests.forwarded c.serve_one.new.forwarded c.in-Err.end c.place-from.ensures s
     (c.in-Err.ensures.steps s.high s.high_within) (omega arith) c.serve_one.ensures.reads c.serve_one.ensures.writes) input all told means few reads writes)
 
@@ -44,14 +43,3 @@ returns-clause-complete g c input all told means few reads writes =
     let at_limit : c.requests.served ≡ 1000000 = omega arith in
     rw c.ended-2.ensures (complete_when _ _ _ c.place-from.result c.requests.places.items 1000000 c.requests.forwarded
     (served_spent _ _ c.requests.reader c.place-from.result c.requests.last c.requests.places.items c.requests.forwarded c.place-from.ensures (rw at_limit at c.requests.invariant.so_far)) input all told means few reads writes)
-
-pub returns-in_default-clause-served : goal.returns-in_default-clause-served
-returns-in_default-clause-served g c =
-    rw (c.ended.ensures, c.new-in_default.ensures.items) (served_at_once _ (g.O.Sink.outlet c.close_with-end.new.out) c.place-from.result c.close_with-end.result c.memory_reply.result.now c.place-from.ensures c.memory_reply.ensures c.close_with-end.ensures.closes c.close_with-end.ensures.writes)
-
-pub returns-in_default-clause-complete : goal.returns-in_default-clause-complete
-returns-in_default-clause-complete g c input all told means few reads writes =
-    let old : World = record { inlet = g.I.Source.inlet c.args.input.now; outlet = g.O.Sink.outlet c.args.out.now; line = g.L.Link.line c.args.link.now; book = g.D.Desk.book c.args.desk.now } in
-    let new : World = record { inlet = old.inlet; outlet = g.O.Sink.outlet c.close_with-end.new.out; line = old.line; book = old.book } in
-    rw c.ended.ensures (complete_when old new c.close_with-end.result c.place-from.result [] 0 0
-    (served_at_once old new.outlet c.place-from.result c.close_with-end.result c.memory_reply.result.now c.place-from.ensures c.memory_reply.ensures c.close_with-end.ensures.closes c.close_with-end.ensures.writes) input all told means few reads writes)

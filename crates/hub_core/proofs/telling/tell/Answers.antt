@@ -1,6 +1,6 @@
 use Rattle.std.proofs.Common.{Option, subst}
 use Rattle.cloud_keeper.specs.declared.row.Row.{Row}
-use Rattle.hub_core.specs.Adding.{HasItsRow}
+use Rattle.hub_core.specs.Inner.Adding.{HasItsRow}
 use Rattle.hub_core.proofs.Storing.{stores_none, stores_row}
 use Rattle.hub_core.proofs.Outwards.{tells_kept, tells_started}
 use Rattle.hub_core.proofs.telling.tell.Goals as goal

@@ -1,6 +1,6 @@
 use Rattle.std.proofs.Common.{IsTrue, is_some}
 use Rattle.powerbox_match.specs.Matching.{match_of}
-use Rattle.share_desk.proofs.GivenRoles.{for_no_app}
+use Rattle.desk_base.proofs.GivenRoles.{for_no_app}
 use Rattle.saved_refs.proofs.applications.has_match.Goals as goal
 
 pub returns-in-None : goal.returns-in-None

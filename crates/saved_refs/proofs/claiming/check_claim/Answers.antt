@@ -2,10 +2,10 @@ use Rattle.std.proofs.Common.{ap, inl, inr, refl}
 use Rattle.std.proofs.lemmas.Bool.{false≢true}
 use Rattle.desk_base.proofs.Stopped.{stopped}
 use Rattle.desk_base.specs.Steps.{Refuses}
-use Rattle.session_desk.proofs.Words.{lacking}
 use Rattle.share_graph.specs.declared.facts.Node.TheVariants as node
 use Rattle.share_graph.specs.declared.grants.Grant.{Grant}
 use Rattle.share_graph.proofs.Contained.{listed_row}
+use Rattle.desk_base.proofs.Words.{lacking}
 use Rattle.saved_refs.specs.declared.claiming.Claiming.{Claiming}
 use Rattle.saved_refs.specs.Commands.{Claim, claim_with}
 use Rattle.saved_refs.proofs.Claims.{claim_node}

@@ -1,9 +1,9 @@
 use Rattle.std.proofs.Common.{inl, inr}
 use Rattle.desk_base.proofs.Stopped.{stopped}
-use Rattle.session_desk.proofs.Words.{lacking}
 use Rattle.share_graph.specs.declared.facts.Node.TheVariants as node
 use Rattle.share_graph.specs.declared.rows.Account.{Account}
 use Rattle.share_graph.proofs.Contained.{listed_row}
+use Rattle.desk_base.proofs.Words.{lacking}
 use Rattle.saved_refs.specs.Commands.{Choose}
 use Rattle.saved_refs.specs.Offers.{chosen_step}
 use Rattle.saved_refs.proofs.Words.{checks_more}

@@ -1,8 +1,8 @@
 use Rattle.std.proofs.Common.{inl, inr, refl, rules}
 use Rattle.std.proofs.lemmas.Bool.{false≢true}
 use Rattle.desk_base.proofs.Stopped.{stopped}
-use Rattle.session_desk.proofs.Words.{lacking}
 use Rattle.share_graph.specs.declared.facts.Node.TheVariants as node
+use Rattle.desk_base.proofs.Words.{lacking}
 use Rattle.saved_refs.specs.Commands.{ChooseGrain}
 use Rattle.saved_refs.specs.Offers.{chosen_step}
 use Rattle.saved_refs.proofs.offers.check_grain.Goals as goal

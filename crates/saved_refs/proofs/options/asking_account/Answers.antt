@@ -1,8 +1,8 @@
 -- A caller without entry is refused by the first step that is missing.
 use Rattle.std.proofs.Common.{inl, inr}
 use Rattle.desk_base.specs.Steps.{Refuses}
-use Rattle.session_desk.proofs.Words.{handed_on, lacking}
 use Rattle.share_graph.specs.declared.facts.Node.TheVariants as node
+use Rattle.desk_base.proofs.Words.{handed_on, lacking}
 use Rattle.saved_refs.specs.Options.{Options}
 use Rattle.saved_refs.proofs.options.asking_account.Goals as goal
 

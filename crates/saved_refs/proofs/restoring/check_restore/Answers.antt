@@ -2,10 +2,10 @@ use Rattle.std.proofs.Common.{sym, ◌∙◌, inl, inr, refl}
 use Rattle.std.proofs.lemmas.Bool.{false≢true}
 use Rattle.desk_base.specs.Steps.{Makes, Plain}
 use Rattle.desk_base.proofs.Stopped.{stopped}
-use Rattle.session_desk.proofs.Words.{lacking}
 use Rattle.share_graph.specs.declared.event.Event.TheVariants.{HandleMade}
 use Rattle.share_graph.specs.declared.facts.Node.TheVariants as node
 use Rattle.share_graph.specs.declared.sessions.Handle.{Handle}
+use Rattle.desk_base.proofs.Words.{lacking}
 use Rattle.saved_refs.specs.Commands.{Restore}
 use Rattle.saved_refs.specs.Rows.{shown_handle}
 use Rattle.saved_refs.proofs.Named.{reference_grant, claimed_node}
@@ -22,7 +22,7 @@ returns-in_err-has_entry c =
     (inr (_, c.in_ok-run.ensures.one, inr (c.in_ok-run.ensures.kept, inr (c.in_ok-run.ensures.live, inr (_, c.in_ok-saved.ensures.one, inr (c.in_ok-saved.ensures.holder, inr (λ gone. false≢true (sym c.if-saved.false ∙ gone), inl (lacking c.args.state.now.tables (node.Grant c.in_ok-saved.saved.now.grant) c.in_err-has_entry.field-0.0 c.in_err-has_entry.ensures))))))))
 
 pub returns-in-Some : goal.returns-in-Some
-returns-in-Some c = inr (_, c.in_ok-run.ensures.one, inr (c.in_ok-run.ensures.kept, inr (c.in_ok-run.ensures.live, inr (_, c.in_ok-saved.ensures.one, inr (c.in_ok-saved.ensures.holder, inr (λ gone. false≢true (sym c.if-saved.false ∙ gone), inr (c.in_ok-has_entry.ensures, inl (_, refl, c.in-Some.ensures))))))))
+returns-in-Some c = rw c.shown.ensures (inr (_, c.in_ok-run.ensures.one, inr (c.in_ok-run.ensures.kept, inr (c.in_ok-run.ensures.live, inr (_, c.in_ok-saved.ensures.one, inr (c.in_ok-saved.ensures.holder, inr (λ gone. false≢true (sym c.if-saved.false ∙ gone), inr (c.in_ok-has_entry.ensures, inl (_, refl, c.in-Some.ensures)))))))))
 
 pub returns-in_err-handle : goal.returns-in_err-handle
 returns-in_err-handle c =

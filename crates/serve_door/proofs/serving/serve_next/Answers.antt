@@ -6,9 +6,7 @@ pub returns-clause-serves : goal.returns-clause-serves
 returns-clause-serves g c =
     let end = c.serve_conn-end.result in
     record {
-      inlet = g.E.Input.Source.inlet c.serve_conn-end.new.input;
-      outlet = g.E.Output.Sink.outlet c.serve_conn-end.new.out;
-      line = g.L.Link.line c.serve_conn-end.new.link;
+      wire = c.serve_conn-end.new.wire;
       end = end.end;
       from = end.from;
       places = end.places;
@@ -16,14 +14,14 @@ returns-clause-serves g c =
       connection = record {
         old = record {
           inlet = g.E.Input.Source.inlet c.in-Ok-accept.input;
-          outlet = g.E.Output.Sink.outlet c.in-Ok-accept.output;
-          line = g.L.Link.line c.in-Ok.own;
+          outlet = g.E.Output.Sink.outlet c.in-Ok-accept.out;
+          line = g.L.Link.line c.in-Ok.link;
           book = g.D.Desk.book c.args.desk.now;
         };
         input = c.in-Ok-accept.ensures.input;
         whole = c.serve_conn-end.ensures.whole;
         output = c.in-Ok-accept.ensures.output;
-        link = fresh_is (g.L.Link.line c.args.link.now) (g.L.Link.line c.in-Ok.own) c.in-Ok.ensures;
+        link = fresh_is (g.L.Link.line c.args.link.now) (g.L.Link.line c.in-Ok.link) c.in-Ok.ensures;
         headline = c.serve_conn-end.ensures.served;
       };
       begins = refl;

@@ -1,6 +1,6 @@
 use Rattle.std.proofs.Common.{inl, inr}
 use Rattle.share_graph.specs.declared.facts.Node.TheVariants as node
-use Rattle.session_desk.proofs.Words.{handed_on, lacking}
+use Rattle.desk_base.proofs.Words.{handed_on, lacking}
 use Rattle.session_desk.proofs.callers.account_on.Goals as goal
 
 pub returns-in_err-has_entry : goal.returns-in_err-has_entry

@@ -1,6 +1,6 @@
 use Rattle.std.proofs.Common.{◌≡◌, refl}
+use Rattle.desk_base.proofs.Words.{bearer_passes}
 use Rattle.session_desk.specs.Calling.{bearer_of}
-use Rattle.session_desk.proofs.Words.{bearer_passes}
 use Rattle.session_desk.proofs.callers.bearer_on.Goals as goal
 
 pub returns : goal.returns

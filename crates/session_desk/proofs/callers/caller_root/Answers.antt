@@ -1,7 +1,7 @@
 use Rattle.std.proofs.Common.{◌≡◌, inr, refl}
 use Rattle.std.proofs.lemmas.Bool.{false≢true}
 use Rattle.share_graph.specs.declared.sessions.Root.TheVariants as root
-use Rattle.session_desk.proofs.Words.{bearer_passes}
+use Rattle.desk_base.proofs.Words.{bearer_passes}
 use Rattle.session_desk.proofs.callers.caller_root.Goals as goal
 
 pub returns : goal.returns

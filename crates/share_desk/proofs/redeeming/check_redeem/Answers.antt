@@ -1,9 +1,9 @@
 use Rattle.std.proofs.Common.{inl, inr, refl, rules}
 use Rattle.desk_base.proofs.Stopped.{stopped}
-use Rattle.session_desk.proofs.Words.{bearer_is_no_user, lacking}
 use Rattle.share_graph.specs.declared.facts.Node.TheVariants as node
 use Rattle.share_graph.specs.declared.grants.Grant.{Grant}
 use Rattle.share_graph.proofs.Contained.{listed_row}
+use Rattle.desk_base.proofs.Words.{bearer_is_no_user, lacking}
 use Rattle.share_desk.specs.declared.redeeming.Redemption.{Redemption}
 use Rattle.share_desk.specs.Commands.{Redeem, redeem_step}
 use Rattle.share_desk.proofs.redeeming.check_redeem.Goals as goal
@@ -26,7 +26,7 @@ returns-in_err-has_entry c =
     (inr (_, c.in_ok-account.ensures.one, inr (c.in_ok-account.ensures.enabled, inr (_, c.in-Some.ensures, inr (search rules, inl (lacking c.args.state.now.tables (node.Grant c.in-Some.link.now.num) c.in_err-has_entry.field-0.0 c.in_err-has_entry.ensures))))))
 
 pub returns-in-Some-share_from : goal.returns-in-Some-share_from
-returns-in-Some-share_from c = inr (_, c.in_ok-account.ensures.one, inr (c.in_ok-account.ensures.enabled, inr (_, c.in-Some.ensures, inr (search rules, inr (c.in_ok-has_entry.ensures, inl (_, refl, c.in-Some-share_from.ensures))))))
+returns-in-Some-share_from c = rw c.shown_grant.ensures (inr (_, c.in_ok-account.ensures.one, inr (c.in_ok-account.ensures.enabled, inr (_, c.in-Some.ensures, inr (search rules, inr (c.in_ok-has_entry.ensures, inl (_, refl, c.in-Some-share_from.ensures)))))))
 
 pub returns-in_err-has_grant_room : goal.returns-in_err-has_grant_room
 returns-in_err-has_grant_room c =

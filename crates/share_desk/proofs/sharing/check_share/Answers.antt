@@ -1,10 +1,10 @@
 use Rattle.std.proofs.Common.{ap, inl, inr, refl, rules}
 use Rattle.desk_base.proofs.Stopped.{stopped}
 use Rattle.desk_base.specs.Steps.{Refuses}
-use Rattle.session_desk.proofs.Words.{lacking}
 use Rattle.share_graph.specs.declared.facts.Node.TheVariants as node
 use Rattle.share_graph.specs.declared.rows.Account.{Account}
 use Rattle.share_graph.proofs.Contained.{listed_row}
+use Rattle.desk_base.proofs.Words.{lacking}
 use Rattle.share_desk.specs.Commands.{Share, share_step}
 use Rattle.share_desk.proofs.sharing.check_share.Goals as goal
 

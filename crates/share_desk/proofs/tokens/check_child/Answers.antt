@@ -1,6 +1,6 @@
 use Rattle.std.proofs.Common.{inl, inr, refl}
 use Rattle.desk_base.proofs.Stopped.{stopped}
-use Rattle.session_desk.proofs.Words.{bearer_passes, bearer_fails}
+use Rattle.desk_base.proofs.Words.{bearer_passes, bearer_fails}
 use Rattle.share_desk.specs.declared.tokens.Parent.{Parent}
 use Rattle.share_desk.specs.Commands.{ChildOf, Child, child_step}
 use Rattle.share_desk.proofs.Words.{caller_grain}

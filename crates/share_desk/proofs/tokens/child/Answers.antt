@@ -1,46 +1,8 @@
-use Rattle.std.proofs.Common.{Some, inr, refl}
-use Rattle.desk_base.proofs.Stopped.{carried_at_stop}
-use Rattle.share_graph.specs.declared.event.Event.TheVariants.{GrantAdded}
-use Rattle.share_graph.specs.declared.grants.Giver.TheVariants as giver
-use Rattle.share_graph.specs.declared.grants.Target.TheVariants as target
-use Rattle.share_desk.specs.Rows.{new_grant}
-use Rattle.share_desk.specs.Commands.{Child}
-use Rattle.share_desk.proofs.OneRows.{child_one}
-use Rattle.share_desk.proofs.FitRows.{child_fits}
+use Rattle.std.proofs.Common.{◌≡◌}
+use Rattle.std.proofs.lemmas.List.Elements.{same_from_all_zip}
 use Rattle.share_desk.proofs.tokens.child.Goals as goal
-
-pub returns-in-Err-clause-one : goal.returns-in-Err-clause-one
-returns-in-Err-clause-one c = child_one c.args.state.now c.requires.formed c.args.caller.now c.args.for_sharing c.args.assignment.now c.args.needs.now
-
-pub returns-in-Err-clause-fits : goal.returns-in-Err-clause-fits
-returns-in-Err-clause-fits c = child_fits c.args.state.now c.requires.formed c.args.caller.now c.args.for_sharing c.args.assignment.now c.args.needs.now
-
-pub returns-in-Some-clause-one : goal.returns-in-Some-clause-one
-returns-in-Some-clause-one c = child_one c.args.state.now c.requires.formed c.args.caller.now c.args.for_sharing c.args.assignment.now c.args.needs.now
-
-pub returns-in-Some-clause-fits : goal.returns-in-Some-clause-fits
-returns-in-Some-clause-fits c = child_fits c.args.state.now c.requires.formed c.args.caller.now c.args.for_sharing c.args.assignment.now c.args.needs.now
-
-pub returns-in_err-copy_of_needs-clause-one : goal.returns-in_err-copy_of_needs-clause-one
-returns-in_err-copy_of_needs-clause-one c = child_one c.args.state.now c.requires.formed c.args.caller.now c.args.for_sharing c.args.assignment.now c.args.needs.now
-
-pub returns-in_err-copy_of_needs-clause-fits : goal.returns-in_err-copy_of_needs-clause-fits
-returns-in_err-copy_of_needs-clause-fits c = child_fits c.args.state.now c.requires.formed c.args.caller.now c.args.for_sharing c.args.assignment.now c.args.needs.now
-
-pub returns-clause-one : goal.returns-clause-one
-returns-clause-one c = child_one c.args.state.now c.requires.formed c.args.caller.now c.args.for_sharing c.args.assignment.now c.args.needs.now
-
-pub returns-clause-fits : goal.returns-clause-fits
-returns-clause-fits c = child_fits c.args.state.now c.requires.formed c.args.caller.now c.args.for_sharing c.args.assignment.now c.args.needs.now
-
-pub returns-in-Err-clause-row : goal.returns-in-Err-clause-row
-returns-in-Err-clause-row c =
-    rw c.outcome.ensures (carried_at_stop c.args.state.now c.args.digest (Child c.args.state.now c.args.caller.now c.args.for_sharing c.args.assignment.now c.args.needs.now) c.in-Err.stop c.in-Err.ensures)
-
-pub returns-in-Some-clause-row : goal.returns-in-Some-clause-row
-returns-in-Some-clause-row c = inr (_, (_, refl, c.in-Some.ensures.found, (_, (_, c.in-Ok.ensures))))
 
 pub returns-clause-row : goal.returns-clause-row
 returns-clause-row c =
-    rw (c.as_slice.ensures, c.in_ok-copy_of_needs.ensures)
-    (c.in_default.ensures.found, ((λ d. GrantAdded (new_grant c.args.state.now.tables c.in-Ok.from.grain (giver.Grant c.in-Ok.from.grant) (target.Bearer c.args.for_sharing) c.args.assignment.now c.args.needs.now (Some d))), c.in-Ok.ensures, refl))
+    let same : c.in_ok-needs.needs ≡ c.args.needs.now = same_from_all_zip _ c.args.needs.now c.in_ok-needs.needs c.in_ok-needs.ensures.cases (λ x y is. is) in
+    rw (c.draft_grant.ensures, same) c.in_ok-from.ensures

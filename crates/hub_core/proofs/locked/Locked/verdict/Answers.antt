@@ -1,6 +1,12 @@
+use Rattle.std.proofs.Common.{subst}
+use Rattle.share_graph.specs.WellFormed.{IsWellFormed}
 use Rattle.hub_core.proofs.Revoking.{spares_if}
 use Rattle.hub_core.proofs.locked.Locked.verdict.Goals as goal
 
+pub returns-clause-formed : goal.returns-clause-formed
+returns-clause-formed g c = rw (← c.self.view_is) (subst IsWellFormed c.state.ensures.value c.state.ensures.formed)
+
 pub returns-clause-spared : goal.returns-clause-spared
 returns-clause-spared g c =
-    rw (← c.self.view_is) (spares_if c.self.inside.start c.self.inside.history.items c.self.inside.state c.self.invariant.0.replayed c.self.invariant.0.formed c.args.key.now c.verdict.result c.verdict.ensures.verdict)
+    let past = c.self.inside.history in
+    rw (← c.self.view_is) (spares_if past.start past.entries c.state.result.now c.state.ensures.value c.state.ensures.formed c.args.key.now c.verdict.result c.verdict.ensures.verdict)

@@ -1,4 +1,4 @@
-use Rattle.hub_core.proofs.Placing.{none_taken}
+use Rattle.hub_core.proofs.Placing.{judged_here, none_taken}
 use Rattle.hub_core.proofs.solo.SoloDeskDesk.verdict.Goals as goal
 
 pub returns-in_err-verdict-clause-none : goal.returns-in_err-verdict-clause-none
@@ -6,3 +6,7 @@ returns-in_err-verdict-clause-none g c = rw (← c.self.view_is) (none_taken _)
 
 pub returns-clause-none : goal.returns-clause-none
 returns-clause-none g c = rw (← c.self.view_is) (none_taken _)
+
+pub returns-clause-judged : goal.returns-clause-judged
+returns-clause-judged g c = rw (← c.self.view_is, c.entries.ensures.value)
+    (judged_here g.C.Law.SiteLaw.law c.self.inside.locked c.args.key.now c.in_ok-verdict.verdict c.in_ok-verdict.ensures.formed c.in_ok-verdict.ensures.verdict)

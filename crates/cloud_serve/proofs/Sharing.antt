@@ -1,0 +1,169 @@
+-- What a desk tells of a call of its pass.
+use Rattle.std.proofs.Common.{◌≡◌, ◌<◌, ◌≤◌, ◌+◌, ◌++◌, ℕ, Bool, true, false, List, [], ◌∷◌, Option, Some, None, Result, Ok, Err, length, refl, sym, ◌∙◌, ap, subst, arith, append_assoc, append-nil, length-append}
+use Rattle.std.specs.Prelude.{option_map, slice_get, nat_lt, if◌then◌else◌}
+use Rattle.std.proofs.lemmas.Bool.Decides.{nat_tests}
+use Rattle.lru.specs.LruCache.{LruCache}
+use mathlib.Core.List.{IsPrefix}
+use Rattle.host_base.specs.declared.key.Key.{Key}
+use Rattle.host_base.specs.declared.verdict.Verdict.{Verdict}
+use Rattle.share_graph.specs.declared.event.Event.{Event}
+use Rattle.share_graph.specs.declared.state.State.{State}
+use Rattle.share_graph.specs.History.{replay}
+use Rattle.site_caps.specs.Answering.{GivesText}
+use Rattle.site_caps.specs.Law.{Law}
+use Rattle.site_caps.specs.declared.fault.SiteFault.{SiteFault}
+use Rattle.desk_orders.specs.Answers.{IsAnswer}
+use Rattle.desk_orders.specs.Commands.{Asked}
+use Rattle.desk_orders.specs.Secrets.{DrawsAll}
+use Rattle.desk_orders.specs.declared.reply.OrderFault.{OrderFault}
+use Rattle.desk_orders.specs.declared.reply.OrderFault.TheVariants as fault
+use Rattle.desk_orders.specs.declared.reply.Reply.{Reply}
+use Rattle.hub_core.specs.Book.{Book, Later, TakesNone, Judged, IsCounted, Ordered}
+use Rattle.hub_core.specs.Wanting.{AnswersOrder, AnswersWanted, ShowsVerdict, faults_of}
+use Rattle.hub_core.specs.declared.shared.Told.{Told}
+use Rattle.hub_core.specs.declared.shared.Told.TheVariants as told
+use Rattle.hub_core.specs.declared.shared.Wanted.{Wanted}
+use Rattle.hub_core.specs.declared.shared.Wanted.TheVariants as wanted
+use Rattle.epoch_gate.specs.Counting.{AnsweredAt, counts_after, raised}
+use Rattle.epoch_gate.specs.Passes.{Passing, IsFirst}
+use Rattle.epoch_gate.specs.declared.book.Faults.{Faults}
+use Rattle.epoch_gate.specs.declared.fault_counts.FaultCounts.{FaultCounts}
+use Rattle.epoch_gate.specs.declared.kept.Kept.{Kept}
+use Rattle.cloud_serve.specs.Sharing.{book_by}
+
+draws_unknown : (drawn : List (List ℕ)) → DrawsAll None None drawn
+draws_unknown [] = refl
+draws_unknown (secret ∷ rest) = (None, λ old is. absurd (cc is), draws_unknown rest)
+
+prefix_length : (xs ys : List Event) → IsPrefix xs ys → length xs ≤ length ys
+prefix_length xs ys p = omega (arith, sym (ap length p.1) ∙ length-append xs p.0)
+
+raised_by : (n : ℕ) (b : Bool) → n ≤ (if b then n + 1 else n)
+raised_by n true = omega arith
+raised_by n false = omega arith
+
+-- a count doesn't fall
+raised_on : (n : ℕ) (b : Bool) → n ≤ raised n b
+raised_on n true = raised_by n (nat_lt n 18446744073709551615)
+raised_on n false = omega arith
+
+rose_by : (n : ℕ) (b : Bool) → nat_lt n 18446744073709551615 ≡ b → n < 18446744073709551615 → n < (if b then n + 1 else n)
+rose_by n true is less = omega arith
+rose_by n false is less = absurd (let not : 18446744073709551615 ≤ n = grind (arith, nat_tests) in omega (arith, not, less))
+
+rose_raised : (n : ℕ) → n < 18446744073709551615 → n < raised n true
+rose_raised n less = rose_by n (nat_lt n 18446744073709551615) refl less
+
+module _ (law : Law) (start : State) (old new : Passing Event Verdict) where
+  abbrev Here : Passing Event Verdict → Book
+  Here p = book_by law start p
+
+  later_by : (more : List Event) (faults : Faults) → new.seen ≡ old.seen ++ more → new.faults ≡ counts_after old.faults faults → Later (Here old) (Here new)
+  later_by more faults seen counts = record {
+    law = refl;
+    start = refl;
+    more = more;
+    seen = seen;
+    counts = record {
+      store = subst (λ (c : FaultCounts). old.faults.store ≤ c.store) (sym counts) (raised_on old.faults.store faults.store);
+      secrets = subst (λ (c : FaultCounts). old.faults.secrets ≤ c.secrets) (sym counts) (raised_on old.faults.secrets faults.secrets);
+      starts = subst (λ (c : FaultCounts). old.faults.starts ≤ c.starts) (sym counts) (raised_on old.faults.starts faults.starts);
+    };
+    stored = λ _. record { told = λ rows is. absurd (cc is) };
+  }
+
+  -- a call that counts nothing takes no command
+  pub none_taken : IsPrefix old.seen new.seen → new.orders ≡ old.orders → new.faults ≡ old.faults → TakesNone (Here old) (Here new)
+  none_taken begins orders faults = record {
+    later = record {
+      law = refl;
+      start = refl;
+      more = begins.0;
+      seen = sym begins.1;
+      counts = record {
+        store = omega (arith, ap (λ (c : FaultCounts). c.store) faults);
+        secrets = omega (arith, ap (λ (c : FaultCounts). c.secrets) faults);
+        starts = omega (arith, ap (λ (c : FaultCounts). c.starts) faults);
+      };
+      stored = λ _. record { told = λ rows is. absurd (cc is) };
+    };
+    accepted = orders;
+    undrawn = refl;
+    untold = record { starts = refl; stops = refl };
+  }
+
+  -- the verdict at the end of what is seen now
+  pub judged_now : (key : Key) (verdict : Verdict) (n : ℕ) → IsPrefix old.seen new.seen → n ≡ length new.seen → ShowsVerdict start new.seen key verdict → Judged (length old.seen) (Here new) key n verdict
+  judged_now key verdict n begins n_is shown = record {
+    before = new.seen;
+    rest = [];
+    seen = sym (append-nil new.seen);
+    place_is = n_is;
+    low_is = omega (arith, n_is, prefix_length old.seen new.seen begins);
+    formed = shown.0;
+    verdict_is = shown.1;
+  }
+
+  counted_by : (answer : Result Reply OrderFault) (faults : Faults) → faults ≡ faults_of answer → new.faults ≡ counts_after old.faults faults → IsCounted (Here old).holds (Here new).holds answer
+  counted_by (Err fault.Store) faults is counts = λ less. subst (λ (c : FaultCounts). old.faults.store < c.store) (sym (counts ∙ ap (counts_after old.faults) is)) (rose_raised old.faults.store less)
+  counted_by (Err fault.Secrets) faults is counts = λ less. subst (λ (c : FaultCounts). old.faults.secrets < c.secrets) (sym (counts ∙ ap (counts_after old.faults) is)) (rose_raised old.faults.secrets less)
+  counted_by (Err fault.Start) faults is counts = λ less. subst (λ (c : FaultCounts). old.faults.starts < c.starts) (sym (counts ∙ ap (counts_after old.faults) is)) (rose_raised old.faults.starts less)
+  counted_by (Err fault.Memory) faults is counts = tt
+  counted_by (Ok reply) faults is counts = tt
+
+  abbrev pub Given : ℕ → Wanted → Told → Type 0
+  Given place asked answer = (faults : Faults) × (new.faults ≡ counts_after old.faults faults)
+      × AnsweredAt old.seen new.seen old.orders new.orders place (λ before added. AnswersWanted law start before asked answer added faults)
+
+  -- an order that was answered at a place
+  pub ordered_at : (place : ℕ) (order : Asked) (answer : Result Reply OrderFault) → Given place (wanted.Order order) (told.Reply answer) → Ordered (Here old) (Here new) order place answer
+  ordered_at place order answer (faults, counts, (before, added, seen, begins, place_is, orders, lawful)) = record {
+    drawn = lawful.drawn;
+    added = added;
+    later = later_by (begins.0 ++ added) faults (seen ∙ ap (λ w. w ++ added) (sym begins.1) ∙ append_assoc old.seen begins.0 added) counts;
+    placed = record {
+      before = before;
+      rest = [];
+      seen = seen ∙ sym (append-nil (before ++ added));
+      place_is = place_is;
+      low_is = omega (arith, place_is, prefix_length old.seen before begins);
+      formed = lawful.formed;
+      found = lawful.found;
+      found_is = lawful.found_is;
+      lawful = subst (λ n. IsAnswer law (replay start before) n lawful.found order answer lawful.drawn added) (sym place_is) lawful.lawful;
+    };
+    accepted = orders;
+    draws = draws_unknown lawful.drawn;
+    spawned = record { starts = λ told is. absurd (cc is); stops = λ told is. absurd (cc is) };
+    counted = counted_by answer faults lawful.faults_are counts;
+  }
+
+  -- the same of what was told
+  pub ordered_from : (place : ℕ) (order : Asked) (answer : Result Reply OrderFault) (told' : Told) → told' ≡ told.Reply answer → Given place (wanted.Order order) told' → Ordered (Here old) (Here new) order place answer
+  ordered_from place order answer told' is given = ordered_at place order answer (subst (λ t. Given place (wanted.Order order) t) is given)
+
+  -- what a site gives, and that it takes no command
+  pub given_at : (place tag item : ℕ) (answer : Result (List ℕ) SiteFault) → Given place (wanted.Site tag item) (told.Site answer) → TakesNone (Here old) (Here new) × GivesText law tag item answer
+  given_at place tag item answer (faults, counts, (before, added, seen, begins, place_is, orders, (none, faults_are, gives))) = (
+    record {
+      later = later_by (begins.0 ++ added) faults (seen ∙ ap (λ w. w ++ added) (sym begins.1) ∙ append_assoc old.seen begins.0 added) counts;
+      accepted = omega (arith, orders, ap length none);
+      undrawn = refl;
+      untold = record { starts = refl; stops = refl };
+    },
+    gives,
+  )
+
+-- the view that is lent is that of the cache's first entry
+abbrev second_of : Option (ℕ × Verdict) → Verdict → Verdict
+second_of (Some p) verdict = p.1
+second_of None verdict = verdict
+
+module _ {X : Type 0} (now : X → Verdict) (cache : LruCache Key (Kept Verdict)) (n : ℕ) (rest : Verdict → Type 0) where
+  pub first_lent : (result : Option (ℕ × X)) (m : ℕ) (x : X) → IsFirst cache n rest → result ≡ Some (m, x)
+      → option_map {U = ℕ × Verdict} (λ r. (r.0, now r.1)) result ≡ option_map (λ e. (e.1.number, e.1.view)) (slice_get cache.entries 0) → rest (now x)
+  first_lent result m x (key, view, at, holds) is lent =
+      let mine : Option (ℕ × Verdict) = Some (m, now x) in
+      let theirs : Option (ℕ × Verdict) = Some (n, view) in
+      let same : mine ≡ theirs = sym (ap (λ (r : Option (ℕ × X)). option_map {U = ℕ × Verdict} (λ r. (r.0, now r.1)) r) is) ∙ lent ∙ ap (λ (o : Option (Key × Kept Verdict)). option_map {U = ℕ × Verdict} (λ e. (e.1.number, e.1.view)) o) at in
+      subst rest (sym (ap (λ (o : Option (ℕ × Verdict)). second_of o view) same)) holds

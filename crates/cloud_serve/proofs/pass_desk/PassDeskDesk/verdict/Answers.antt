@@ -1,0 +1,16 @@
+use Rattle.std.proofs.Common.{subst, sym}
+use Rattle.epoch_gate.specs.Books.{start_of}
+use Rattle.hub_core.specs.Wanting.{ShowsVerdict, blank}
+use Rattle.cloud_serve.proofs.Sharing.{judged_now, first_lent}
+use Rattle.cloud_serve.proofs.pass_desk.PassDeskDesk.verdict.Goals as goal
+
+pub returns-clause-judged : goal.returns-clause-judged
+returns-clause-judged g c =
+    let start = start_of blank g.N.Named.start in
+    let new = c.find.new.self in
+    let key = c.args.key.now in
+    let shown = c.in_ok-place.ensures.shown in
+    let verdict = first_lent (λ r. r.now) new.cache _ (λ v. ShowsVerdict start new.seen key v) c.newest.result _ _ shown.1 c.in-Some.is c.newest.ensures in
+    rw (← c.self.view_is) (
+    judged_now g.C.Law.SiteLaw.law start c.self.inside.pass new key _ _ c.find.ensures.seen shown.0
+    (subst (λ v. ShowsVerdict start new.seen key v) (sym c.in_ok-verdict_copy.ensures) verdict))

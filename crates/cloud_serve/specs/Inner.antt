@@ -1,0 +1,3 @@
+-- Aids for the contracts of private functions. No public contract stands on them.
+pub mod Taking
+pub mod Serving

@@ -1,0 +1,31 @@
+-- The grants that commands add.
+use Rattle.std.specs.Prelude.{List, Option, Some, None, false}
+use Rattle.host_base.specs.declared.digest.Digest.{Digest}
+use Rattle.host_base.specs.declared.ids.GrainId.{GrainId}
+use Rattle.perm_roles.specs.PermSet.{no_permissions}
+use Rattle.perm_roles.specs.declared.roles.Assignment.{Assignment}
+use Rattle.perm_roles.specs.declared.roles.Base.TheVariants as base
+use Rattle.share_graph.specs.declared.event.Event.TheVariants.{GrantAdded}
+use Rattle.share_graph.specs.declared.grants.Giver.{Giver}
+use Rattle.share_graph.specs.declared.grants.Grant.{Grant}
+use Rattle.share_graph.specs.declared.grants.Need.{Need}
+use Rattle.share_graph.specs.declared.grants.Target.{Target}
+use Rattle.share_graph.specs.declared.state.Tables.{Tables}
+use Rattle.desk_base.specs.Made.{next, made_grant}
+use Rattle.desk_base.specs.Steps.{Step, Makes, Plain, Drawn}
+
+-- all that a grant's source holds
+abbrev pub all_access : Assignment
+all_access = record { base = base.AllAccess; add = no_permissions; remove = no_permissions }
+
+-- a new grant isn't revoked
+abbrev pub new_grant : Tables → GrainId → Giver → Target → Assignment → List Need → Option Digest → Grant
+new_grant t n from to assignment needs digest =
+    record { num = record { 0 = next t.grants }; grain = n; giver = from; target = to; assignment = assignment; needs = needs; digest = digest; revoked = false }
+
+-- a grant is added, and the reply shows its number; one with a token has the digest of a secret
+abbrev pub grant_step : Tables → GrainId → Giver → Target → Assignment → List Need → Step
+grant_step t n from to assignment needs = Makes (Plain (GrantAdded (new_grant t n from to assignment needs None))) (made_grant t)
+
+abbrev pub token_step : Tables → GrainId → Giver → Target → Assignment → List Need → Step
+token_step t n from to assignment needs = Makes (Drawn λ d. GrantAdded (new_grant t n from to assignment needs (Some d))) (made_grant t)

@@ -1,0 +1,48 @@
+-- What may be chosen is one list, where the law of the sites has one answer.
+use Rattle.std.proofs.Common.{◌≡◌, ◌∙◌, ℕ, Bool, List, Contains, sym, subst, arith, inl, inr}
+use Rattle.std.proofs.lemmas.List.Elements.{All-contains}
+use Rattle.host_base.specs.declared.ids.GrainId.{GrainId}
+use Rattle.powerbox_match.specs.Descriptor.{DescriptorData}
+use Rattle.share_graph.specs.declared.desk.Caller.{Caller}
+use Rattle.share_graph.specs.declared.state.State.{State}
+use Rattle.share_graph.specs.Forms.{IsOne}
+use Rattle.share_graph.specs.WellFormed.{IsWellFormed}
+use Rattle.site_caps.specs.Law.{Law}
+use Rattle.site_caps.specs.Sites.{StandsBefore, IsSites}
+use Rattle.site_caps.specs.declared.offer.SiteOffer.{SiteOffer}
+use Rattle.saved_refs.proofs.Members.{one_list}
+use Rattle.saved_refs.proofs.OneList.{options_one_list}
+use Rattle.desk_orders.specs.declared.order.Command.{Command}
+use Rattle.desk_orders.specs.declared.order.Command.TheVariants as command
+use Rattle.desk_orders.specs.Sites.{AreListed, ListsBy, HasOneAnswer}
+
+apart : (p q : ℕ × SiteOffer) → StandsBefore p q → StandsBefore q p → ⊥
+apart p q (inl less) (inl more) = omega (arith, less, more)
+apart p q (inl less) (inr (same, after)) = omega (arith, less, same)
+apart p q (inr (same, before)) (inl more) = omega (arith, same, more)
+apart p q (inr (same, before)) (inr (again, after)) = omega (arith, before, after)
+
+module _ (law : Law) (one : HasOneAnswer law) (query : List DescriptorData) where
+  members : (admin other : Bool) → admin ≡ other → (xs ys : List (ℕ × SiteOffer)) → IsSites law.tags law.may_offer query admin xs → IsSites law.tags law.may_offer query other ys
+      → (z : ℕ × SiteOffer) → Contains xs z → Contains ys z
+  members admin other same xs ys p q (tag, offer) there =
+      let known : Contains law.tags tag = All-contains (λ (z : ℕ × SiteOffer). Contains law.tags z.0) xs (tag, offer) p.no_others there in
+      let (offers, may, just) = p.offered tag known in
+      let (others, also, has) = q.offered tag known in
+      let (among, shown) = (just offer).0 there in
+      (has offer).1 (subst (λ (list : List SiteOffer). Contains list offer) ((one tag query).one offers others may also) among, rw (← same) shown)
+
+  pub listed_one : (s : State) → IsWellFormed s → (who : Caller) (n : GrainId) → IsOne (AreListed law s who n query)
+  listed_one s formed who n = record {
+    one = λ xs ys (choices, told, are, (admin, is, sites), same) (others, heard, also, (other, too, more), again).
+        (let options : choices ≡ others = (options_one_list s formed who n query).one choices others are also in
+        let (account, caller, among) = are in
+        let mark : admin ≡ other = is account caller ∙ sym (too account caller) in
+        let offers : told ≡ heard = one_list StandsBefore apart told heard sites.ascends more.ascends (members admin other mark told heard sites more) (members other admin (sym mark) heard told more sites) in
+        cc);
+  }
+
+-- so it is of each command
+pub lists_one : (law : Law) → HasOneAnswer law → (s : State) → IsWellFormed s → (who : Caller) (c : Command) → IsOne (ListsBy law s who c)
+lists_one law one s formed who (command.Options n query) = listed_one law one query s formed who n
+lists_one law one s formed who _ = record { one = λ xs ys never nor. absurd never }

@@ -1,0 +1,4 @@
+pub mod History
+pub mod Books
+pub mod Counting
+pub mod Passes

@@ -1,0 +1,72 @@
+-- What the book of a hub tells of an order.
+use Rattle.std.proofs.Common.{◌≡◌, ◌≢◌, ◌≤◌, ◌+◌, ◌++◌, ◌⊎◌, inl, inr, ℕ, Bool, true, false, List, [], ◌∷◌, Option, Result, Ok, Err, length, refl, sym, ◌∙◌, ap, subst, arith, append_assoc, append-nil, length-append}
+use Rattle.share_graph.specs.declared.event.Event.{Event}
+use Rattle.share_graph.specs.declared.state.State.{State}
+use Rattle.share_graph.specs.History.{replay}
+use Rattle.share_graph.specs.WellFormed.{IsWellFormed}
+use Rattle.site_caps.specs.Law.{Law}
+use Rattle.desk_orders.specs.Answers.{IsAnswer}
+use Rattle.desk_orders.specs.Commands.{Asked}
+use Rattle.desk_orders.specs.declared.reply.OrderFault.{OrderFault}
+use Rattle.desk_orders.specs.declared.reply.OrderFault.TheVariants as fault
+use Rattle.desk_orders.specs.declared.reply.Reply.{Reply}
+use Rattle.desk_orders.specs.declared.reply.Reply.TheVariants as reply
+use Rattle.epoch_gate.specs.Books.{Acts, count}
+use Rattle.hub_core.specs.Book.{IsFoundFor, Ordered}
+use Rattle.hub_core.specs.Sharing.{Sharing, book_of}
+use Rattle.hub_core.specs.Wanting.{AnswersOrder, faults_of}
+
+same_front : (xs ys zs ws : List Event) → xs ++ ys ≡ zs ++ ws → length xs ≡ length zs → xs ≡ zs
+same_front [] ys [] ws is long = refl
+same_front [] ys (z ∷ zs) ws is long = absurd (omega (arith, long))
+same_front (x ∷ xs) ys [] ws is long = absurd (omega (arith, long))
+same_front (x ∷ xs) ys (z ∷ zs) ws is long = let rest = same_front xs ys zs ws (cc is) (omega (arith, long)) in cc (is, rest)
+
+empty : (xs : List Event) → length xs ≡ 0 → xs ≡ []
+empty [] is = refl
+empty (x ∷ xs) is = absurd (omega (arith, is))
+
+-- an order adds one entry at the most
+at_most_one : (law : Law) (s : State) (n : ℕ) (found : Option Bool) (order : Asked) (answer : Result Reply OrderFault) (drawn : List (List ℕ)) (added : List Event)
+    → IsAnswer law s n found order answer drawn added → length added ≤ 1
+at_most_one law s n found order (Ok (reply.Refused why)) drawn added is = omega (arith, ap length is.0)
+at_most_one law s n found order (Ok (reply.Made made text)) drawn added (changes, inl same) = omega (arith, ap length same.0)
+at_most_one law s n found order (Ok (reply.Made made text)) drawn added (changes, inr one) = omega (arith, ap length one.1)
+at_most_one law s n found order (Ok (reply.Options list)) drawn added is = omega (arith, ap length is.0)
+at_most_one law s n found order (Err fault.Secrets) drawn added is = omega (arith, ap length is.0)
+at_most_one law s n found order (Err fault.Start) drawn added is = omega (arith, ap length is.0)
+at_most_one law s n found order (Err fault.Store) drawn added is = omega (arith, ap length is.0)
+at_most_one law s n found order (Err fault.Memory) drawn added is = omega (arith, ap length is.0)
+
+count_is : (more : Bool) (added : List Event) → length added ≤ 1 → (more ≡ true → length added ≢ 0) → (more ≡ false → length added ≡ 0) → length added ≡ count more
+count_is true added few some none = let not = some refl in omega (arith, few, not)
+count_is false added few some none = none refl
+
+module _ (law : Law) (old new : Sharing) (order : Asked) (answer : Result Reply OrderFault) where
+  abbrev Here : Option Bool → List (List ℕ) → List Event → State → List Event → Type 0
+  Here found drawn added start before = IsWellFormed (replay start before) × IsFoundFor law (replay start before) order answer found
+      × IsAnswer law (replay start before) (length old.history) found order answer drawn added
+
+  abbrev Answers : List Event → Type 0
+  Answers added = AnswersOrder law (replay old.start old.history) (length old.history) order answer added (faults_of answer)
+
+  -- an order that was answered at the end of the history is answered so by the book
+  pub acts_by : (more : Bool) → (more ≡ true → length new.history ≢ length old.history) → (more ≡ false → length new.history ≡ length old.history)
+      → Ordered (book_of law old) (book_of law new) order (length old.history) answer → Acts old.history new.history more Answers
+  acts_by more grew stood o =
+      let p = o.placed in
+      let same : old.history ≡ p.before = same_front old.history o.later.more p.before (o.added ++ p.rest) (sym o.later.seen ∙ p.seen ∙ append_assoc p.before o.added p.rest) p.place_is in
+      let long : length new.history ≡ (length p.before + length o.added) + length p.rest =
+      ap length p.seen ∙ length-append (p.before ++ o.added) p.rest ∙ ap (λ (n : ℕ). n + length p.rest) (length-append p.before o.added) in
+      let none : p.rest ≡ [] = empty p.rest (omega (arith, long, o.accepted, p.place_is)) in
+      let entries : new.history ≡ old.history ++ o.added =
+      p.seen ∙ ap (λ (r : List Event). (p.before ++ o.added) ++ r) none ∙ append-nil (p.before ++ o.added) ∙ ap (λ (b : List Event). b ++ o.added) (sym same) in
+      let there : Here p.found o.drawn o.added new.start p.before = (p.formed, p.found_is, p.lawful) in
+      let here : Here p.found o.drawn o.added old.start old.history =
+      subst (λ (s : State). Here p.found o.drawn o.added s old.history) o.later.start (subst (λ (b : List Event). Here p.found o.drawn o.added new.start b) (sym same) there) in
+      let few : length o.added ≤ 1 = at_most_one law (replay old.start old.history) (length old.history) p.found order answer o.drawn o.added here.2 in (
+        o.added,
+        entries,
+        count_is more o.added few (λ is none. grew is (omega (arith, o.accepted, none))) (λ is. (let stands = stood is in omega (arith, o.accepted, stands))),
+        record { formed = here.0; found = p.found; drawn = o.drawn; found_is = here.1; lawful = here.2; faults_are = refl },
+      )

@@ -1,0 +1,11 @@
+use Rattle.std.proofs.Common.{arith}
+use Rattle.std.proofs.lemmas.Bool.Decides.{nat_tests}
+use Rattle.hub_core.proofs.BookOrders.{acts_by}
+use Rattle.hub_core.proofs.shared.answer.Goals as goal
+
+pub returns-clause-acts : goal.returns-clause-acts
+returns-clause-acts g c =
+    acts_by g.C.Law.SiteLaw.law c.args.locked.now c.order-answer.new.self c.args.order c.order-answer.result _
+    (λ is same. grind (arith, nat_tests, is, same, c.requires, c.entries.ensures.value))
+    (λ is. grind (arith, nat_tests, is, c.requires, c.entries.ensures.value))
+    c.order-answer.ensures.ordered

@@ -1,0 +1,61 @@
+-- What is wanted of a history that many threads share, and what is told of it.
+use Rattle.std.specs.Prelude.{◌≡◌, Bool, true, false, ℕ, List, [], Option, Result, Err, length}
+use Rattle.share_graph.specs.declared.event.Event.{Event}
+use Rattle.share_graph.specs.declared.state.State.{State}
+use Rattle.share_graph.specs.History.{replay}
+use Rattle.share_graph.specs.WellFormed.{IsWellFormed}
+use Rattle.host_base.specs.declared.key.Key.{Key}
+use Rattle.host_base.specs.declared.verdict.Verdict.{Verdict}
+use Rattle.session_table.specs.Verdict.{IsVerdict}
+use Rattle.site_caps.specs.Answering.{GivesText}
+use Rattle.site_caps.specs.Law.{Law}
+use Rattle.desk_orders.specs.Answers.{IsAnswer}
+use Rattle.desk_orders.specs.Commands.{Asked}
+use Rattle.desk_orders.specs.declared.reply.OrderFault.{OrderFault}
+use Rattle.desk_orders.specs.declared.reply.OrderFault.TheVariants as fault
+use Rattle.desk_orders.specs.declared.reply.Reply.{Reply}
+use Rattle.epoch_gate.specs.declared.book.Faults.{Faults}
+use Rattle.hub_core.specs.Book.{IsFoundFor}
+use Rattle.hub_core.specs.declared.shared.Told.{Told}
+use Rattle.hub_core.specs.declared.shared.Told.TheVariants as told
+use Rattle.hub_core.specs.declared.shared.Wanted.{Wanted}
+use Rattle.hub_core.specs.declared.shared.Wanted.TheVariants as wanted
+
+-- a state without rows
+abbrev pub blank : State
+blank = record { tables = record { accounts = []; apps = []; grains = []; grants = []; saved = [] }; sessions = []; runs = []; handles = [] }
+
+abbrev pub no_faults : Faults
+no_faults = record { store = false; secrets = false; starts = false }
+
+-- the fault that an answer tells
+abbrev pub faults_of : Result Reply OrderFault → Faults
+faults_of (Err fault.Store) = record { store = true; secrets = false; starts = false }
+faults_of (Err fault.Secrets) = record { store = false; secrets = true; starts = false }
+faults_of (Err fault.Start) = record { store = false; secrets = false; starts = true }
+faults_of _ = no_faults
+
+-- the verdict on a key at the end of a history, whose state is well formed
+abbrev pub ShowsVerdict : State → List Event → Key → Verdict → Type 0
+ShowsVerdict start history key verdict = IsWellFormed (replay start history) × IsVerdict (replay start history) key verdict
+
+-- An order is answered lawfully at a state with n entries, with what the sites have of what it chooses and with secrets
+-- that were drawn for it; it adds these entries, and met the fault that its answer
+-- tells. The state is well formed.
+pub record AnswersOrder (law : Law) (s : State) (n : ℕ) (order : Asked) (answer : Result Reply OrderFault)
+    (added : List Event) (faults : Faults) : Type 0 where
+  pub formed : IsWellFormed s
+  pub found : Option Bool
+  pub drawn : List (List ℕ)
+  pub found_is : IsFoundFor law s order answer found
+  pub lawful : IsAnswer law s n found order answer drawn added
+  pub faults_are : faults ≡ faults_of answer
+
+-- WHAT IS TOLD of what is wanted, by what a history began with and its entries before: an order's answer, or what a site
+-- gives, which adds nothing.
+abbrev pub AnswersWanted : Law → State → List Event → Wanted → Told → List Event → Faults → Type 0
+AnswersWanted law start before (wanted.Order order) (told.Reply answer) added faults =
+    AnswersOrder law (replay start before) (length before) order answer added faults
+AnswersWanted law start before (wanted.Site tag item) (told.Site answer) added faults =
+    (added ≡ []) × (faults ≡ no_faults) × GivesText law tag item answer
+AnswersWanted law start before _ _ added faults = ⊥
