@@ -36,30 +36,56 @@ pub struct Clues {
     pub third: Option<u64>,
 }
 
+/// How a row stands in an index.
+#[derive(Clone, Copy, Debug, PartialEq, Eq)]
+pub struct Standing {
+    /// The clues of its keys.
+    pub clues: Clues,
+    /// Its mark, if it has one.
+    pub mark: Option<u64>,
+    /// Under which row it stands, and whether it is flagged.
+    pub link: Link,
+}
+
 /// A row that is found by its keys, counted by its mark, and followed by its link.
 pub trait Keyed {
-    ghost use Rattle.std.specs.Prelude.{◌≡◌, ℕ, Option};
+    ghost use Rattle.std.specs.Prelude.{◌≡◌, ℕ, Option, None, false};
     ghost use Rattle.row_index.specs.declared.clues.Clues.{Clues};
     ghost use Rattle.row_index.specs.declared.ways.Link.{Link};
 
     // Its clues. Equal rows have equal ones.
     ghost clues_of: { Self → Clues };
 
-    // Its mark, if it has one.
-    ghost mark_of: { Self → Option ℕ };
+    // Its mark, if it has one: none, unless its impl says which.
+    ghost mark_of: { Self → Option ℕ } = { λ _. None };
 
-    // How it stands among the others.
-    ghost link_of: { Self → Link };
+    // How it stands among the others: under none, unless its impl says how.
+    ghost link_of: { Self → Link } = { λ _. record { parent = None; flagged = false } };
+
+    /// Its clues, its mark and its link.
+    fn standing(&self) -> Standing
+        ensures clues { result.clues ≡ clues_of self.now }
+        ensures mark { result.mark ≡ mark_of self.now }
+        ensures link { result.link ≡ link_of self.now };
 
     /// The clues of its keys.
-    fn clues(&self) -> Clues
-        ensures { result ≡ clues_of self.now };
+    final fn clues(&self) -> Clues
+        ensures { result ≡ clues_of self.now }
+    {
+        self.standing().clues
+    }
 
     /// Its mark, if it has one.
-    fn mark(&self) -> Option<u64>
-        ensures { result ≡ mark_of self.now };
+    final fn mark(&self) -> Option<u64>
+        ensures { result ≡ mark_of self.now }
+    {
+        self.standing().mark
+    }
 
     /// Under which row it stands, and whether it is flagged.
-    fn link(&self) -> Link
-        ensures { result ≡ link_of self.now };
+    final fn link(&self) -> Link
+        ensures { result ≡ link_of self.now }
+    {
+        self.standing().link
+    }
 }

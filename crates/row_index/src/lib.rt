@@ -8,7 +8,7 @@ mod marks;
 mod ways;
 
 pub use candidates::Candidates;
-pub use clues::{Clues, Keyed, number_clue, text_clue};
+pub use clues::{Clues, Keyed, Standing, number_clue, text_clue};
 pub use index::{Index, Slot};
 pub use marks::Marks;
 pub use ways::{Link, Way, Ways};

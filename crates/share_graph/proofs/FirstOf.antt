@@ -3,6 +3,7 @@ use Rattle.std.proofs.Common.{◌≡◌, ◌++◌, ◌<◌, ℕ, zero, suc, List
 use Rattle.std.specs.List.{filter_map, AllWithin, HoldsAt}
 use Rattle.std.proofs.lemmas.List.{map-append}
 use Rattle.std.proofs.lemmas.List.Elements.{Contains-append_cases, Contains-append_right, filter_map-append}
+use Rattle.std.proofs.lemmas.Option.{same_Some}
 use Rattle.share_graph.specs.Keys.{IsFirstOf, IsOneOf, IsNoneOf}
 use Rattle.share_graph.proofs.Contained.{contains_at, only}
 use Rattle.share_graph.proofs.Unused.{unmapped, unfiltered, in_both}
@@ -50,6 +51,24 @@ pub found_one : {X A : Type 0} (P : X → Type 0) (now : A → X) (rows : List X
     → MatchOption r (IsNoneOf rows P) (λ x. IsFirstOf rows P (now x)) → MatchOption r (IsNoneOf rows P) (λ x. IsOneOf rows P (now x))
 found_one P now rows None none = none
 found_one P now rows (Some x) first = one_of rows P (now x) first
+
+-- by a key that each row has, from where a row may have none
+pub found_by : {X Y A : Type 0} (key : X → Y) (k : Y) (now : A → X) (rows : List X) (r : Option A)
+    → MatchOption r (IsNoneOf rows (λ x. Some (key x) ≡ Some k)) (λ x. IsFirstOf rows (λ y. Some (key y) ≡ Some k) (now x))
+    → MatchOption r (IsNoneOf rows (λ x. key x ≡ k)) (λ x. IsFirstOf rows (λ y. key y ≡ k) (now x))
+found_by key k now rows None none = λ x there so. none x there (ap (λ y. Some y) so)
+found_by key k now rows (Some x) first = record {
+  before = first.before;
+  after = first.after;
+  listed = first.listed;
+  is = same_Some (key (now x)) k first.is;
+  earlier = λ other there so. first.earlier other there (ap (λ y. Some y) so);
+}
+
+pub one_by : {X Y A : Type 0} (key : X → Y) (k : Y) (now : A → X) (rows : List X) (r : Option A)
+    → MatchOption r (IsNoneOf rows (λ x. Some (key x) ≡ Some k)) (λ x. IsFirstOf rows (λ y. Some (key y) ≡ Some k) (now x))
+    → MatchOption r (IsNoneOf rows (λ x. key x ≡ k)) (λ x. IsOneOf rows (λ y. key y ≡ k) (now x))
+one_by key k now rows r found = found_one (λ x. key x ≡ k) now rows r (found_by key k now rows r found)
 
 -- the first of the rows is made into the first of what they are made into
 pub first_mapped : {X Y : Type 0} (f : X → Y) (P : X → Type 0) (Q : Y → Type 0) (rows : List X) (x : X) (y : Y)

@@ -6,7 +6,7 @@ use Rattle.std.proofs.lemmas.List.Elements.{Contains-append_cases, Contains-appe
 use Rattle.std.proofs.lemmas.Option.{slice_get-map}
 use Rattle.host_base.specs.declared.digest.Digest.{Digest}
 use Rattle.share_graph.specs.declared.state.State.{State}
-use Rattle.share_graph.specs.Keys.{IsNoneOf, HasLogin, HasToken, HasReference, HasKey, HasRunToken}
+use Rattle.share_graph.specs.Keys.{IsNoneOf, HasToken}
 use Rattle.share_graph.specs.Kinds.{KnownDigest, IsUnused}
 use Rattle.share_graph.proofs.Apart.{logins, known_token, token_of, tokens, references, keys, run_tokens}
 use Rattle.share_graph.proofs.Contained.{contains_at, only, place_of}
@@ -42,28 +42,28 @@ token_by num None e made = cc made
 token_by num (Some d) e made = let same : known_token num d ≡ e = cc in ap (λ (k : KnownDigest). Some k.digest) same
 
 module _ (s : State) (d : Digest) where
-  pub in_logins : IsNoneOf s.tables.accounts (HasLogin d) → (e : KnownDigest) → Contains (logins s) e → e.digest ≡ d → ⊥
-  in_logins none e listed same = let (x, there, is) = unmapped _ s.tables.accounts e listed in none x there (ap (λ (k : KnownDigest). k.digest) is ∙ same)
+  pub in_logins : IsNoneOf s.tables.accounts (λ row. Some row.login ≡ Some d) → (e : KnownDigest) → Contains (logins s) e → e.digest ≡ d → ⊥
+  in_logins none e listed same = let (x, there, is) = unmapped _ s.tables.accounts e listed in none x there (ap (λ (k : KnownDigest). Some k.digest) is ∙ ap (λ (y : Digest). Some y) same)
 
   pub in_tokens : IsNoneOf s.tables.grants (HasToken d) → (e : KnownDigest) → Contains (tokens s) e → e.digest ≡ d → ⊥
   in_tokens none e listed same =
       let (x, there, is) = unfiltered token_of s.tables.grants e listed in
       none x there (token_by x.num.0 x.digest e is ∙ ap (λ (y : Digest). Some y) same)
 
-  pub in_references : IsNoneOf s.tables.saved (HasReference d) → (e : KnownDigest) → Contains (references s) e → e.digest ≡ d → ⊥
-  in_references none e listed same = let (x, there, is) = unmapped _ s.tables.saved e listed in none x there (ap (λ (k : KnownDigest). k.digest) is ∙ same)
+  pub in_references : IsNoneOf s.tables.saved (λ row. Some row.digest ≡ Some d) → (e : KnownDigest) → Contains (references s) e → e.digest ≡ d → ⊥
+  in_references none e listed same = let (x, there, is) = unmapped _ s.tables.saved e listed in none x there (ap (λ (k : KnownDigest). Some k.digest) is ∙ ap (λ (y : Digest). Some y) same)
 
-  pub in_keys : IsNoneOf s.sessions (HasKey d) → (e : KnownDigest) → Contains (keys s) e → e.digest ≡ d → ⊥
-  in_keys none e listed same = let (x, there, is) = unmapped _ s.sessions e listed in none x there (ap (λ (k : KnownDigest). k.digest) is ∙ same)
+  pub in_keys : IsNoneOf s.sessions (λ row. Some row.digest ≡ Some d) → (e : KnownDigest) → Contains (keys s) e → e.digest ≡ d → ⊥
+  in_keys none e listed same = let (x, there, is) = unmapped _ s.sessions e listed in none x there (ap (λ (k : KnownDigest). Some k.digest) is ∙ ap (λ (y : Digest). Some y) same)
 
-  pub in_run_tokens : IsNoneOf s.runs (HasRunToken d) → (e : KnownDigest) → Contains (run_tokens s) e → e.digest ≡ d → ⊥
-  in_run_tokens none e listed same = let (x, there, is) = unmapped _ s.runs e listed in none x there (ap (λ (k : KnownDigest). k.digest) is ∙ same)
+  pub in_run_tokens : IsNoneOf s.runs (λ row. Some row.digest ≡ Some d) → (e : KnownDigest) → Contains (run_tokens s) e → e.digest ≡ d → ⊥
+  in_run_tokens none e listed same = let (x, there, is) = unmapped _ s.runs e listed in none x there (ap (λ (k : KnownDigest). Some k.digest) is ∙ ap (λ (y : Digest). Some y) same)
 
 -- what is in neither of two lists is in neither after the other
 pub in_both : {X : Type 0} (P : X → Type 0) (xs ys : List X) → IsNoneOf xs P → IsNoneOf ys P → IsNoneOf (xs ++ ys) P
 in_both P xs ys first second x listed is = elim (Contains-append_cases xs ys x listed) [ inl here ↦ first x here is | inr later ↦ second x later is ]
 
-pub unused : (s : State) (d : Digest) → IsNoneOf s.tables.accounts (HasLogin d) → IsNoneOf s.tables.grants (HasToken d) → IsNoneOf s.tables.saved (HasReference d) → IsNoneOf s.sessions (HasKey d) → IsNoneOf s.runs (HasRunToken d) → IsUnused s d
+pub unused : (s : State) (d : Digest) → IsNoneOf s.tables.accounts (λ row. Some row.login ≡ Some d) → IsNoneOf s.tables.grants (HasToken d) → IsNoneOf s.tables.saved (λ row. Some row.digest ≡ Some d) → IsNoneOf s.sessions (λ row. Some row.digest ≡ Some d) → IsNoneOf s.runs (λ row. Some row.digest ≡ Some d) → IsUnused s d
 unused s d no_login no_token no_reference no_key no_run_token k n known =
     let P : KnownDigest → Type 0 = λ e. e.digest ≡ d in
     in_both P (logins s ++ tokens s ++ references s ++ keys s) (run_tokens s)

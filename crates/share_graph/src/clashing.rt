@@ -1,8 +1,8 @@
 ghost use Rattle.std.specs.Prelude.{IfSome, MatchOption};
 ghost use Rattle.share_graph.specs.Kinds.{HasDigest, IsFirstWith, IsUnused};
 
+use crate::digests::first_with;
 use crate::fault::Kind;
-use crate::keys::{first_key, first_login, first_reference, first_run_token, first_token};
 use crate::state::State;
 use host_base::Digest;
 
@@ -13,19 +13,19 @@ pub fn clash(state: &State, digest: &Digest) -> Option<(Kind, u64)>
         HasDigest state.now digest.now row.0 row.1) }
     ensures first { IfSome result (λ row. IsFirstWith state.now digest.now row.0 row.1) }
 {
-    if let Some(account) = first_login(&state.tables.accounts, digest) {
+    if let Some(account) = first_with(&state.tables.accounts, digest) {
         return Some((Kind::Account, u64::from(account.num.0)));
     }
-    if let Some(grant) = first_token(&state.tables.grants, digest) {
+    if let Some(grant) = first_with(&state.tables.grants, digest) {
         return Some((Kind::Grant, u64::from(grant.num.0)));
     }
-    if let Some(saved) = first_reference(&state.tables.saved, digest) {
+    if let Some(saved) = first_with(&state.tables.saved, digest) {
         return Some((Kind::Saved, u64::from(saved.num.0)));
     }
-    if let Some(session) = first_key(&state.sessions, digest) {
+    if let Some(session) = first_with(&state.sessions, digest) {
         return Some((Kind::Session, u64::from(session.num.0)));
     }
-    if let Some(run) = first_run_token(&state.runs, digest) {
+    if let Some(run) = first_with(&state.runs, digest) {
         return Some((Kind::Run, run.num.0));
     }
     None

@@ -7,7 +7,7 @@ use crate::grants::{Giver, Grant, Target};
 use crate::rows::{Account, App, Grain, Saved};
 use crate::sessions::{Handle, Root, Run, Session};
 use host_base::{AccountId, Digest, GrainId, GrantId, RunId};
-use row_index::{Clues, Keyed, Link, number_clue, text_clue};
+use row_index::{Clues, Keyed, Link, Standing, number_clue, text_clue};
 
 // What two numbers of a key are.
 const LIVE_RUN: u64 = 1;
@@ -87,93 +87,76 @@ fn no_link() -> Link
     }
 }
 
+// A row that has no mark, and stands under none.
+fn found_by(clues: Clues) -> Standing
+    ensures clues { result.clues ≡ clues }
+    ensures mark { result.mark ≡ None }
+    ensures link { result.link ≡ the.no_link }
+{
+    Standing {
+        clues,
+        mark: None,
+        link: no_link(),
+    }
+}
+
 impl Keyed for Account {
     ghost clues_of = { the.account_clues };
 
-    ghost mark_of = { λ row. None };
-
-    ghost link_of = { λ row. the.no_link };
-
-    fn clues(&self) -> Clues {
-        Clues {
+    fn standing(&self) -> Standing {
+        found_by(Clues {
             first: Some(digest_clue(&self.login)),
             second: Some(text_clue(self.handle.as_str().as_bytes())),
             third: None,
-        }
-    }
-
-    fn mark(&self) -> Option<u64> {
-        None
-    }
-
-    fn link(&self) -> Link {
-        no_link()
+        })
     }
 }
 
 impl Keyed for App {
     ghost clues_of = { λ app. the.no_clues };
 
-    ghost mark_of = { λ row. None };
-
-    ghost link_of = { λ row. the.no_link };
-
-    fn clues(&self) -> Clues {
-        no_clues()
-    }
-
-    fn mark(&self) -> Option<u64> {
-        None
-    }
-
-    fn link(&self) -> Link {
-        no_link()
+    fn standing(&self) -> Standing {
+        found_by(no_clues())
     }
 }
 
 impl Keyed for Grain {
     ghost clues_of = { λ grain. the.no_clues };
 
-    ghost mark_of = { λ row. None };
-
-    ghost link_of = { λ row. the.no_link };
-
-    fn clues(&self) -> Clues {
-        no_clues()
+    fn standing(&self) -> Standing {
+        found_by(no_clues())
     }
+}
 
-    fn mark(&self) -> Option<u64> {
-        None
-    }
+impl Keyed for Saved {
+    ghost clues_of = { the.saved_clues };
 
-    fn link(&self) -> Link {
-        no_link()
+    fn standing(&self) -> Standing {
+        found_by(Clues {
+            first: Some(digest_clue(&self.digest)),
+            second: None,
+            third: None,
+        })
     }
 }
 
 impl Keyed for Grant {
     ghost clues_of = { the.grant_clues };
 
-    ghost mark_of = { λ row. None };
-
     ghost link_of = { the.grant_link };
 
-    fn clues(&self) -> Clues {
-        Clues {
-            first: self.digest.map(|digest| digest_clue(&digest)),
-            second: share_of(self),
-            third: given_of(self.giver),
-        }
-    }
-
-    fn mark(&self) -> Option<u64> {
-        None
-    }
-
-    fn link(&self) -> Link {
-        Link {
-            parent: parent_of(self.giver),
-            flagged: is_for_sharing(self.target),
+    fn standing(&self) -> Standing {
+        Standing {
+            clues: Clues {
+                first: self.digest.map(|digest| digest_clue(&digest)),
+                second: share_of(self),
+                third: given_of(self.giver),
+            },
+            mark: None,
+            link: Link {
+                parent: parent_of(self.giver),
+                flagged: is_for_sharing(self.target),
+            },
         }
     }
 }
@@ -217,67 +200,33 @@ pub(crate) fn is_for_sharing(target: Target) -> bool
     }
 }
 
-impl Keyed for Saved {
-    ghost clues_of = { the.saved_clues };
-
-    ghost mark_of = { λ row. None };
-
-    ghost link_of = { λ row. the.no_link };
-
-    fn clues(&self) -> Clues {
-        Clues {
-            first: Some(digest_clue(&self.digest)),
-            second: None,
-            third: None,
-        }
-    }
-
-    fn mark(&self) -> Option<u64> {
-        None
-    }
-
-    fn link(&self) -> Link {
-        no_link()
-    }
-}
-
 impl Keyed for Session {
     ghost clues_of = { the.session_clues };
 
     ghost mark_of = { the.session_mark };
 
-    ghost link_of = { λ row. the.no_link };
-
-    fn clues(&self) -> Clues {
-        Clues {
-            first: Some(digest_clue(&self.digest)),
-            second: None,
-            third: None,
+    fn standing(&self) -> Standing {
+        Standing {
+            clues: Clues {
+                first: Some(digest_clue(&self.digest)),
+                second: None,
+                third: None,
+            },
+            mark: if self.closed {
+                None
+            } else {
+                Some(root_mark(self.root))
+            },
+            link: no_link(),
         }
-    }
-
-    fn mark(&self) -> Option<u64> {
-        if self.closed {
-            None
-        } else {
-            Some(root_mark(self.root))
-        }
-    }
-
-    fn link(&self) -> Link {
-        no_link()
     }
 }
 
 impl Keyed for Run {
     ghost clues_of = { the.run_clues };
 
-    ghost mark_of = { λ row. None };
-
-    ghost link_of = { λ row. the.no_link };
-
-    fn clues(&self) -> Clues {
-        Clues {
+    fn standing(&self) -> Standing {
+        found_by(Clues {
             first: Some(digest_clue(&self.digest)),
             second: if self.stopped {
                 None
@@ -285,15 +234,7 @@ impl Keyed for Run {
                 Some(live_clue(self.grain))
             },
             third: None,
-        }
-    }
-
-    fn mark(&self) -> Option<u64> {
-        None
-    }
-
-    fn link(&self) -> Link {
-        no_link()
+        })
     }
 }
 
@@ -302,21 +243,15 @@ impl Keyed for Handle {
 
     ghost mark_of = { the.handle_mark };
 
-    ghost link_of = { λ row. the.no_link };
-
-    fn clues(&self) -> Clues {
-        Clues {
-            first: Some(handle_clue(self.run, self.num)),
-            second: Some(held_clue(self.run, self.grant)),
-            third: None,
+    fn standing(&self) -> Standing {
+        Standing {
+            clues: Clues {
+                first: Some(handle_clue(self.run, self.num)),
+                second: Some(held_clue(self.run, self.grant)),
+                third: None,
+            },
+            mark: Some(self.run.0),
+            link: no_link(),
         }
-    }
-
-    fn mark(&self) -> Option<u64> {
-        Some(self.run.0)
-    }
-
-    fn link(&self) -> Link {
-        no_link()
     }
 }

@@ -4,6 +4,7 @@
 mod asking;
 mod clashing;
 mod desk;
+mod digests;
 mod event;
 mod facts;
 mod fault;
@@ -25,6 +26,7 @@ mod ways;
 pub use asking::{app_of, is_admin, is_bearer, is_enabled, is_kept, is_node, may_receive};
 pub use clashing::clash;
 pub use desk::{Caller, DeskFault, Made, Offer};
+pub use digests::Digested;
 pub use event::Event;
 pub use facts::{Fact, Node};
 pub use fault::{GraphFault, Kind};

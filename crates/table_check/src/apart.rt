@@ -4,41 +4,26 @@ ghost use Rattle.table_check.specs.Apart.{HasNoOther, IsApart};
 
 use crate::numbering::Numbered;
 use host_base::Digest;
-use share_graph::{Account, Grant, Kind, Run, Saved, Session, State};
+use share_graph::{Account, Digested, Grant, Kind, Run, Saved, Session, State};
 
 /// A row of one kind that may have a digest.
-trait Keyed: Numbered {
-    ghost use Rattle.std.specs.Prelude.{Option};
-    ghost use Rattle.host_base.specs.declared.digest.Digest.{Digest};
+trait Keyed: Numbered + Digested {
     ghost use Rattle.share_graph.specs.declared.fault.Kind.{Kind};
 
     ghost kind_of: { Self → Kind };
 
-    ghost digest_of: { Self → Option Digest };
-
     /// The kind of the row.
     fn kind(&self) -> Kind
         ensures { result ≡ kind_of self.now };
-
-    /// The digest of the row, if it has one.
-    fn digest(&self) -> Option<Digest>
-        ensures { result ≡ digest_of self.now };
 }
 
 impl Keyed for Account {
-    ghost use Rattle.std.specs.Prelude.{Some};
     ghost use Rattle.share_graph.specs.declared.fault.Kind.TheVariants as kind;
 
     ghost kind_of = { λ row. kind.Account };
 
-    ghost digest_of = { λ row. Some row.login };
-
     fn kind(&self) -> Kind {
         Kind::Account
-    }
-
-    fn digest(&self) -> Option<Digest> {
-        Some(self.login)
     }
 }
 
@@ -47,65 +32,38 @@ impl Keyed for Grant {
 
     ghost kind_of = { λ row. kind.Grant };
 
-    ghost digest_of = { λ row. row.digest };
-
     fn kind(&self) -> Kind {
         Kind::Grant
-    }
-
-    fn digest(&self) -> Option<Digest> {
-        self.digest
     }
 }
 
 impl Keyed for Saved {
-    ghost use Rattle.std.specs.Prelude.{Some};
     ghost use Rattle.share_graph.specs.declared.fault.Kind.TheVariants as kind;
 
     ghost kind_of = { λ row. kind.Saved };
 
-    ghost digest_of = { λ row. Some row.digest };
-
     fn kind(&self) -> Kind {
         Kind::Saved
-    }
-
-    fn digest(&self) -> Option<Digest> {
-        Some(self.digest)
     }
 }
 
 impl Keyed for Session {
-    ghost use Rattle.std.specs.Prelude.{Some};
     ghost use Rattle.share_graph.specs.declared.fault.Kind.TheVariants as kind;
 
     ghost kind_of = { λ row. kind.Session };
 
-    ghost digest_of = { λ row. Some row.digest };
-
     fn kind(&self) -> Kind {
         Kind::Session
-    }
-
-    fn digest(&self) -> Option<Digest> {
-        Some(self.digest)
     }
 }
 
 impl Keyed for Run {
-    ghost use Rattle.std.specs.Prelude.{Some};
     ghost use Rattle.share_graph.specs.declared.fault.Kind.TheVariants as kind;
 
     ghost kind_of = { λ row. kind.Run };
 
-    ghost digest_of = { λ row. Some row.digest };
-
     fn kind(&self) -> Kind {
         Kind::Run
-    }
-
-    fn digest(&self) -> Option<Digest> {
-        Some(self.digest)
     }
 }
 

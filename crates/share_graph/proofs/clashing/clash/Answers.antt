@@ -23,32 +23,32 @@ returns-in-Some c =
     let first = numbered c.args.state.now c.args.digest.now kind.Account _ _ num (login_first c.args.state.now c.args.digest.now row c.in-Some.ensures) in
     record { found = has c.args.state.now c.args.digest.now kind.Account _ first; first = first }
 
-pub returns-in-Some-first_token : goal.returns-in-Some-first_token
-returns-in-Some-first_token c =
-    let row = c.in-Some-first_token.grant.now in
-    let num : c.from-in-Some-first_token.result ≡ row.num.0 = search rules in
-    let first = numbered c.args.state.now c.args.digest.now kind.Grant _ _ num (token_first c.args.state.now c.args.digest.now (search rules) row c.in-Some-first_token.ensures) in
+pub returns-in-Some-first_with : goal.returns-in-Some-first_with
+returns-in-Some-first_with c =
+    let row = c.in-Some-first_with.grant.now in
+    let num : c.from-in-Some-first_with.result ≡ row.num.0 = search rules in
+    let first = numbered c.args.state.now c.args.digest.now kind.Grant _ _ num (token_first c.args.state.now c.args.digest.now c.in_default.ensures row c.in-Some-first_with.ensures) in
     record { found = has c.args.state.now c.args.digest.now kind.Grant _ first; first = first }
 
-pub returns-in-Some-first_reference : goal.returns-in-Some-first_reference
-returns-in-Some-first_reference c =
-    let row = c.in-Some-first_reference.saved.now in
-    let num : c.from-in-Some-first_reference.result ≡ row.num.0 = search rules in
-    let first = numbered c.args.state.now c.args.digest.now kind.Saved _ _ num (reference_first c.args.state.now c.args.digest.now (search rules) (search rules) row c.in-Some-first_reference.ensures) in
+pub returns-in-Some-first_with-2 : goal.returns-in-Some-first_with-2
+returns-in-Some-first_with-2 c =
+    let row = c.in-Some-first_with-2.saved.now in
+    let num : c.from-in-Some-first_with-2.result ≡ row.num.0 = search rules in
+    let first = numbered c.args.state.now c.args.digest.now kind.Saved _ _ num (reference_first c.args.state.now c.args.digest.now c.in_default.ensures c.in_default-first_with.ensures row c.in-Some-first_with-2.ensures) in
     record { found = has c.args.state.now c.args.digest.now kind.Saved _ first; first = first }
 
-pub returns-in-Some-first_key : goal.returns-in-Some-first_key
-returns-in-Some-first_key c =
-    let row = c.in-Some-first_key.session.now in
-    let num : c.from-in-Some-first_key.result ≡ row.num.0 = search rules in
-    let first = numbered c.args.state.now c.args.digest.now kind.Session _ _ num (key_first c.args.state.now c.args.digest.now (search rules) (search rules) (search rules) row c.in-Some-first_key.ensures) in
+pub returns-in-Some-first_with-3 : goal.returns-in-Some-first_with-3
+returns-in-Some-first_with-3 c =
+    let row = c.in-Some-first_with-3.session.now in
+    let num : c.from-in-Some-first_with-3.result ≡ row.num.0 = search rules in
+    let first = numbered c.args.state.now c.args.digest.now kind.Session _ _ num (key_first c.args.state.now c.args.digest.now c.in_default.ensures c.in_default-first_with.ensures c.in_default-first_with-2.ensures row c.in-Some-first_with-3.ensures) in
     record { found = has c.args.state.now c.args.digest.now kind.Session _ first; first = first }
 
-pub returns-in-Some-first_run_token : goal.returns-in-Some-first_run_token
-returns-in-Some-first_run_token c =
-    let row = c.in-Some-first_run_token.run'.now in
-    let first = run_token_first c.args.state.now c.args.digest.now (search rules) (search rules) (search rules) (search rules) row c.in-Some-first_run_token.ensures in
+pub returns-in-Some-first_with-4 : goal.returns-in-Some-first_with-4
+returns-in-Some-first_with-4 c =
+    let row = c.in-Some-first_with-4.run'.now in
+    let first = run_token_first c.args.state.now c.args.digest.now c.in_default.ensures c.in_default-first_with.ensures c.in_default-first_with-2.ensures c.in_default-first_with-3.ensures row c.in-Some-first_with-4.ensures in
     record { found = has c.args.state.now c.args.digest.now kind.Run _ first; first = first }
 
 pub returns-clause-found : goal.returns-clause-found
-returns-clause-found c = unused c.args.state.now c.args.digest.now c.in_default.ensures c.in_default-first_token.ensures c.in_default-first_reference.ensures c.in_default-first_key.ensures c.in_default-first_run_token.ensures
+returns-clause-found c = unused c.args.state.now c.args.digest.now c.in_default.ensures c.in_default-first_with.ensures c.in_default-first_with-2.ensures c.in_default-first_with-3.ensures c.in_default-first_with-4.ensures

@@ -1,6 +1,6 @@
-use Rattle.share_graph.specs.Keys.{HasRunToken}
-use Rattle.share_graph.proofs.FirstOf.{found_one}
+use Rattle.share_graph.specs.declared.sessions.Run.{Run}
+use Rattle.share_graph.proofs.FirstOf.{one_by}
 use Rattle.share_graph.proofs.keys.by_run_token.Goals as goal
 
 pub returns : goal.returns
-returns c = found_one (HasRunToken c.args.digest.now) (λ row. row.now) c.args.state.now.runs _ c.first_run_token.ensures
+returns c = one_by (λ (row : Run). row.digest) c.args.digest.now (λ row. row.now) c.args.state.now.runs c.first_with.result c.first_with.ensures

@@ -1,15 +1,7 @@
-use Rattle.std.proofs.Common.{take, Some, ap, inl, rules}
-use borrow.Author.Tests.{tests}
-use Rattle.std.proofs.lemmas.Iterator.{first_from_find}
-use Rattle.std.proofs.lemmas.Iterator.Consumers.{YieldsList-from_first}
-use Rattle.row_index.specs.Narrow.{seen}
-use Rattle.share_graph.specs.Clues.{digest_clue, saved_clues}
-use Rattle.share_graph.specs.Keys.{HasReference}
-use Rattle.share_graph.proofs.Narrowing.{from_candidates}
+use Rattle.std.proofs.Common.{take}
+use Rattle.share_graph.specs.declared.rows.Saved.{Saved}
+use Rattle.share_graph.proofs.FirstOf.{found_by}
 use Rattle.share_graph.proofs.keys.reference_before.Goals as goal
 
 pub returns : goal.returns
-returns c =
-    from_candidates (HasReference c.args.digest.now) saved_clues (digest_clue c.args.digest.now) (λ row has. inl (ap (λ d. Some (digest_clue d)) has)) (λ row. row.now) (take c.args.place c.args.references.now) (seen c.candidates_before.result) _ _ c.digest_clue.ensures c.candidates_before.ensures
-    (first_from_find c.find.new.self _ _ (HasReference c.args.digest.now) (λ row. HasReference c.args.digest.now row → ⊥) c.find.ensures.ran (YieldsList-from_first (λ row. row.now) seen (seen c.candidates_before.result) cc)
-    (λ x q k. search (rules, tests)) (λ x q k. search (rules, tests)))
+returns c = found_by (λ (row : Saved). row.digest) c.args.digest.now (λ row. row.now) (take c.args.place c.args.references.now) c.first_before.result c.first_before.ensures

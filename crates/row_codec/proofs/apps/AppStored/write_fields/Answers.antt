@@ -3,11 +3,11 @@ use Rattle.std.specs.Int.{w32}
 use Rattle.row_formats.specs.Format.{number_bytes, text, list}
 use Rattle.row_codec.specs.AppRow.{permission, role, descriptor}
 use Rattle.row_codec.proofs.Joined.{on_ok, behind}
-use Rattle.row_codec.proofs.apps.put_app.Goals as goal
+use Rattle.row_codec.proofs.apps.AppStored.write_fields.Goals as goal
 
 pub returns-clause-written : goal.returns-clause-written
 returns-clause-written c =
-    let m = c.args.a.now.manifest in
+    let m = c.args.self.now.manifest in
     let end : List ℕ = c.write_list-3.new.writer in
     let requests : List ℕ = (list 65535 descriptor).write m.match_requests in
     let roles : List ℕ = (list 65535 role).write m.roles in

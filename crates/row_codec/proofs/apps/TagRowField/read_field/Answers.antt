@@ -1,7 +1,7 @@
 use Rattle.powerbox_match.specs.Value.{tag_data}
 use Rattle.powerbox_match.proofs.Tidy.{within_from}
 use Rattle.row_codec.proofs.ValuesRead.{value_within}
-use Rattle.row_codec.proofs.apps.tag_of.Goals as goal
+use Rattle.row_codec.proofs.apps.TagRowField.read_field.Goals as goal
 
 pub new-requires : goal.new-requires
 new-requires c =
