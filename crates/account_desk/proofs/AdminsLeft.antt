@@ -1,121 +1,71 @@
 -- Whether an enabled admin is left once a mark of an account is set.
-use Rattle.std.proofs.Common.{◌≡◌, ◌⊎◌, ℕ, Bool, true, zero, suc, List, [], ◌∷◌, Some, All, Contains, slice_get, get_or, ◌+◌, refl, sym, ◌∙◌, ap, subst, arith, inl, inr, add-one}
-use Rattle.std.proofs.lemmas.List.Elements.{All-contains}
-use Rattle.std.proofs.lemmas.Option.{slice_get-get_or}
-use Rattle.host_base.specs.declared.ids.AccountId.{AccountId}
-use Rattle.share_graph.specs.declared.event.Event.TheVariants as event
-use Rattle.share_graph.specs.declared.rows.Account.{Account}
-use Rattle.share_graph.specs.declared.state.State.{State}
-use Rattle.share_graph.specs.Changing.{change, change_row}
+use Rattle.std.proofs.Common.{◌≡◌, ◌≢◌, ◌⊎◌, ◌↔◌, ◌∙◌, ℕ, zero, suc, Bool, true, false, IsTrue, List, [], ◌∷◌, Some, All, get_or, refl, sym, ap, subst, arith, inl, inr}
+use Rattle.std.proofs.lemmas.List.Elements.{All-contains, Contains-get_or}
+use Rattle.desk_base.specs.Terms.{Account, AccountId, IsNoneOf, IsWellFormed, row, State}
+use Rattle.share_graph.specs.Changing.{change_row}
 use Rattle.share_graph.specs.Setting.{with_admin, with_enabled}
-use Rattle.share_graph.specs.WellFormed.{IsWellFormed}
-use Rattle.account_desk.specs.Admins.{IsAdminThen, IsEnabledThen}
-use Rattle.account_desk.specs.Rows.{LeavesNoAdmin}
-use Rattle.share_graph.proofs.Contained.{contains_at, place_of}
+use Rattle.share_graph.proofs.Contained.{contains_at, listed_row, place_of, row_listed}
+use Rattle.share_graph.proofs.Marked.{change_row_other}
+use Rattle.state_step.proofs.Touched.{change_row_touches, each_touched, numbered_touched, touched_listed}
+use Rattle.account_desk.specs.Rows.{IsEnabledAdmin, IsOnlyAdmin}
 
-change_same : {X : Type 0} (f : X → X) (rows : List X) (i : ℕ) (x : X) → slice_get rows i ≡ Some x → slice_get (change f rows i) i ≡ Some (f x)
-change_same f [] i x is = cc is
-change_same f (y ∷ rows) zero x is = let same : y ≡ x = cc in ap (λ z. Some (f z)) same
-change_same f (y ∷ rows) (suc i) x is = change_same f rows i x is
+-- f sets a mark, with which an enabled admin stays one, and without which there is none
+pub record Marks (f : Bool → Account → Account) : Type 0 where
+  num : (on : Bool) (x : Account) → (f on x).num ≡ x.num
+  on : (x : Account) → IsEnabledAdmin x → IsEnabledAdmin (f true x)
+  off : (x : Account) → IsEnabledAdmin (f false x) → ⊥
 
-change_other : {X : Type 0} (f : X → X) (rows : List X) (i k : ℕ) → (k ≡ i → ⊥) → slice_get (change f rows i) k ≡ slice_get rows k
-change_other f [] i k h = refl
-change_other f (x ∷ rows) zero zero h = absurd (h refl)
-change_other f (x ∷ rows) zero (suc k) h = refl
-change_other f (x ∷ rows) (suc i) zero h = refl
-change_other f (x ∷ rows) (suc i) (suc k) h = change_other f rows i k (λ e. h (ap suc e))
+pub admin_mark : Marks with_admin
+admin_mark = record { num = λ on x. refl; on = λ x (enabled, admin). (enabled, refl); off = λ x (enabled, admin). cc }
 
-change_back : {X : Type 0} (f : X → X) (rows : List X) (i : ℕ) (y : X) → slice_get (change f rows i) i ≡ Some y → (x : X) × (slice_get rows i ≡ Some x) × (f x ≡ y)
-change_back f [] i y is = cc is
-change_back f (x ∷ rows) zero y is = (x, refl, (let same : Some (f x) ≡ Some y = is in cc))
-change_back f (x ∷ rows) (suc i) y is = change_back f rows i y is
+pub enabled_mark : Marks with_enabled
+enabled_mark = record { num = λ on x. refl; on = λ x (enabled, admin). (refl, admin); off = λ x (enabled, admin). cc }
 
--- each row of the changed rows is one of the rows, changed where it has that number
-pub changed_row : {X : Type 0} (f : X → X) (rows : List X) (n k : ℕ) (y : X) → slice_get (change_row f rows n) k ≡ Some y
-    → ((x : X) × (slice_get rows k ≡ Some x) × (f x ≡ y) × (k + 1 ≡ n)) ⊎ ((slice_get rows k ≡ Some y) × (k + 1 ≡ n → ⊥))
-changed_row f rows zero k y is = inr (is, λ e. absurd (omega arith))
-changed_row {X} f rows (suc i) k y is =
-    let sides : (k ≡ i) ⊎ (k ≡ i → ⊥) = grind arith in
-    elim sides [
-      | inl same ↦ (
-          let here : slice_get (change f rows k) k ≡ Some y = subst (λ (n : ℕ). slice_get (change f rows n) k ≡ Some y) (sym same) is in
-          let (x, there, e) = change_back f rows k y here in
-          inl (x, there, e, add-one k ∙ ap suc same))
-      | inr other ↦ inr (sym (change_other f rows i k other) ∙ is, λ e. other (let at : k + 1 ≡ suc i = e in omega arith))
-    ]
+-- the row of the changed number was changed
+changed : (f : Account → Account) (rows : List Account) (n : ℕ) (y : Account) → row (change_row f rows n) n ≡ Some y → (x : Account) × (f x ≡ y)
+changed f rows zero y is = cc is
+changed f [] (suc i) y is = cc is
+changed f (x ∷ rows) (suc zero) y is = let same : Some (f x) ≡ Some y = is in (x, (cc))
+changed f (x ∷ rows) (suc (suc i)) y is = changed f rows (suc i) y is
 
--- and each row is in them, so changed
-pub row_changed : {X : Type 0} (f : X → X) (rows : List X) (n k : ℕ) (x : X) → slice_get rows k ≡ Some x
-    → ((k + 1 ≡ n) × (slice_get (change_row f rows n) k ≡ Some (f x))) ⊎ ((k + 1 ≡ n → ⊥) × (slice_get (change_row f rows n) k ≡ Some x))
-row_changed f rows zero k x is = inr (λ e. absurd (omega arith), is)
-row_changed {X} f rows (suc i) k x is =
-    let sides : (k ≡ i) ⊎ (k ≡ i → ⊥) = grind arith in
-    elim sides [
-      | inl same ↦ inl (add-one k ∙ ap suc same, subst (λ (n : ℕ). slice_get (change f rows n) k ≡ Some (f x)) same (change_same f rows k x is))
-      | inr other ↦ inr (λ e. other (let at : k + 1 ≡ suc i = e in omega arith), change_other f rows i k other ∙ is)
-    ]
+account_id : (x y : AccountId) → x.0 ≡ y.0 → x ≡ y
+account_id x y same = ap (λ (n : ℕ). let i : AccountId = record { 0 = n } in i) same
 
-abbrev account_id : ℕ → AccountId
-account_id n = record { 0 = n }
+module _ (s : State) (a : AccountId) (f : Bool → Account → Account) (mark : Marks f) where
+  -- with the mark an admin is left
+  pub some_left : (IsNoneOf s.tables.accounts IsEnabledAdmin → ⊥) → IsNoneOf (change_row (f true) s.tables.accounts a.0) IsEnabledAdmin → ⊥
+  some_left some none = some λ x listed is.
+      let (y, there, same) = touched_listed (f true) s.tables.accounts (change_row (f true) s.tables.accounts a.0) (change_row_touches (f true) s.tables.accounts a.0) x listed in
+      none y there (elim same [
+        | inl e ↦ subst (λ (z : Account). IsEnabledAdmin z) e is
+        | inr e ↦ subst (λ (z : Account). IsEnabledAdmin z) e (mark.on x is)
+      ])
 
--- The same for both marks: f sets the mark, and Then says which accounts are enabled admins afterwards.
-record Marks (a : AccountId) (f : Account → Account) (Then : Account → Type 0) : Type 0 where
-  here : (x : Account) → x.num ≡ a → (f x).enabled ≡ true → (f x).admin ≡ true → Then x
-  here_back : (x : Account) → x.num ≡ a → Then x → ((f x).enabled ≡ true) × ((f x).admin ≡ true)
-  there : (x : Account) → (x.num ≡ a → ⊥) → x.enabled ≡ true → x.admin ≡ true → Then x
-  there_back : (x : Account) → (x.num ≡ a → ⊥) → Then x → (x.enabled ≡ true) × (x.admin ≡ true)
+module _ (s : State) (formed : IsWellFormed s) (a : AccountId) (f : Bool → Account → Account) (mark : Marks f) where
+  none_left : All (IsOnlyAdmin a) s.tables.accounts → IsNoneOf (change_row (f false) s.tables.accounts a.0) IsEnabledAdmin
+  none_left only y listed is =
+      let xs = s.tables.accounts in
+      let ys = change_row (f false) xs a.0 in
+      let touched = change_row_touches (f false) xs a.0 in
+      let numbered = numbered_touched (f false) (λ (x : Account). x.num.0) (λ x. ap (λ (i : AccountId). i.0) (mark.num false x)) xs ys touched formed.numbered.accounts in
+      let (k, at) = place_of ys y listed in
+      let its : y.num ≡ a = each_touched (f false) (λ i (x : Account). IsOnlyAdmin a x) (λ i x is_only admin. absurd (mark.off x admin)) xs ys touched
+      (λ i x there. All-contains (IsOnlyAdmin a) xs x only (contains_at xs i x there)) k y at is in
+      let there : row ys a.0 ≡ Some y = subst (λ (i : AccountId). row ys i.0 ≡ Some y) its (listed_row (λ (x : Account). x.num.0) ys y numbered listed) in
+      let (x, made) = changed (f false) xs a.0 y there in
+      mark.off x (subst (λ (z : Account). IsEnabledAdmin z) (sym made) is)
 
-module _ (s : State) (formed : IsWellFormed s) (a : AccountId) (f : Account → Account) (Then : Account → Type 0) (marks : Marks a f Then) where
-  none_then : All (λ (x : Account). Then x → ⊥) s.tables.accounts → (y : Account) → Contains (change_row f s.tables.accounts a.0) y → (y.enabled ≡ true) × (y.admin ≡ true) → ⊥
-  none_then all y listed (enabled, admin) =
-      let (k, is) = place_of (change_row f s.tables.accounts a.0) y listed in
-      elim (changed_row f s.tables.accounts a.0 k y is) [
-        | inl (x, at, same, num) ↦ (
-            let never = All-contains (λ (z : Account). Then z → ⊥) s.tables.accounts x all (contains_at s.tables.accounts k x at) in
-            let its : x.num ≡ a = ap (λ (n : ℕ). account_id n) (formed.numbered.accounts k x at ∙ num) in
-            never (marks.here x its (ap (λ (z : Account). z.enabled) same ∙ enabled) (ap (λ (z : Account). z.admin) same ∙ admin)))
-        | inr (at, other) ↦ (
-            let never = All-contains (λ (z : Account). Then z → ⊥) s.tables.accounts y all (contains_at s.tables.accounts k y at) in
-            never (marks.there y (λ e. other (sym (formed.numbered.accounts k y at) ∙ ap (λ (n : AccountId). n.0) e)) enabled admin))
+  only_admin : IsNoneOf (change_row (f false) s.tables.accounts a.0) IsEnabledAdmin → All (IsOnlyAdmin a) s.tables.accounts
+  only_admin none k d less is =
+      let xs = s.tables.accounts in
+      let x : Account = get_or xs k d in
+      let was : row xs x.num.0 ≡ Some x = listed_row (λ (y : Account). y.num.0) xs x formed.numbered.accounts (Contains-get_or xs k d less) in
+      let sides : (x.num.0 ≡ a.0) ⊎ (x.num.0 ≢ a.0) = grind arith in
+      elim sides [
+        | inl same ↦ account_id x.num a same
+        | inr other ↦ absurd (none x (row_listed _ x.num.0 x (change_row_other (f false) xs a.0 x.num.0 other ∙ was)) is)
       ]
 
-  then_none : ((y : Account) → Contains (change_row f s.tables.accounts a.0) y → (y.enabled ≡ true) × (y.admin ≡ true) → ⊥) → All (λ (x : Account). Then x → ⊥) s.tables.accounts
-  then_none none k d less is_then =
-      let x : Account = get_or s.tables.accounts k d in
-      let at : slice_get s.tables.accounts k ≡ Some x = slice_get-get_or s.tables.accounts k d less in
-      elim (row_changed f s.tables.accounts a.0 k x at) [
-        | inl (num, is) ↦ none (f x) (contains_at (change_row f s.tables.accounts a.0) k (f x) is) (marks.here_back x (ap (λ (n : ℕ). account_id n) (formed.numbered.accounts k x at ∙ num)) is_then)
-        | inr (other, is) ↦ none x (contains_at (change_row f s.tables.accounts a.0) k x is) (marks.there_back x (λ e. other (sym (formed.numbered.accounts k x at) ∙ ap (λ (n : AccountId). n.0) e)) is_then)
-      ]
-
-admin_marks : (a : AccountId) (on : Bool) → Marks a (with_admin on) (IsAdminThen a on)
-admin_marks a on = record {
-  here = λ x its enabled admin. (enabled, inl (its, admin));
-  here_back = λ x its (enabled, sides). elim sides [ inl (also, granted) ↦ (enabled, granted) | inr (other, was) ↦ absurd (other its) ];
-  there = λ x other enabled admin. (enabled, inr (other, admin));
-  there_back = λ x other (enabled, sides). elim sides [ inl (its, granted) ↦ absurd (other its) | inr (also, was) ↦ (enabled, was) ];
-}
-
-enabled_marks : (a : AccountId) (on : Bool) → Marks a (with_enabled on) (IsEnabledThen a on)
-enabled_marks a on = record {
-  here = λ x its enabled admin. (admin, inl (its, enabled));
-  here_back = λ x its (admin, sides). elim sides [ inl (also, granted) ↦ (granted, admin) | inr (other, was) ↦ absurd (other its) ];
-  there = λ x other enabled admin. (admin, inr (other, enabled));
-  there_back = λ x other (admin, sides). elim sides [ inl (its, granted) ↦ absurd (other its) | inr (also, was) ↦ (was, admin) ];
-}
-
-pub none_left : (s : State) → IsWellFormed s → (a : AccountId) (on : Bool) → All (λ (x : Account). IsAdminThen a on x → ⊥) s.tables.accounts → LeavesNoAdmin s.tables (event.AdminSet a on)
-unfolding LeavesNoAdmin
-none_left s formed a on = none_then s formed a (with_admin on) (IsAdminThen a on) (admin_marks a on)
-
-pub none_left_back : (s : State) → IsWellFormed s → (a : AccountId) (on : Bool) → LeavesNoAdmin s.tables (event.AdminSet a on) → All (λ (x : Account). IsAdminThen a on x → ⊥) s.tables.accounts
-unfolding LeavesNoAdmin
-none_left_back s formed a on = then_none s formed a (with_admin on) (IsAdminThen a on) (admin_marks a on)
-
-pub none_enabled : (s : State) → IsWellFormed s → (a : AccountId) (on : Bool) → All (λ (x : Account). IsEnabledThen a on x → ⊥) s.tables.accounts → LeavesNoAdmin s.tables (event.EnabledSet a on)
-unfolding LeavesNoAdmin
-none_enabled s formed a on = none_then s formed a (with_enabled on) (IsEnabledThen a on) (enabled_marks a on)
-
-pub none_enabled_back : (s : State) → IsWellFormed s → (a : AccountId) (on : Bool) → LeavesNoAdmin s.tables (event.EnabledSet a on) → All (λ (x : Account). IsEnabledThen a on x → ⊥) s.tables.accounts
-unfolding LeavesNoAdmin
-none_enabled_back s formed a on = then_none s formed a (with_enabled on) (IsEnabledThen a on) (enabled_marks a on)
+  -- without it none is where no other account is an enabled admin
+  pub only_left : (test : Bool) → IsTrue test ↔ All (IsOnlyAdmin a) s.tables.accounts → IsTrue test ↔ IsNoneOf (change_row (f false) s.tables.accounts a.0) IsEnabledAdmin
+  only_left test tells = (λ yes. none_left (tells.0 yes), λ none. tells.1 (only_admin none))

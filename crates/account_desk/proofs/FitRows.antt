@@ -1,92 +1,72 @@
 -- The changes of each command fit.
 use Rattle.std.proofs.Common.{◌≡◌, ℕ, Bool, true, false, List, refl}
-use Rattle.host_base.specs.declared.ids.AccountId.{AccountId}
-use Rattle.host_base.specs.declared.ids.AppId.{AppId}
-use Rattle.host_base.specs.declared.ids.GrainId.{GrainId}
-use Rattle.app_manifest.specs.declared.manifest.Manifest.{Manifest}
-use Rattle.share_graph.specs.declared.desk.Caller.{Caller}
+use Rattle.desk_base.specs.Terms.{Account, AccountId, AppId, Caller, Event, EventFits, GrainId, HasAccount, is_handle}
+use Rattle.desk_base.specs.Terms.{IsSoundManifest, IsWellFormed, Manifest, State}
 use Rattle.share_graph.specs.declared.event.Event.TheVariants.{AccountAdded, AppAdded, GrainAdded, AdminSet, EnabledSet, TrashedSet}
 use Rattle.share_graph.specs.declared.fault.Kind.TheVariants as kind
-use Rattle.share_graph.specs.declared.rows.Account.{Account}
-use Rattle.share_graph.specs.declared.state.State.{State}
-use Rattle.share_graph.specs.Fitting.{IsSoundManifest}
-use Rattle.share_graph.specs.Fresh.{is_handle}
-use Rattle.share_graph.specs.WellFormed.{IsWellFormed}
-use Rattle.share_graph.proofs.Contained.{listed_row}
 use Rattle.state_step.proofs.AccountLaws.{account_added_fits, admin_set_fits, enabled_set_fits}
 use Rattle.state_step.proofs.AppLaws.{app_added_fits}
 use Rattle.state_step.proofs.GrainLaws.{grain_added_fits, trashed_set_fits}
 use Rattle.desk_base.specs.Fitting.{RowFits}
 use Rattle.desk_base.specs.Made.{nothing_made, made_account, made_app, made_grain}
-use Rattle.desk_base.specs.Steps.{Plain, Drawn}
-use Rattle.desk_base.proofs.Room.{room_of}
+use Rattle.desk_base.specs.Steps.{Step, Plain, Drawn}
+use Rattle.desk_base.specs.Wording.{by_admin}
 use Rattle.desk_base.proofs.FitForms.{when_fits, unless_fits, must_fits, found_fits, some_fits, adds_fits}
-use Rattle.account_desk.specs.Commands.{AddAccount, SetAdmin, SetEnabled, AddApp, NewGrain, Trash}
+use Rattle.desk_base.proofs.Room.{room_of}
+use Rattle.desk_base.proofs.Words.{listed_account}
+use Rattle.account_desk.specs.Commands.{AddAccount, SetMark, SetAdmin, SetEnabled, AddApp, NewGrain, Trash}
 use Rattle.account_desk.specs.Rows.{new_account, new_app, new_grain}
 
-pub add_account_fits : (s : State) → IsWellFormed s → (who : Caller) (handle name : List ℕ) → is_handle handle ≡ true → RowFits s true (AddAccount s who handle name)
-add_account_fits s formed who handle name named =
-    some_fits s tt λ admin is.
-    unless_fits s tt λ enabled.
-    unless_fits s tt λ is_admin.
-    must_fits s λ free.
-    adds_fits s (Drawn λ d. AccountAdded (new_account s.tables handle name d)) (made_account s.tables) λ room d unused.
-    account_added_fits s formed (new_account s.tables handle name d) (record {
-      num = refl;
-      room = room_of kind.Account 4096 _ room;
-      formed = named;
-      free = free;
-      unused = unused;
-    })
+module _ (s : State) (formed : IsWellFormed s) (who : Caller) where
+  admin_fits : {draws : Bool} {Rest : Account → Step → Type 0} → ((admin : Account) → RowFits s draws (Rest admin)) → RowFits s draws (by_admin s who Rest)
+  admin_fits rest = some_fits s tt λ admin is. unless_fits s tt λ enabled. unless_fits s tt λ is_admin. rest admin
 
-pub set_admin_fits : (s : State) → IsWellFormed s → (who : Caller) (a : AccountId) (on : Bool) → RowFits s false (SetAdmin s who a on)
-set_admin_fits s formed who a on =
-    some_fits s tt λ admin is.
-    unless_fits s tt λ enabled.
-    unless_fits s tt λ is_admin.
-    found_fits s tt λ account there.
-    when_fits s tt λ differs.
-    when_fits s tt λ some_left.
-    adds_fits s (Plain (AdminSet a on)) nothing_made λ room.
-    admin_set_fits s formed a on (account, there)
+  pub add_account_fits : (handle name : List ℕ) → is_handle handle ≡ true → RowFits s true (AddAccount s who handle name)
+  add_account_fits handle name named =
+      admin_fits λ admin.
+      must_fits s λ free.
+      adds_fits s (Drawn λ d. AccountAdded (new_account s.tables handle name d)) (made_account s.tables) λ room d unused.
+      account_added_fits s formed (new_account s.tables handle name d)
+      (record { num = refl; room = room_of kind.Account 4096 _ room; formed = named; free = free; unused = unused })
 
-pub set_enabled_fits : (s : State) → IsWellFormed s → (who : Caller) (a : AccountId) (on : Bool) → RowFits s false (SetEnabled s who a on)
-set_enabled_fits s formed who a on =
-    some_fits s tt λ admin is.
-    unless_fits s tt λ enabled.
-    unless_fits s tt λ is_admin.
-    found_fits s tt λ account there.
-    when_fits s tt λ differs.
-    when_fits s tt λ some_left.
-    adds_fits s (Plain (EnabledSet a on)) nothing_made λ room.
-    enabled_set_fits s formed a on (account, there)
+  mark_fits : (mark : Account → Bool) (event : AccountId → Bool → Event) (a : AccountId) (on : Bool) → (HasAccount s.tables a → EventFits s (event a on)) → RowFits s false (SetMark mark event s who a on)
+  mark_fits mark event a on fits =
+      admin_fits λ admin.
+      found_fits s tt λ account there.
+      when_fits s tt λ differs.
+      when_fits s tt λ some_left.
+      adds_fits s (Plain (event a on)) nothing_made λ room. fits (account, there)
 
-pub add_app_fits : (s : State) → IsWellFormed s → (who : Caller) (manifest : Manifest) → IsSoundManifest manifest → RowFits s false (AddApp s who manifest)
-add_app_fits s formed who manifest sound =
-    some_fits s tt λ admin is.
-    unless_fits s tt λ enabled.
-    unless_fits s tt λ is_admin.
-    adds_fits s (Plain (AppAdded (new_app s.tables manifest))) (made_app s.tables) λ room.
-    app_added_fits s formed (new_app s.tables manifest) (record { num = refl; room = room_of kind.App 256 _ room; sound = sound })
+  pub set_admin_fits : (a : AccountId) (on : Bool) → RowFits s false (SetAdmin s who a on)
+  set_admin_fits a on = mark_fits _ AdminSet a on (admin_set_fits s formed a on)
 
-pub new_grain_fits : (s : State) → IsWellFormed s → (who : Caller) (app : AppId) (title : List ℕ) → RowFits s false (NewGrain s who app title)
-new_grain_fits s formed who app title =
-    some_fits s tt λ owner is.
-    unless_fits s tt λ enabled.
-    found_fits s tt λ row is_app.
-    adds_fits s (Plain (GrainAdded (new_grain s.tables app owner.num title))) (made_grain s.tables) λ room.
-    grain_added_fits s formed (new_grain s.tables app owner.num title) (record {
-      num = refl;
-      room = room_of kind.Grain 16384 _ room;
-      knows = record { app = (row, is_app); owner = (owner, listed_row (λ (x : Account). x.num.0) s.tables.accounts owner formed.numbered.accounts is.listed) };
-    })
+  pub set_enabled_fits : (a : AccountId) (on : Bool) → RowFits s false (SetEnabled s who a on)
+  set_enabled_fits a on = mark_fits _ EnabledSet a on (enabled_set_fits s formed a on)
 
-pub trash_fits : (s : State) → IsWellFormed s → (who : Caller) (n : GrainId) (on : Bool) → RowFits s false (Trash s who n on)
-trash_fits s formed who n on =
-    some_fits s tt λ account is.
-    unless_fits s tt λ enabled.
-    found_fits s tt λ grain there.
-    unless_fits s tt λ owned.
-    when_fits s tt λ differs.
-    adds_fits s (Plain (TrashedSet n on)) nothing_made λ room.
-    trashed_set_fits s formed n on (grain, there)
+  pub add_app_fits : (manifest : Manifest) → IsSoundManifest manifest → RowFits s false (AddApp s who manifest)
+  add_app_fits manifest sound =
+      admin_fits λ admin.
+      adds_fits s (Plain (AppAdded (new_app s.tables manifest))) (made_app s.tables) λ room.
+      app_added_fits s formed (new_app s.tables manifest) (record { num = refl; room = room_of kind.App 256 _ room; sound = sound })
+
+  pub new_grain_fits : (app : AppId) (title : List ℕ) → RowFits s false (NewGrain s who app title)
+  new_grain_fits app title =
+      some_fits s tt λ owner is.
+      unless_fits s tt λ enabled.
+      found_fits s tt λ row is_app.
+      adds_fits s (Plain (GrainAdded (new_grain s.tables app owner.num title))) (made_grain s.tables) λ room.
+      grain_added_fits s formed (new_grain s.tables app owner.num title) (record {
+        num = refl;
+        room = room_of kind.Grain 16384 _ room;
+        knows = record { app = (row, is_app); owner = listed_account s formed owner is.listed };
+      })
+
+  pub trash_fits : (n : GrainId) (on : Bool) → RowFits s false (Trash s who n on)
+  trash_fits n on =
+      some_fits s tt λ account is.
+      unless_fits s tt λ enabled.
+      found_fits s tt λ grain there.
+      unless_fits s tt λ owned.
+      when_fits s tt λ differs.
+      adds_fits s (Plain (TrashedSet n on)) nothing_made λ room.
+      trashed_set_fits s formed n on (grain, there)

@@ -1,4 +1,3 @@
 pub mod AdminsLeft
-pub mod HandleOne
 pub mod OneRows
 pub mod FitRows

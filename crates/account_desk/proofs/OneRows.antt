@@ -1,55 +1,58 @@
 -- Of each command the machine makes one thing at the most. A proof goes along the row, check by check.
-use Rattle.std.proofs.Common.{ℕ, Bool, List}
-use Rattle.host_base.specs.declared.ids.AccountId.{AccountId}
-use Rattle.host_base.specs.declared.ids.AppId.{AppId}
-use Rattle.host_base.specs.declared.ids.GrainId.{GrainId}
-use Rattle.app_manifest.specs.declared.manifest.Manifest.{Manifest}
-use Rattle.share_graph.specs.declared.desk.Caller.{Caller}
-use Rattle.share_graph.specs.declared.state.State.{State}
-use Rattle.share_graph.specs.Forms.{IsOne}
-use Rattle.share_graph.specs.WellFormed.{IsWellFormed}
+use Rattle.std.proofs.Common.{◌≡◌, ◌+◌, ◌∙◌, ℕ, Bool, List, sym, ap}
+use Rattle.desk_base.specs.Terms.{Account, AccountId, AppId, Caller, Event, GrainId, HasHandle, IsOne, IsOneOf}
+use Rattle.desk_base.specs.Terms.{IsWellFormed, Manifest, State}
+use Rattle.share_graph.specs.declared.event.Event.TheVariants.{AdminSet, EnabledSet}
+use Rattle.share_graph.specs.declared.refusal.Refusal.TheVariants.{HandleTaken}
+use Rattle.share_graph.proofs.Contained.{place_of, single}
 use Rattle.share_graph.proofs.OneAnswer.{when_one, unless_one, must_one}
+use Rattle.state_step.proofs.Sound.{sound_of}
+use Rattle.desk_base.specs.Steps.{refusing}
+use Rattle.desk_base.proofs.GivenRoles.{refusing_one}
 use Rattle.desk_base.proofs.OneWord.{by_account_one, by_admin_one, known_account_one, known_app_one, known_grain_one, adds_one}
-use Rattle.account_desk.specs.Commands.{AddAccount, account_step, SetAdmin, admin_step, SetEnabled, enabled_step, AddApp, app_step, NewGrain, grain_step, Trash, trash_step}
-use Rattle.account_desk.proofs.HandleOne.{taken_one}
+use Rattle.account_desk.specs.Commands.{AddAccount, SetMark, SetAdmin, SetEnabled, AddApp, NewGrain, Trash}
+use Rattle.account_desk.specs.Rows.{IsTaken}
 
-pub add_account_one : (s : State) → IsWellFormed s → (who : Caller) (handle name : List ℕ) → IsOne (AddAccount s who handle name)
-add_account_one s formed who handle name =
-    by_admin_one s formed who λ admin.
-    must_one (λ step free taken. free taken.2.0 taken.2.2.listed taken.2.2.is) (taken_one s formed handle) (
-    adds_one s (account_step s.tables handle name))
+module _ (s : State) (formed : IsWellFormed s) where
+  -- a handle is one account's
+  handle_one : (handle : List ℕ) → IsOne (λ (account : Account). IsOneOf s.tables.accounts (HasHandle handle) account)
+  handle_one handle = single (λ (x : Account). x.num.0) s.tables.accounts (HasHandle handle) formed.numbered.accounts λ x y a b.
+      let (i, at) = place_of s.tables.accounts x a.listed in
+      let (j, there) = place_of s.tables.accounts y b.listed in
+      let same : i ≡ j = (sound_of s.tables formed.tables).handles i j x y at there (a.is ∙ sym b.is) in
+      formed.numbered.accounts i x at ∙ ap (λ (k : ℕ). k + 1) same ∙ sym (formed.numbered.accounts j y there)
 
-pub set_admin_one : (s : State) → IsWellFormed s → (who : Caller) (a : AccountId) (on : Bool) → IsOne (SetAdmin s who a on)
-set_admin_one s formed who a on =
-    by_admin_one s formed who λ admin.
-    known_account_one s a λ account.
-    when_one (
-    when_one (
-    adds_one s (admin_step a on)))
+  -- and so it is taken by one
+  taken_one : (handle : List ℕ) → IsOne (refusing (IsTaken s.tables handle))
+  taken_one handle = refusing_one (IsTaken s.tables handle) λ r q (x, e, one) (y, f, other).
+      e ∙ ap (λ (z : Account). HandleTaken z.num) ((handle_one handle).one x y one other) ∙ sym f
 
-pub set_enabled_one : (s : State) → IsWellFormed s → (who : Caller) (a : AccountId) (on : Bool) → IsOne (SetEnabled s who a on)
-set_enabled_one s formed who a on =
-    by_admin_one s formed who λ admin.
-    known_account_one s a λ account.
-    when_one (
-    when_one (
-    adds_one s (enabled_step a on)))
+module _ (s : State) (formed : IsWellFormed s) (who : Caller) where
+  pub add_account_one : (handle name : List ℕ) → IsOne (AddAccount s who handle name)
+  add_account_one handle name =
+      by_admin_one s formed who λ admin.
+      must_one (λ step free taken. free taken.2.0 taken.2.2.listed taken.2.2.is) (taken_one s formed handle) (adds_one s _)
 
-pub add_app_one : (s : State) → IsWellFormed s → (who : Caller) (manifest : Manifest) → IsOne (AddApp s who manifest)
-add_app_one s formed who manifest =
-    by_admin_one s formed who λ admin.
-    adds_one s (app_step s.tables manifest)
+  mark_one : (mark : Account → Bool) (event : AccountId → Bool → Event) (a : AccountId) (on : Bool) → IsOne (SetMark mark event s who a on)
+  mark_one mark event a on =
+      by_admin_one s formed who λ admin.
+      known_account_one s a λ account.
+      when_one (when_one (adds_one s _))
 
-pub new_grain_one : (s : State) → IsWellFormed s → (who : Caller) (app : AppId) (title : List ℕ) → IsOne (NewGrain s who app title)
-new_grain_one s formed who app title =
-    by_account_one s formed who λ owner.
-    known_app_one s app λ row.
-    adds_one s (grain_step s.tables app title owner.num)
+  pub set_admin_one : (a : AccountId) (on : Bool) → IsOne (SetAdmin s who a on)
+  set_admin_one a on = mark_one _ AdminSet a on
 
-pub trash_one : (s : State) → IsWellFormed s → (who : Caller) (n : GrainId) (on : Bool) → IsOne (Trash s who n on)
-trash_one s formed who n on =
-    by_account_one s formed who λ account.
-    known_grain_one s n λ grain.
-    unless_one (
-    when_one (
-    adds_one s (trash_step n on)))
+  pub set_enabled_one : (a : AccountId) (on : Bool) → IsOne (SetEnabled s who a on)
+  set_enabled_one a on = mark_one _ EnabledSet a on
+
+  pub add_app_one : (manifest : Manifest) → IsOne (AddApp s who manifest)
+  add_app_one manifest = by_admin_one s formed who λ admin. adds_one s _
+
+  pub new_grain_one : (app : AppId) (title : List ℕ) → IsOne (NewGrain s who app title)
+  new_grain_one app title = by_account_one s formed who λ owner. known_app_one s app λ row. adds_one s _
+
+  pub trash_one : (n : GrainId) (on : Bool) → IsOne (Trash s who n on)
+  trash_one n on =
+      by_account_one s formed who λ account.
+      known_grain_one s n λ grain.
+      unless_one (when_one (adds_one s _))

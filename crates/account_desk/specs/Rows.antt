@@ -1,18 +1,8 @@
 -- The rows that the commands add, and the tests of this desk alone.
 use Rattle.std.specs.Prelude.{◌≡◌, ℕ, List, true, false}
-use Rattle.host_base.specs.declared.digest.Digest.{Digest}
-use Rattle.host_base.specs.declared.ids.AccountId.{AccountId}
-use Rattle.host_base.specs.declared.ids.AppId.{AppId}
-use Rattle.app_manifest.specs.declared.manifest.Manifest.{Manifest}
-use Rattle.share_graph.specs.declared.event.Event.{Event}
-use Rattle.share_graph.specs.declared.refusal.Refusal.{Refusal}
+use Rattle.desk_base.specs.Terms.{Account, AccountId, App, AppId, Digest, Event, Grain, HasHandle, IsNoneOf, IsOneOf}
+use Rattle.desk_base.specs.Terms.{Manifest, Refusal, Tables, tables_after}
 use Rattle.share_graph.specs.declared.refusal.Refusal.TheVariants.{HandleTaken}
-use Rattle.share_graph.specs.declared.rows.Account.{Account}
-use Rattle.share_graph.specs.declared.rows.App.{App}
-use Rattle.share_graph.specs.declared.rows.Grain.{Grain}
-use Rattle.share_graph.specs.declared.state.Tables.{Tables}
-use Rattle.share_graph.specs.History.{tables_after}
-use Rattle.share_graph.specs.Keys.{HasHandle, IsOneOf, IsNoneOf}
 use Rattle.desk_base.specs.Made.{next}
 
 -- a new account is enabled, and no admin
@@ -32,6 +22,10 @@ IsTaken t handle r = (account : Account) × (r ≡ HandleTaken account.num) × I
 -- the account is an enabled admin
 abbrev pub IsEnabledAdmin : Account → Type 0
 IsEnabledAdmin account = (account.enabled ≡ true) × (account.admin ≡ true)
+
+-- if the account is one, it is the one of that number
+abbrev pub IsOnlyAdmin : AccountId → Account → Type 0
+IsOnlyAdmin a account = IsEnabledAdmin account → account.num ≡ a
 
 -- after the event no account is an enabled admin
 unfoldable pub LeavesNoAdmin : Tables → Event → Type 0

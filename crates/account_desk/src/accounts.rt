@@ -1,16 +1,13 @@
 //! New accounts.
 
 ghost use Rattle.std.specs.Prelude.{◌≡◌, MatchResult, true};
-ghost use Rattle.share_graph.specs.Forms.{IsOne};
-ghost use Rattle.share_graph.specs.Fresh.{is_handle};
-ghost use Rattle.share_graph.specs.Keys.{HasHandle, IsNoneOf};
-ghost use Rattle.share_graph.specs.WellFormed.{IsWellFormed};
+ghost use Rattle.desk_base.specs.Terms.{HasHandle, is_handle, IsNoneOf, IsOne, IsWellFormed};
 ghost use Rattle.desk_base.specs.Fitting.{RowFits};
 ghost use Rattle.desk_base.specs.Outcomes.{Checks, IsCarried};
 ghost use Rattle.account_desk.specs.Commands.{AddAccount, account_step};
 ghost use Rattle.account_desk.specs.Rows.{IsTaken};
 
-use desk_base::{BLANK, Draft, NOTHING, Outcome, Stop, caller_admin, has_room};
+use desk_base::{Answer, BLANK, Draft, NOTHING, Outcome, Stop, caller_admin, has_room};
 use host_base::AccountId;
 use plain_data::Name;
 use share_graph::{Account, Caller, Event, Kind, Made, Refusal, State, Tables, by_handle};
@@ -38,12 +35,7 @@ fn check_add_account(state: &State, caller: &Caller, handle: &Name, name: &Name)
 }
 
 /// Adds an account, whose login is drawn; it is enabled and no admin. The reply shows its number.
-pub fn add_account(
-    state: &State,
-    caller: &Caller,
-    handle: &Name,
-    name: &Name,
-) -> Result<Outcome, Stop>
+pub fn add_account(state: &State, caller: &Caller, handle: &Name, name: &Name) -> Answer
     requires formed { IsWellFormed state.now }
     requires handle { is_handle handle.now ≡ true }
     ensures row { IsCarried (AddAccount state.now caller.now handle.now name.now) result }

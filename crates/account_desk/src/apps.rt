@@ -1,13 +1,11 @@
-ghost use Rattle.share_graph.specs.Fitting.{IsSoundManifest};
+ghost use Rattle.desk_base.specs.Terms.{IsOne, IsSoundManifest, IsWellFormed};
 ghost use Rattle.std.specs.Prelude.{false};
-ghost use Rattle.share_graph.specs.Forms.{IsOne};
-ghost use Rattle.share_graph.specs.WellFormed.{IsWellFormed};
 ghost use Rattle.desk_base.specs.Fitting.{RowFits};
 ghost use Rattle.desk_base.specs.Outcomes.{Checks, IsCarried};
 ghost use Rattle.account_desk.specs.Commands.{AddApp, app_step};
 
 use app_manifest::Manifest;
-use desk_base::{NOTHING, Outcome, Stop, caller_admin, has_room};
+use desk_base::{Answer, NOTHING, Outcome, Stop, caller_admin, has_room};
 use host_base::AppId;
 use share_graph::{App, Caller, Event, Kind, Made, State};
 
@@ -22,7 +20,7 @@ fn check_add_app(state: &State, caller: &Caller, manifest: &Manifest) -> Result<
 }
 
 /// Adds an application with a manifest, of which a copy is kept. The reply shows its number.
-pub fn add_app(state: &State, caller: &Caller, manifest: &Manifest) -> Result<Outcome, Stop>
+pub fn add_app(state: &State, caller: &Caller, manifest: &Manifest) -> Answer
     requires formed { IsWellFormed state.now }
     requires sound { IsSoundManifest manifest.now }
     ensures row { IsCarried (AddApp state.now caller.now manifest.now) result }

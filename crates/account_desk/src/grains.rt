@@ -1,11 +1,10 @@
 ghost use Rattle.std.specs.Prelude.{true, false};
-ghost use Rattle.share_graph.specs.Forms.{IsOne};
-ghost use Rattle.share_graph.specs.WellFormed.{IsWellFormed};
+ghost use Rattle.desk_base.specs.Terms.{IsOne, IsWellFormed};
 ghost use Rattle.desk_base.specs.Fitting.{RowFits};
 ghost use Rattle.desk_base.specs.Outcomes.{Checks, IsCarriedExactly, IsCarried};
-ghost use Rattle.account_desk.specs.Commands.{NewGrain, grain_step, Trash, trash_step};
+ghost use Rattle.account_desk.specs.Commands.{NewGrain, grain_step, Trash};
 
-use desk_base::{NOTHING, Outcome, Stop, caller_account, has_room, known_app, known_grain};
+use desk_base::{Answer, NOTHING, Outcome, Stop, caller_account, has_room, known_app, known_grain};
 use host_base::{AccountId, AppId, GrainId};
 use plain_data::Name;
 use share_graph::{Caller, Event, Grain, Kind, Made, Refusal, State};
@@ -28,7 +27,7 @@ fn check_new_grain(
 
 /// Makes a grain of an application, owned by the caller. The reply shows its number.
 #[tactic(auto, using(crate::proofs::OneRows::new_grain_one, crate::proofs::FitRows::new_grain_fits))]
-pub fn new_grain(state: &State, caller: &Caller, app: AppId, title: &Name) -> Result<Outcome, Stop>
+pub fn new_grain(state: &State, caller: &Caller, app: AppId, title: &Name) -> Answer
     requires { IsWellFormed state.now }
     ensures row { IsCarried (NewGrain state.now caller.now app title.now) result }
     ensures one { IsOne (NewGrain state.now caller.now app title.now) }
@@ -50,9 +49,9 @@ pub fn new_grain(state: &State, caller: &Caller, app: AppId, title: &Name) -> Re
     Ok(Outcome::Change(Event::GrainAdded(grain), made))
 }
 
-// The checks of `trash` and `untrash`.
-fn check_trash(state: &State, caller: &Caller, num: GrainId, on: bool) -> Result<(), Stop>
-    ensures { Checks (Trash state.now caller.now num on) (λ _. trash_step num on) result }
+// Puts a grain into the trash, or takes it out.
+fn set_trashed(state: &State, caller: &Caller, num: GrainId, on: bool) -> Answer
+    ensures { IsCarriedExactly (Trash state.now caller.now num on) result }
 {
     let account = caller_account(state, caller)?;
     let grain = known_grain(&state.tables, num)?;
@@ -62,19 +61,12 @@ fn check_trash(state: &State, caller: &Caller, num: GrainId, on: bool) -> Result
     if grain.trashed == on {
         return Err(Stop::Same(NOTHING));
     }
-    Ok(())
-}
-
-fn set_trashed(state: &State, caller: &Caller, num: GrainId, on: bool) -> Result<Outcome, Stop>
-    ensures { IsCarriedExactly (Trash state.now caller.now num on) result }
-{
-    check_trash(state, caller, num, on)?;
     Ok(Outcome::Change(Event::TrashedSet(num, on), NOTHING))
 }
 
 /// Puts a grain into the trash. Its run goes on.
 #[tactic(auto, using(crate::proofs::OneRows::trash_one, crate::proofs::FitRows::trash_fits))]
-pub fn trash(state: &State, caller: &Caller, num: GrainId) -> Result<Outcome, Stop>
+pub fn trash(state: &State, caller: &Caller, num: GrainId) -> Answer
     requires { IsWellFormed state.now }
     ensures row { IsCarriedExactly (Trash state.now caller.now num true) result }
     ensures one { IsOne (Trash state.now caller.now num true) }
@@ -85,7 +77,7 @@ pub fn trash(state: &State, caller: &Caller, num: GrainId) -> Result<Outcome, St
 
 /// Takes a grain out of the trash.
 #[tactic(auto, using(crate::proofs::OneRows::trash_one, crate::proofs::FitRows::trash_fits))]
-pub fn untrash(state: &State, caller: &Caller, num: GrainId) -> Result<Outcome, Stop>
+pub fn untrash(state: &State, caller: &Caller, num: GrainId) -> Answer
     requires { IsWellFormed state.now }
     ensures row { IsCarriedExactly (Trash state.now caller.now num false) result }
     ensures one { IsOne (Trash state.now caller.now num false) }

@@ -1,9 +1,8 @@
 -- The first row of a list that is so is one.
 use Rattle.std.proofs.Common.{◌≡◌, ◌++◌, ◌∷◌, ◌∙◌, zero, List, [], refl, sym, subst, inl, inr}
 use Rattle.std.proofs.lemmas.List.Elements.{Contains-append_right}
-use Rattle.share_graph.specs.declared.desk.Made.{Made}
-use Rattle.share_graph.specs.Forms.{IsOne}
-use Rattle.share_graph.specs.Keys.{IsFirstOf, IsNoneOf}
+use Rattle.desk_base.specs.Terms.{IsNoneOf, IsOne, Made}
+use Rattle.share_graph.specs.Keys.{IsFirstOf}
 use Rattle.share_graph.proofs.Contained.{contains_at}
 use Rattle.share_graph.proofs.FirstOf.{one_of}
 use Rattle.desk_base.specs.Steps.{Step}

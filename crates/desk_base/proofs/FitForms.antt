@@ -1,16 +1,9 @@
 -- That the changes of a command fit is proved along its row, check by check, with what each check has shown.
 use Rattle.std.proofs.Common.{◌≡◌, Bool, true, false, List, None, sym, subst, inl, inr}
-use Rattle.share_graph.specs.declared.desk.Caller.{Caller}
-use Rattle.share_graph.specs.declared.desk.Made.{Made}
-use Rattle.share_graph.specs.declared.event.Event.{Event}
-use Rattle.share_graph.specs.declared.facts.Node.{Node}
-use Rattle.share_graph.specs.declared.grants.Grant.{Grant}
-use Rattle.share_graph.specs.declared.refusal.Refusal.{Refusal}
+use Rattle.desk_base.specs.Terms.{Caller, Event, EventFits, found◌or◌then◌, Grant, IsBearerOf, IsOneOf, Made}
+use Rattle.desk_base.specs.Terms.{must◌or◌then◌, Node, none, Refusal, some◌of◌or◌then◌, State, unless◌then◌else◌}
+use Rattle.desk_base.specs.Terms.{when◌then◌else◌}
 use Rattle.share_graph.specs.declared.refusal.Refusal.TheVariants.{Denied}
-use Rattle.share_graph.specs.declared.state.State.{State}
-use Rattle.share_graph.specs.EventFits.{EventFits}
-use Rattle.share_graph.specs.Forms.{when◌then◌else◌, unless◌then◌else◌, must◌or◌then◌, found◌or◌then◌, none, some◌of◌or◌then◌}
-use Rattle.share_graph.specs.Keys.{IsOneOf, IsBearerOf}
 use Rattle.desk_base.specs.Fitting.{ChangeFits, RowFits}
 use Rattle.desk_base.specs.Limits.{limit_at, adds}
 use Rattle.desk_base.specs.Steps.{Step, Refuses, Keeps, Makes, Change, Plain, refusing}

@@ -1,22 +1,17 @@
 -- An assignment has one first fault at the most, and none where it may be given.
-use Rattle.std.proofs.Common.{◌≡◌, ◌∙◌, ◌<◌, ◌↔◌, ℕ, Bool, true, false, IsTrue, List, Option, Some, None, MatchOption, length, slice_get, refl, sym, subst, inl, inr}
+use Rattle.std.proofs.Common.{◌≡◌, ◌∙◌, ◌<◌, ◌↔◌, ℕ, Bool, true, false, IsTrue, List, Option, Some, None, MatchOption, length, slice_get, refl, sym, subst, arith, inl, inr}
 use Rattle.std.proofs.lemmas.Bool.{false≢true}
+use Rattle.std.proofs.lemmas.Nat.Bits.{bit_at-zero}
 use Rattle.std.proofs.lemmas.Option.{slice_get_within}
-use Rattle.app_manifest.specs.declared.manifest.Manifest.{Manifest}
-use Rattle.host_base.specs.declared.ids.GrainId.{GrainId}
+use Rattle.desk_base.specs.Terms.{App, Assignment, ForApp, GrainId, IsAppOf, IsOne, IsWithin, Manifest, Refusal}
+use Rattle.desk_base.specs.Terms.{State, Tables}
+use Rattle.perm_roles.specs.PermSet.{Has, no_permissions}
 use Rattle.perm_roles.specs.Roles.{IsInRoles}
-use Rattle.perm_roles.specs.declared.roles.Assignment.{Assignment}
 use Rattle.perm_roles.specs.declared.roles.Base.{Base}
 use Rattle.perm_roles.specs.declared.roles.Base.TheVariants as base
 use Rattle.perm_roles.specs.declared.roles.Role.{Role}
-use Rattle.share_graph.specs.declared.refusal.Refusal.{Refusal}
 use Rattle.share_graph.specs.declared.refusal.Refusal.TheVariants.{BadRole, ObsoleteRole}
-use Rattle.share_graph.specs.declared.rows.App.{App}
-use Rattle.share_graph.specs.declared.state.State.{State}
-use Rattle.share_graph.specs.declared.state.Tables.{Tables}
-use Rattle.share_graph.specs.Fitting.{ForApp, IsAssignmentFor}
-use Rattle.share_graph.specs.Forms.{IsOne}
-use Rattle.share_graph.specs.Rows.{IsAppOf}
+use Rattle.share_graph.specs.Fitting.{IsAssignmentFor}
 use Rattle.share_graph.proofs.Fits.{app_unique}
 use Rattle.share_graph.proofs.OneAnswer.{must_one}
 use Rattle.desk_base.specs.Steps.{Step, refusing}
@@ -87,6 +82,11 @@ listed m base.AllAccess given = tt
 -- an assignment that may be given fits
 pub assignment_for : (m : Manifest) (a : Assignment) → MayGive m a → IsAssignmentFor m a
 assignment_for m a may = record { add = may.sets.add; remove = may.sets.remove; listed = listed m a.base may.given }
+
+-- no permissions are permissions of any application
+pub none_within : (count : ℕ) → IsWithin no_permissions count
+unfolding Has no_permissions
+none_within count p has = let none = bit_at-zero p in absurd (omega arith)
 
 -- what a test tells of a grain's application it tells of the grain
 pub for_app : (t : Tables) (n : GrainId) (P : App → Type 0) (app : App) (test : Bool) → IsAppOf t n app → IsTrue test ↔ P app → IsTrue test ↔ ForApp t n P

@@ -1,19 +1,12 @@
 -- Needs that can be had, and the first that can't.
 use Rattle.std.proofs.Common.{◌≡◌, ◌≤◌, ◌<◌, ◌⊎◌, ◌+◌, ◌∙◌, ℕ, All, List, Some, length, slice_get, get_or, sym, ap, subst, arith, inl, inr}
 use Rattle.std.proofs.lemmas.Option.{slice_get_within, slice_get-get_or}
-use Rattle.share_graph.specs.declared.facts.Node.{Node}
+use Rattle.desk_base.specs.Terms.{IsNode, IsOne, KnowsNeed, Need, NeedFits, NeedSetFits, Node, Refusal, State, Tables}
 use Rattle.share_graph.specs.declared.facts.Node.TheVariants as node
-use Rattle.share_graph.specs.declared.grants.Need.{Need}
 use Rattle.share_graph.specs.declared.grants.Need.TheVariants as need
-use Rattle.share_graph.specs.declared.refusal.Refusal.{Refusal}
 use Rattle.share_graph.specs.declared.refusal.Refusal.TheVariants.{BadNeed}
-use Rattle.share_graph.specs.declared.state.State.{State}
-use Rattle.share_graph.specs.declared.state.Tables.{Tables}
-use Rattle.share_graph.specs.Fitting.{NeedSetFits}
-use Rattle.share_graph.specs.Forms.{IsOne}
-use Rattle.share_graph.specs.Known.{KnowsNode, KnowsNeed}
-use Rattle.share_graph.specs.Missing.{IsNode}
-use Rattle.share_graph.specs.Parents.{HolderFits, NeedFits}
+use Rattle.share_graph.specs.Known.{KnowsNode}
+use Rattle.share_graph.specs.Parents.{HolderFits}
 use Rattle.share_graph.proofs.OneAnswer.{must_one}
 use Rattle.desk_base.specs.Steps.{Step}
 use Rattle.desk_base.specs.Needs.{CanBeHad, IsGoodAt, AreGood, IsFirstBad, HasBadNeed}

@@ -1,18 +1,8 @@
 -- The words of the table of commands have one answer at the most, where the rest has.
 use Rattle.std.proofs.Common.{◌≡◌, ◌∙◌, Option, Some, None, sym, inl, inr}
-use Rattle.share_graph.specs.declared.desk.Caller.{Caller}
-use Rattle.host_base.specs.declared.ids.AccountId.{AccountId}
-use Rattle.host_base.specs.declared.ids.AppId.{AppId}
-use Rattle.host_base.specs.declared.ids.GrainId.{GrainId}
-use Rattle.host_base.specs.declared.ids.GrantId.{GrantId}
+use Rattle.desk_base.specs.Terms.{Account, AccountId, App, AppId, Caller, Grain, GrainId, Grant, GrantId, IsOne}
+use Rattle.desk_base.specs.Terms.{IsWellFormed, State}
 use Rattle.share_graph.specs.declared.facts.Node.TheVariants as node
-use Rattle.share_graph.specs.declared.grants.Grant.{Grant}
-use Rattle.share_graph.specs.declared.rows.Account.{Account}
-use Rattle.share_graph.specs.declared.rows.App.{App}
-use Rattle.share_graph.specs.declared.rows.Grain.{Grain}
-use Rattle.share_graph.specs.declared.state.State.{State}
-use Rattle.share_graph.specs.Forms.{IsOne}
-use Rattle.share_graph.specs.WellFormed.{IsWellFormed}
 use Rattle.share_graph.proofs.Apart.{login_one, bearer_one}
 use Rattle.share_graph.proofs.MissingOne.{entry_one}
 use Rattle.share_graph.proofs.OneAnswer.{unless_one, some_of_one, found_or_none_one}

@@ -1,7 +1,7 @@
 -- Where a limit isn't reached there is room.
 use Rattle.std.proofs.Common.{◌≡◌, ◌<◌, ℕ, Bool, true, false, Some, None, nat_le, if◌then◌else◌, refl, arith}
 use Rattle.std.proofs.lemmas.Bool.Decides.{nat_tests}
-use Rattle.share_graph.specs.declared.fault.Kind.{Kind}
+use Rattle.desk_base.specs.Terms.{Kind}
 use Rattle.share_graph.specs.declared.refusal.Refusal.TheVariants.{TooMany}
 use Rattle.desk_base.specs.Limits.{over}
 

@@ -1,11 +1,11 @@
 -- Where the checks of a command stop.
 use Rattle.std.proofs.Common.{◌≡◌, Result, Ok, Err, IsErrAnd, sym, subst}
-use Rattle.share_graph.specs.declared.refusal.Refusal.{Refusal}
+use Rattle.desk_base.specs.Terms.{Refusal}
 use Rattle.desk_base.specs.declared.outcome.Outcome.{Outcome}
 use Rattle.desk_base.specs.declared.stop.Stop.{Stop}
 use Rattle.desk_base.specs.declared.stop.Stop.TheVariants as stop
-use Rattle.desk_base.specs.Outcomes.{Stops, Checks, IsCarriedExactly, IsCarried}
-use Rattle.desk_base.specs.Steps.{Step, Refuses}
+use Rattle.desk_base.specs.Outcomes.{step_of, Stops, Checks, IsCarriedExactly, IsCarried}
+use Rattle.desk_base.specs.Steps.{Step, Refuses, Keeps}
 
 -- a test's refusal is that of the command
 pub stopped : {X : Type 0} (Row : Step → Type 0) (makes : X → Step) (result : Result X Stop) (r : Refusal) → IsErrAnd result (λ e. e ≡ stop.Refused r) → Row (Refuses r) → Checks Row makes result
@@ -23,3 +23,14 @@ loosely Row (Ok out) is = is
 loosely Row (Err (stop.Refused r)) is = is
 loosely Row (Err (stop.Same made)) is = is
 loosely Row (Err stop.Memory) is = tt
+
+-- a test's refusal is that of a command that may run out of memory
+pub refused : (Row : Step → Type 0) (result : Result Outcome Stop) (r : Refusal) → IsErrAnd result (λ e. e ≡ stop.Refused r) → Row (Refuses r) → IsCarried Row result
+refused Row result r same is = loosely Row result (stopped Row step_of result r same is)
+
+-- what is carried out by the rest of a row is carried out by the row, where the row goes on with it
+pub carried_more : (Rest Row : Step → Type 0) → ((step : Step) → Rest step → Row step) → (result : Result Outcome Stop) → IsCarried Rest result → IsCarried Row result
+carried_more Rest Row more (Ok out) is = more (step_of out) is
+carried_more Rest Row more (Err (stop.Refused r)) is = more (Refuses r) is
+carried_more Rest Row more (Err (stop.Same made)) is = more (Keeps made) is
+carried_more Rest Row more (Err stop.Memory) is = tt

@@ -1,25 +1,16 @@
 -- From what a test establishes into the row that begins with it, and from its refusals.
-use Rattle.std.proofs.Common.{◌≡◌, ◌∙◌, ◌↔◌, Bool, IsTrue, Some, Result, Ok, Err, IsErrAnd, MatchResult, sym, inl, inr, ap, subst}
-use Rattle.host_base.specs.declared.ids.GrantId.{GrantId}
-use Rattle.share_graph.specs.declared.desk.Caller.{Caller}
-use Rattle.share_graph.specs.declared.facts.Node.{Node}
-use Rattle.share_graph.specs.declared.grants.Grant.{Grant}
-use Rattle.share_graph.specs.declared.grants.Target.{Target}
+use Rattle.std.proofs.Common.{◌≡◌, ◌∙◌, ◌↔◌, Bool, Contains, IsTrue, Some, Result, Ok, Err, IsErrAnd, MatchResult, sym, inl, inr, ap, subst}
+use Rattle.desk_base.specs.Terms.{Account, Caller, found◌or◌then◌, GrainId, Grant, GrantId, HasAccount, IsGrant}
+use Rattle.desk_base.specs.Terms.{IsNoUser, IsWellFormed, LacksEntry, Node, none, Refusal, State, Tables, Target}
+use Rattle.share_graph.specs.declared.facts.Node.TheVariants as node
 use Rattle.share_graph.specs.declared.grants.Target.TheVariants as target
-use Rattle.share_graph.specs.declared.refusal.Refusal.{Refusal}
 use Rattle.share_graph.specs.declared.refusal.Refusal.TheVariants.{Denied}
-use Rattle.share_graph.specs.declared.rows.Account.{Account}
-use Rattle.share_graph.specs.declared.state.State.{State}
-use Rattle.share_graph.specs.declared.state.Tables.{Tables}
-use Rattle.share_graph.specs.Callers.{LacksEntry}
-use Rattle.share_graph.specs.Forms.{none, found◌or◌then◌}
 use Rattle.share_graph.specs.Keys.{IsBearer}
-use Rattle.share_graph.specs.Parents.{IsNoUser}
-use Rattle.share_graph.specs.Rows.{IsGrant}
-use Rattle.desk_base.specs.Calling.{IsCaller, IsNoCaller, IsAdminCaller, IsNoAdminCaller}
+use Rattle.share_graph.proofs.Contained.{listed_row}
+use Rattle.desk_base.specs.Calling.{IsCaller, IsNoCaller, IsAdminCaller, IsNoAdminCaller, IsCallerOn, IsNoCallerOn}
 use Rattle.desk_base.specs.Passing.{Passes, Fails}
 use Rattle.desk_base.specs.Steps.{Step, Refuses, denies}
-use Rattle.desk_base.specs.Wording.{secret_of, by_account, by_admin, by_bearer}
+use Rattle.desk_base.specs.Wording.{secret_of, by_account, by_admin, by_bearer, known_grain, access◌of◌then◌}
 
 pub account_calls : (s : State) (who : Caller) (Rest : Account → Step → Type 0) (account : Account) (step : Step) → IsCaller s (secret_of who) account → Rest account step → by_account s who Rest step
 account_calls s who Rest account step is rest = inr (account, is.one, inr (is.enabled, rest))
@@ -36,12 +27,28 @@ admin_refused s who Rest r (inl (inl (same, never))) = inl (ap Refuses same, nev
 admin_refused s who Rest r (inl (inr (account, same, one, disabled))) = inr (account, one, inl (ap Refuses same, disabled))
 admin_refused s who Rest r (inr (account, same, caller, other)) = inr (account, caller.one, inr (caller.enabled, inl (ap Refuses same, other)))
 
+-- the caller's account on a grain
+module _ (s : State) (who : Caller) (n : GrainId) (Rest : Account → Step → Type 0) where
+  pub on_calls : (account : Account) (step : Step) → IsCallerOn s (secret_of who) n account → Rest account step
+      → (by_account s who λ account. known_grain s n λ grain. access (node.User n account.num) of s then Rest account) step
+  on_calls account step is rest = inr (account, is.caller.one, inr (is.caller.enabled, inr (is.grain.0, is.grain.1, inr (is.held, rest))))
+
+  pub on_refused : (r : Refusal) → IsNoCallerOn s (secret_of who) n r
+      → (by_account s who λ account. known_grain s n λ grain. access (node.User n account.num) of s then Rest account) (Refuses r)
+  on_refused r (inl none) = account_refused s who (λ account. known_grain s n λ grain. access (node.User n account.num) of s then Rest account) r none
+  on_refused r (inr (inl (account, is, (same, never)))) = inr (account, is.one, inr (is.enabled, inl (ap Refuses same, never)))
+  on_refused r (inr (inr (account, is, (grain, there), (reason, same, missing)))) = inr (account, is.one, inr (is.enabled, inr (grain, there, inl (reason, ap Refuses same, missing))))
+
 -- a row of a number
 pub found_row : {X : Type 0} (P : X → Type 0) (gone : Refusal) (Rest : X → Step → Type 0) (x : X) (step : Step) → P x → Rest x step → (found P or none P (Refuses gone) then Rest) step
 found_row P gone Rest x step is rest = inr (x, is, rest)
 
 pub missing_row : {X : Type 0} (P : X → Type 0) (gone : Refusal) (Rest : X → Step → Type 0) (r : Refusal) → none P gone r → (found P or none P (Refuses gone) then Rest) (Refuses r)
 missing_row P gone Rest r (same, never) = inl (ap Refuses same, never)
+
+-- an account of the list is there
+pub listed_account : (s : State) → IsWellFormed s → (account : Account) → Contains s.tables.accounts account → HasAccount s.tables account.num
+listed_account s formed account listed = (account, listed_row (λ (x : Account). x.num.0) s.tables.accounts account formed.numbered.accounts listed)
 
 -- a bearer is no account
 pub bearer_is_no_user : (to : Target) → IsBearer to → IsNoUser to

@@ -1,15 +1,9 @@
 -- WHAT THE MACHINE ACCEPTS, once for all commands: by the row of the command, the number of entries so far, and the digest of the
 -- secret that was drawn, if one was.
 use Rattle.std.specs.Prelude.{◌≡◌, ◌⊎◌, ◌<◌, ◌≤◌, ℕ, Option, Some, None}
-use Rattle.host_base.specs.declared.digest.Digest.{Digest}
-use Rattle.share_graph.specs.declared.desk.Made.{Made}
-use Rattle.share_graph.specs.declared.event.Event.{Event}
-use Rattle.share_graph.specs.declared.fault.Kind.{Kind}
+use Rattle.desk_base.specs.Terms.{Digest, Event, HasDigest, IsUnused, Kind, Made, Refusal, State}
 use Rattle.share_graph.specs.declared.fault.Kind.TheVariants as kind
-use Rattle.share_graph.specs.declared.refusal.Refusal.{Refusal}
 use Rattle.share_graph.specs.declared.refusal.Refusal.TheVariants.{TooMany, TokenClash}
-use Rattle.share_graph.specs.declared.state.State.{State}
-use Rattle.share_graph.specs.Kinds.{HasDigest, IsUnused}
 use Rattle.desk_base.specs.Limits.{most_entries}
 use Rattle.desk_base.specs.Steps.{Step, Refuses, Keeps, Makes, Change, Plain, Drawn}
 

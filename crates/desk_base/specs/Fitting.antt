@@ -1,10 +1,6 @@
 -- What the changes of a command owe: each fits the state, and they want a digest all or none.
 use Rattle.std.specs.Prelude.{Bool, true, false}
-use Rattle.host_base.specs.declared.digest.Digest.{Digest}
-use Rattle.share_graph.specs.declared.desk.Made.{Made}
-use Rattle.share_graph.specs.declared.state.State.{State}
-use Rattle.share_graph.specs.EventFits.{EventFits}
-use Rattle.share_graph.specs.Kinds.{IsUnused}
+use Rattle.desk_base.specs.Terms.{Digest, EventFits, IsUnused, Made, State}
 use Rattle.desk_base.specs.Steps.{Step, Makes, Change, Plain, Drawn}
 
 -- the change fits; one that wants a digest, as it has to where the command draws a secret, with each digest that no row has

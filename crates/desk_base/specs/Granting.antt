@@ -1,16 +1,9 @@
 -- The grants that commands add.
 use Rattle.std.specs.Prelude.{List, Option, Some, None, false}
-use Rattle.host_base.specs.declared.digest.Digest.{Digest}
-use Rattle.host_base.specs.declared.ids.GrainId.{GrainId}
+use Rattle.desk_base.specs.Terms.{Assignment, Digest, Giver, GrainId, Grant, Need, Tables, Target}
 use Rattle.perm_roles.specs.PermSet.{no_permissions}
-use Rattle.perm_roles.specs.declared.roles.Assignment.{Assignment}
 use Rattle.perm_roles.specs.declared.roles.Base.TheVariants as base
 use Rattle.share_graph.specs.declared.event.Event.TheVariants.{GrantAdded}
-use Rattle.share_graph.specs.declared.grants.Giver.{Giver}
-use Rattle.share_graph.specs.declared.grants.Grant.{Grant}
-use Rattle.share_graph.specs.declared.grants.Need.{Need}
-use Rattle.share_graph.specs.declared.grants.Target.{Target}
-use Rattle.share_graph.specs.declared.state.Tables.{Tables}
 use Rattle.desk_base.specs.Made.{next, made_grant}
 use Rattle.desk_base.specs.Steps.{Step, Makes, Plain, Drawn}
 

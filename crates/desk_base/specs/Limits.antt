@@ -1,15 +1,9 @@
 -- How many rows there may be: where an event's row would be one too many. A digest has no part in that.
 use Rattle.std.specs.Prelude.{◌≡◌, ◌⊎◌, ℕ, Bool, length, count_by, Option, Some, None, nat_le, nat_lt, replicate, not, if◌then◌else◌}
-use Rattle.host_base.specs.declared.digest.Digest.{Digest}
-use Rattle.share_graph.specs.declared.event.Event.{Event}
+use Rattle.desk_base.specs.Terms.{Digest, Event, is_open_of, Kind, Refusal, Session, State}
 use Rattle.share_graph.specs.declared.event.Event.TheVariants as event
-use Rattle.share_graph.specs.declared.fault.Kind.{Kind}
 use Rattle.share_graph.specs.declared.fault.Kind.TheVariants as kind
-use Rattle.share_graph.specs.declared.refusal.Refusal.{Refusal}
 use Rattle.share_graph.specs.declared.refusal.Refusal.TheVariants.{TooMany}
-use Rattle.share_graph.specs.declared.sessions.Session.{Session}
-use Rattle.share_graph.specs.declared.state.State.{State}
-use Rattle.share_graph.specs.History.{is_open_of}
 use Rattle.state_step.specs.NewRows.{handles_of}
 use Rattle.desk_base.specs.Steps.{Change, Plain, Drawn, Step, Refuses, Keeps, Makes}
 

@@ -1,7 +1,6 @@
 -- What replies show.
 use Rattle.std.specs.Prelude.{ℕ, ◌+◌, List, Some, None, length}
-use Rattle.share_graph.specs.declared.desk.Made.{Made}
-use Rattle.share_graph.specs.declared.state.Tables.{Tables}
+use Rattle.desk_base.specs.Terms.{Made, Tables}
 
 abbrev pub nothing_made : Made
 nothing_made = record { account = None; app = None; grain = None; grant = None; handle = None; saved = None; session = None }

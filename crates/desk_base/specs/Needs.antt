@@ -1,14 +1,10 @@
 -- "needs": whether needs can be had, and the first that can't.
 use Rattle.std.specs.Prelude.{◌≡◌, ◌<◌, ℕ, List, Some, slice_get}
 use Rattle.share_graph.specs.declared.facts.Node.TheVariants as node
-use Rattle.share_graph.specs.declared.grants.Need.{Need}
+use Rattle.desk_base.specs.Terms.{HasAccount, IsNode, Need, Refusal, Tables}
 use Rattle.share_graph.specs.declared.grants.Need.TheVariants as need
-use Rattle.share_graph.specs.declared.refusal.Refusal.{Refusal}
 use Rattle.share_graph.specs.declared.refusal.Refusal.TheVariants.{BadNeed}
-use Rattle.share_graph.specs.declared.state.Tables.{Tables}
 use Rattle.share_graph.specs.Fitting.{HolderSetFits}
-use Rattle.share_graph.specs.Known.{HasAccount}
-use Rattle.share_graph.specs.Missing.{IsNode}
 
 -- the rows that the need names are there, a grant among them goes to no account, and its set fits the application
 abbrev pub CanBeHad : Tables → Need → Type 0

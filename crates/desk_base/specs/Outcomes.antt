@@ -1,14 +1,8 @@
 -- What a desk answers, by the row of its command.
 use Rattle.std.specs.Prelude.{◌≡◌, ℕ, Some, Result, Ok, Err}
-use Rattle.host_base.specs.declared.digest.Digest.{Digest}
-use Rattle.share_graph.specs.declared.desk.Made.{Made}
-use Rattle.share_graph.specs.declared.event.Event.{Event}
+use Rattle.desk_base.specs.Terms.{Digest, Event, HasDigest, IsUnused, Kind, Made, Refusal, State}
 use Rattle.share_graph.specs.declared.event.Event.TheVariants as event
-use Rattle.share_graph.specs.declared.fault.Kind.{Kind}
-use Rattle.share_graph.specs.declared.refusal.Refusal.{Refusal}
 use Rattle.share_graph.specs.declared.refusal.Refusal.TheVariants.{TokenClash}
-use Rattle.share_graph.specs.declared.state.State.{State}
-use Rattle.share_graph.specs.Kinds.{HasDigest, IsUnused}
 use Rattle.desk_base.specs.declared.outcome.Draft.{Draft}
 use Rattle.desk_base.specs.declared.outcome.Outcome.{Outcome}
 use Rattle.desk_base.specs.declared.outcome.Outcome.TheVariants as outcome

@@ -1,6 +1,6 @@
 -- An aid for the proofs of the checks: what a test tells of the word of the table that it stands for.
 use Rattle.std.specs.Prelude.{◌≡◌}
-use Rattle.share_graph.specs.declared.refusal.Refusal.{Refusal}
+use Rattle.desk_base.specs.Terms.{Refusal}
 use Rattle.desk_base.specs.Steps.{Step, Refuses}
 
 -- the word lets this through, whatever the rest comes to

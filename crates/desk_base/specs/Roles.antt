@@ -1,15 +1,9 @@
 -- "role": whether an assignment may be given on a grain, by its application, and the first fault of one that may not.
 use Rattle.std.specs.Prelude.{◌≡◌, ◌⊎◌, length, slice_get, MatchOption, true}
-use Rattle.app_manifest.specs.declared.manifest.Manifest.{Manifest}
-use Rattle.host_base.specs.declared.ids.GrainId.{GrainId}
-use Rattle.perm_roles.specs.PermSet.{IsWithin}
-use Rattle.perm_roles.specs.declared.roles.Assignment.{Assignment}
+use Rattle.desk_base.specs.Terms.{Assignment, ForApp, GrainId, IsWithin, Manifest, Refusal, Tables}
 use Rattle.perm_roles.specs.declared.roles.Base.{Base}
 use Rattle.perm_roles.specs.declared.roles.Base.TheVariants as base
-use Rattle.share_graph.specs.declared.refusal.Refusal.{Refusal}
 use Rattle.share_graph.specs.declared.refusal.Refusal.TheVariants.{BadRole, ObsoleteRole, LongSet}
-use Rattle.share_graph.specs.declared.state.Tables.{Tables}
-use Rattle.share_graph.specs.Fitting.{ForApp}
 
 -- the base is nothing, everything, or a role that is there and still given
 abbrev pub IsBaseOf : Manifest → Base → Type 0

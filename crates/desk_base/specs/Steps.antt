@@ -1,11 +1,7 @@
 -- What the machine makes of a command. A command is defined by its row: whose call it is, the checks in their order, when things are
 -- as it asks, and what it adds; so it is a relation between a state, a caller, arguments and the step that the checks come to.
 use Rattle.std.specs.Prelude.{◌≡◌}
-use Rattle.host_base.specs.declared.digest.Digest.{Digest}
-use Rattle.host_base.specs.declared.verdict.Denial.{Denial}
-use Rattle.share_graph.specs.declared.desk.Made.{Made}
-use Rattle.share_graph.specs.declared.event.Event.{Event}
-use Rattle.share_graph.specs.declared.refusal.Refusal.{Refusal}
+use Rattle.desk_base.specs.Terms.{Denial, Digest, Event, Made, Refusal}
 use Rattle.share_graph.specs.declared.refusal.Refusal.TheVariants.{Denied}
 
 -- What a command adds: an event, or one that is to have the digest of a secret, which is drawn later.

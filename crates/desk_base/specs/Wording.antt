@@ -1,28 +1,15 @@
 -- The words of the table of commands.
 use Rattle.std.specs.Prelude.{◌≡◌, ◌⊎◌, List, true}
-use Rattle.host_base.specs.declared.digest.Digest.{Digest}
-use Rattle.host_base.specs.declared.ids.AccountId.{AccountId}
-use Rattle.host_base.specs.declared.ids.AppId.{AppId}
-use Rattle.host_base.specs.declared.ids.GrainId.{GrainId}
-use Rattle.host_base.specs.declared.ids.GrantId.{GrantId}
-use Rattle.perm_roles.specs.declared.roles.Assignment.{Assignment}
-use Rattle.share_graph.specs.declared.desk.Caller.{Caller}
+use Rattle.desk_base.specs.Terms.{Account, AccountId, App, AppId, Assignment, Caller, Digest, entry, found◌or◌then◌}
+use Rattle.desk_base.specs.Terms.{Grain, GrainId, Grant, GrantId, IsGrain, IsGrant, IsNoneOf, Made, must◌or◌then◌}
+use Rattle.desk_base.specs.Terms.{Need, Node, none, State, unless◌then◌else◌}
 use Rattle.share_graph.specs.declared.desk.Caller.TheVariants as caller
-use Rattle.share_graph.specs.declared.desk.Made.{Made}
-use Rattle.share_graph.specs.declared.facts.Node.{Node}
 use Rattle.share_graph.specs.declared.fault.Kind.TheVariants as kind
-use Rattle.share_graph.specs.declared.grants.Grant.{Grant}
-use Rattle.share_graph.specs.declared.grants.Need.{Need}
 use Rattle.share_graph.specs.declared.refusal.Refusal.TheVariants.{NotAdmin, Unknown}
-use Rattle.share_graph.specs.declared.rows.Account.{Account}
-use Rattle.share_graph.specs.declared.rows.App.{App}
-use Rattle.share_graph.specs.declared.rows.Grain.{Grain}
-use Rattle.share_graph.specs.declared.state.State.{State}
 use Rattle.share_graph.specs.Callers as callers
-use Rattle.share_graph.specs.Callers.{by_login, entry}
-use Rattle.share_graph.specs.Forms.{unless◌then◌else◌, must◌or◌then◌, found◌or◌then◌, none}
-use Rattle.share_graph.specs.Keys.{IsFirstOf, IsNoneOf}
-use Rattle.share_graph.specs.Rows.{IsAccount, IsApp, IsGrain, IsGrant}
+use Rattle.share_graph.specs.Callers.{by_login}
+use Rattle.share_graph.specs.Keys.{IsFirstOf}
+use Rattle.share_graph.specs.Rows.{IsAccount, IsApp}
 use Rattle.desk_base.specs.Needs.{AreGood, HasBadNeed}
 use Rattle.desk_base.specs.Roles.{MayGiveOn, HasRoleFaultOn}
 use Rattle.desk_base.specs.Steps.{Step, Refuses, Keeps, refusing, denies}

@@ -3,17 +3,13 @@
 ghost use Rattle.std.specs.Prelude.{◌≡◌, MatchResult};
 ghost use Rattle.share_graph.specs.declared.facts.Fact.TheVariants.{Open};
 ghost use Rattle.share_graph.specs.declared.refusal.Refusal.TheVariants.{Denied};
-ghost use Rattle.share_graph.specs.Callers.{LacksEntry};
-ghost use Rattle.share_graph.specs.Checked.{IsChecked};
-ghost use Rattle.share_graph.specs.Derivation.{Holds};
-ghost use Rattle.share_graph.specs.Missing.{IsNode};
-ghost use Rattle.share_graph.specs.WellFormed.{IsWellFormed};
-ghost use Rattle.least_access.specs.Solved.{IsSolutionOf};
-ghost use Rattle.desk_base.specs.Calling.{IsCaller, IsNoCaller, IsAdminCaller, IsNoAdminCaller};
+ghost use Rattle.desk_base.specs.Terms.{Holds, IsChecked, IsNode, IsSolutionOf, IsWellFormed, LacksEntry};
+ghost use Rattle.desk_base.specs.Calling.{IsCaller, IsNoCaller, IsAdminCaller, IsNoAdminCaller, IsCallerOn, IsNoCallerOn};
 ghost use Rattle.desk_base.specs.Passing.{Passes, Fails};
 ghost use Rattle.desk_base.specs.Wording as wording;
 
-use host_base::{Denial, Digest};
+use crate::known::known_grain;
+use host_base::{Denial, Digest, GrainId};
 use least_access::Solved;
 use share_graph::{
     Account, Caller, Grant, Node, Refusal, State, Tables, by_bearer_token, by_login,
@@ -68,6 +64,25 @@ pub fn has_entry(tables: &Tables, solved: &Solved, node: Node) -> Result<(), Ref
         None => Ok(()),
         Some(reason) => Err(Refusal::Denied(reason)),
     }
+}
+
+/// The account of a caller, which has access to the grain of a number.
+pub fn caller_on<'a>(
+    state: &'a State,
+    solved: &Solved,
+    caller: &Caller,
+    num: GrainId,
+) -> Result<&'a Account, Refusal>
+    requires formed { IsWellFormed state.now }
+    requires solution { IsSolutionOf state.now.tables solved.now }
+    ensures { let secret = wording.secret_of caller.now in
+        MatchResult result (λ account. IsCallerOn state.now secret num account.now)
+        (IsNoCallerOn state.now secret num) }
+{
+    let account = caller_account(state, caller)?;
+    known_grain(&state.tables, num)?;
+    has_entry(&state.tables, solved, Node::User(num, account.num))?;
+    Ok(account)
 }
 
 /// The grant whose token the caller bears, which holds entry.

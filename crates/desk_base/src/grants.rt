@@ -1,7 +1,7 @@
 //! The grants that commands add.
 
 ghost use Rattle.std.specs.Prelude.{◌≡◌};
-ghost use Rattle.share_graph.specs.WellFormed.{IsWellFormed};
+ghost use Rattle.desk_base.specs.Terms.{IsWellFormed};
 ghost use Rattle.desk_base.specs.Granting as granting;
 ghost use Rattle.desk_base.specs.Outcomes.{step_of};
 

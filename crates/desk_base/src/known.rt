@@ -1,8 +1,8 @@
 ghost use Rattle.std.specs.Prelude.{MatchResult};
-ghost use Rattle.share_graph.specs.Forms.{none};
+ghost use Rattle.desk_base.specs.Terms.{IsGrain, IsGrant, none};
 ghost use Rattle.share_graph.specs.declared.refusal.Refusal.TheVariants as refusal;
 ghost use Rattle.share_graph.specs.declared.fault.Kind.TheVariants as kind;
-ghost use Rattle.share_graph.specs.Rows.{IsAccount, IsApp, IsGrain, IsGrant};
+ghost use Rattle.share_graph.specs.Rows.{IsAccount, IsApp};
 
 use host_base::{AccountId, AppId, GrainId, GrantId};
 use share_graph::{

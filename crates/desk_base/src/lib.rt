@@ -11,12 +11,12 @@ mod outcome;
 mod roles;
 mod stop;
 
-pub use callers::{caller_account, caller_admin, caller_grant, has_entry, secret_of};
+pub use callers::{caller_account, caller_admin, caller_grant, caller_on, has_entry, secret_of};
 pub use grants::{add_grant, all_access, draft_grant, new_grant};
 pub use known::{known_account, known_app, known_grain, known_grant};
 pub use limits::{has_grant_room, has_room, most_of};
 pub use made::{BLANK, NOTHING, shown_grant};
 pub use needs::{good_needs, set_fits};
-pub use outcome::{Draft, Outcome};
+pub use outcome::{Answer, Draft, Outcome};
 pub use roles::given_role;
 pub use stop::Stop;

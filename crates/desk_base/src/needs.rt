@@ -1,7 +1,8 @@
 //! Whether needs can be had.
 
 ghost use Rattle.std.specs.Prelude.{◌↔◌, IsTrue, MatchOption, MatchResult};
-ghost use Rattle.share_graph.specs.Fitting.{SetFits, HolderSetFits};
+ghost use Rattle.desk_base.specs.Terms.{SetFits};
+ghost use Rattle.share_graph.specs.Fitting.{HolderSetFits};
 ghost use Rattle.desk_base.specs.Needs.{CanBeHad, IsFirstBad, AreGood, HasBadNeed};
 
 use host_base::GrainId;

@@ -3,6 +3,7 @@
 ghost use Rattle.std.specs.Prelude.{◌≡◌, MatchResult};
 ghost use Rattle.desk_base.specs.Outcomes.{with_digest, Completes, HasClash};
 
+use crate::stop::Stop;
 use host_base::Digest;
 use share_graph::{Account, Event, Grant, Made, Refusal, Run, Saved, Session, State, clash};
 
@@ -19,6 +20,9 @@ pub enum Outcome {
     Change(Event, Made),
     Draft(Draft),
 }
+
+/// What a desk answers to a command.
+pub type Answer = Result<Outcome, Stop>;
 
 // The event with a digest, where its row has one.
 fn with_digest(event: Event, digest: Digest) -> Event

@@ -1,9 +1,7 @@
 //! Whether an assignment may be given.
 
 ghost use Rattle.std.specs.Prelude.{◌↔◌, IsTrue, MatchResult};
-ghost use Rattle.share_graph.specs.Checked.{IsChecked};
-ghost use Rattle.share_graph.specs.Known.{HasGrain};
-ghost use Rattle.share_graph.specs.Rows.{IsAppOf};
+ghost use Rattle.desk_base.specs.Terms.{HasGrain, IsAppOf, IsChecked};
 ghost use Rattle.desk_base.specs.Roles.{IsBaseOf, HasBaseFault, SetsAreShort, MayGive, HasRoleFault, MayGiveOn, HasRoleFaultOn};
 
 use app_manifest::Manifest;

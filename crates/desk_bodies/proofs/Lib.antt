@@ -1,4 +1,1 @@
-pub mod Chosen
-pub mod Formed
-pub mod Within
 pub mod Sound

@@ -8,23 +8,20 @@ use Rattle.host_base.specs.declared.digest.Digest.{Digest}
 use Rattle.powerbox_match.specs.Descriptor.{DescriptorData}
 use Rattle.app_manifest.specs.declared.manifest.Manifest.{Manifest as AppManifest}
 use Rattle.app_manifest.specs.declared.fault.ManifestFault.{ManifestFault}
-use Rattle.app_manifest.specs.Fields.{◌>>=◌}
 use Rattle.app_manifest.specs.Stated.{object_of, stated_manifest}
 use Rattle.desk_bodies.specs.declared.bodies.AccountFields.{AccountFields}
+use Rattle.desk_bodies.specs.declared.bodies.ChildFields.{ChildFields}
+use Rattle.desk_bodies.specs.declared.bodies.ChooseFields.{ChooseFields}
+use Rattle.desk_bodies.specs.declared.bodies.ClaimFields.{ClaimFields}
 use Rattle.desk_bodies.specs.declared.bodies.GrainFields.{GrainFields}
+use Rattle.desk_bodies.specs.declared.bodies.SaveFields.{SaveFields}
+use Rattle.desk_bodies.specs.declared.bodies.ShareFields.{ShareFields}
+use Rattle.desk_bodies.specs.declared.bodies.TokenFields.{TokenFields}
 use Rattle.desk_bodies.specs.declared.fault.BodyFault.{BodyFault}
 use Rattle.desk_bodies.specs.declared.fault.BodyFault.TheVariants.{Manifest}
-use Rattle.desk_bodies.specs.declared.powerbox.ChooseFields.{ChooseFields}
-use Rattle.desk_bodies.specs.declared.powerbox.ClaimFields.{ClaimFields}
-use Rattle.desk_bodies.specs.declared.powerbox.SaveFields.{SaveFields}
-use Rattle.desk_bodies.specs.declared.sharing.ChildFields.{ChildFields}
-use Rattle.desk_bodies.specs.declared.sharing.ShareFields.{ShareFields}
-use Rattle.desk_bodies.specs.declared.sharing.TokenFields.{TokenFields}
 use Rattle.desk_bodies.specs.Answers.{field}
-use Rattle.desk_bodies.specs.Fields.{stated_or, name_of, handle_of, mark_of, token_of, tab_of, number_of, account_of, app_of}
-use Rattle.desk_bodies.specs.Assignments.{permissions_of, assignment_of, no_assignment}
-use Rattle.desk_bodies.specs.Needs.{needs_of}
-use Rattle.desk_bodies.specs.Offers.{query_of, offer_of}
+use Rattle.desk_bodies.specs.Fields.{name_of, handle_of, mark_of, token_of, tab_of, number_of, account_of, app_of, permissions_of}
+use Rattle.desk_bodies.specs.Fields.{assignment_of, needs_of, query_of, offer_of}
 
 -- the text that a body is read as: an empty body counts as `{}`
 abbrev pub text_of : List ℕ → List ℕ
@@ -37,23 +34,19 @@ in_object body rest = field 0 (object_of (text_of body)) rest
 
 -- /accounts: 1 handle, 2 name
 abbrev pub account_body : List ℕ → Result AccountFields BodyFault
-account_body body =
-    in_object body λ object.
+account_body body = in_object body λ object.
     field 1 (handle_of (get (codes "handle") object)) λ handle.
     field 2 (name_of (get (codes "name") object)) λ name.
     Ok (record { handle = handle; name = name })
 
 -- /accounts/{n}/admin and /accounts/{n}/enabled: 1 on
 abbrev pub mark_body : List ℕ → Result Bool BodyFault
-mark_body body =
-    in_object body λ object.
-    field 1 (mark_of (get (codes "on") object)) λ on.
-    Ok on
+mark_body body = in_object body λ object.
+    field 1 (mark_of (get (codes "on") object)) Ok
 
 -- /grains: 1 app, 2 title
 abbrev pub grain_body : List ℕ → Result GrainFields BodyFault
-grain_body body =
-    in_object body λ object.
+grain_body body = in_object body λ object.
     field 1 (app_of (get (codes "app") object)) λ app.
     field 2 (name_of (get (codes "title") object)) λ title.
     Ok (record { app = app; title = title })
@@ -64,72 +57,60 @@ plain_body body = in_object body λ object. Ok tt
 
 -- /grains/{n}/share: 1 to, 2 assignment?, 3 needs?
 abbrev pub share_body : List ℕ → Result ShareFields BodyFault
-share_body body =
-    in_object body λ object.
+share_body body = in_object body λ object.
     field 1 (account_of (get (codes "to") object)) λ to.
-    field 2 (stated_or no_assignment assignment_of (get (codes "assignment") object)) λ assignment.
-    field 3 (stated_or [] needs_of (get (codes "needs") object)) λ needs.
+    field 2 (assignment_of (get (codes "assignment") object)) λ assignment.
+    field 3 (needs_of (get (codes "needs") object)) λ needs.
     Ok (record { to = to; assignment = assignment; needs = needs })
 
 -- /grains/{n}/link and /grains/{n}/token: 1 assignment?, 2 needs?
 abbrev pub token_body : List ℕ → Result TokenFields BodyFault
-token_body body =
-    in_object body λ object.
-    field 1 (stated_or no_assignment assignment_of (get (codes "assignment") object)) λ assignment.
-    field 2 (stated_or [] needs_of (get (codes "needs") object)) λ needs.
+token_body body = in_object body λ object.
+    field 1 (assignment_of (get (codes "assignment") object)) λ assignment.
+    field 2 (needs_of (get (codes "needs") object)) λ needs.
     Ok (record { assignment = assignment; needs = needs })
 
 -- /child: 1 for_sharing, 2 assignment?, 3 needs?
 abbrev pub child_body : List ℕ → Result ChildFields BodyFault
-child_body body =
-    in_object body λ object.
+child_body body = in_object body λ object.
     field 1 (mark_of (get (codes "for_sharing") object)) λ for_sharing.
-    field 2 (stated_or no_assignment assignment_of (get (codes "assignment") object)) λ assignment.
-    field 3 (stated_or [] needs_of (get (codes "needs") object)) λ needs.
+    field 2 (assignment_of (get (codes "assignment") object)) λ assignment.
+    field 3 (needs_of (get (codes "needs") object)) λ needs.
     Ok (record { for_sharing = for_sharing; assignment = assignment; needs = needs })
 
 -- /redeem, /restore and /drop: 1 token
 abbrev pub redeem_body : List ℕ → Result Digest BodyFault
-redeem_body body =
-    in_object body λ object.
-    field 1 (token_of (get (codes "token") object)) λ token.
-    Ok token
+redeem_body body = in_object body λ object.
+    field 1 (token_of (get (codes "token") object)) Ok
 
 -- /grains/{n}/open and /open: 1 tab?
 abbrev pub tab_body : List ℕ → Result (Option ℕ) BodyFault
-tab_body body =
-    in_object body λ object.
-    field 1 (tab_of (get (codes "tab") object)) λ tab.
-    Ok tab
+tab_body body = in_object body λ object.
+    field 1 (tab_of (get (codes "tab") object)) Ok
 
 -- /grains/{n}/query: 1 query
 abbrev pub query_body : List ℕ → Result (List DescriptorData) BodyFault
-query_body body =
-    in_object body λ object.
-    field 1 (query_of (get (codes "query") object)) λ query.
-    Ok query
+query_body body = in_object body λ object.
+    field 1 (query_of (get (codes "query") object)) Ok
 
 -- /grains/{n}/choose: 1 offer, 2 query, 3 assignment?
 abbrev pub choose_body : List ℕ → Result ChooseFields BodyFault
-choose_body body =
-    in_object body λ object.
+choose_body body = in_object body λ object.
     field 1 (offer_of (get (codes "offer") object)) λ offer.
     field 2 (query_of (get (codes "query") object)) λ query.
-    field 3 (stated_or no_assignment assignment_of (get (codes "assignment") object)) λ assignment.
+    field 3 (assignment_of (get (codes "assignment") object)) λ assignment.
     Ok (record { offer = offer; query = query; assignment = assignment })
 
 -- /claim: 1 token, 2 permissions
 abbrev pub claim_body : List ℕ → Result ClaimFields BodyFault
-claim_body body =
-    in_object body λ object.
+claim_body body = in_object body λ object.
     field 1 (token_of (get (codes "token") object)) λ token.
-    field 2 (get (codes "permissions") object >>= permissions_of) λ permissions.
+    field 2 (permissions_of (get (codes "permissions") object)) λ permissions.
     Ok (record { token = token; permissions = permissions })
 
 -- /save: 1 handle, 2 label
 abbrev pub save_body : List ℕ → Result SaveFields BodyFault
-save_body body =
-    in_object body λ object.
+save_body body = in_object body λ object.
     field 1 (number_of (get (codes "handle") object)) λ handle.
     field 2 (name_of (get (codes "label") object)) λ label.
     Ok (record { handle = handle; label = label })

@@ -4,7 +4,6 @@ ghost use Rattle.std.specs.Prelude.{◌≡◌};
 ghost use Rattle.desk_bodies.specs.declared.fault.BodyFault.TheVariants as fault;
 
 use app_manifest::ManifestFault;
-use host_base::Memory;
 use std::alloc::AllocError;
 use thiserror::Error;
 
@@ -21,14 +20,6 @@ pub enum BodyFault {
     /// There was no memory left.
     #[error("out of memory")]
     Memory,
-}
-
-impl From<Memory> for BodyFault {
-    ghost from_gives = { λ _ answer. answer ≡ fault.Memory };
-
-    fn from(_: Memory) -> BodyFault {
-        BodyFault::Memory
-    }
 }
 
 impl From<AllocError> for BodyFault {

@@ -1,12 +1,8 @@
 -- What becomes of a draft that is ready, once a secret was drawn: its digest completes the change, or a row has it.
 use Rattle.std.proofs.Common.{◌≡◌, ◌≤◌, ℕ, Bool, true, false, Some, None, nat_le, if◌then◌else◌, refl, sym, subst, arith}
 use Rattle.std.proofs.lemmas.Bool.Decides.{nat_tests}
-use Rattle.host_base.specs.declared.digest.Digest.{Digest}
-use Rattle.share_graph.specs.declared.desk.Made.{Made}
-use Rattle.share_graph.specs.declared.event.Event.{Event}
+use Rattle.desk_base.specs.Terms.{Digest, Event, Made, Refusal, State}
 use Rattle.share_graph.specs.declared.fault.Kind.TheVariants as kind
-use Rattle.share_graph.specs.declared.refusal.Refusal.{Refusal}
-use Rattle.share_graph.specs.declared.state.State.{State}
 use Rattle.desk_base.specs.Accepting.{full, Changes, Ready, WantsSecret, Accepts, IsRefusal}
 use Rattle.desk_base.specs.Limits.{most_entries, too_many}
 use Rattle.desk_base.specs.Outcomes.{with_digest, draft_step, step_of, Completes, HasClash}

@@ -1,10 +1,8 @@
 -- An order that asks is answered as its caller, its grain and its query are.
 use Rattle.std.proofs.Common.{◌≡◌, List, None, Result, Ok, Err, sym, subst}
-use Rattle.host_base.specs.declared.ids.GrainId.{GrainId}
+use Rattle.desk_base.specs.Terms.{DeskFault, GrainId, State}
 use Rattle.powerbox_match.specs.Descriptor.{DescriptorData}
-use Rattle.share_graph.specs.declared.desk.DeskFault.{DeskFault}
 use Rattle.share_graph.specs.declared.desk.DeskFault.TheVariants as fault
-use Rattle.share_graph.specs.declared.state.State.{State}
 use Rattle.desk_base.specs.Made.{nothing_made}
 use Rattle.desk_base.specs.Steps.{Refuses, Keeps}
 use Rattle.saved_refs.specs.declared.listed.Listed.{Listed}

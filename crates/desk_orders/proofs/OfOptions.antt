@@ -1,14 +1,8 @@
 -- The question what may be chosen changes nothing.
 use Rattle.std.proofs.Common.{◌≡◌, true, false, None, inl, inr}
-use Rattle.host_base.specs.declared.ids.GrainId.{GrainId}
-use Rattle.share_graph.specs.declared.desk.Caller.{Caller}
-use Rattle.share_graph.specs.declared.desk.Made.{Made}
-use Rattle.share_graph.specs.declared.facts.Node.{Node}
+use Rattle.desk_base.specs.Terms.{answers, Caller, entry, GrainId, Made, Node, State}
 use Rattle.share_graph.specs.declared.facts.Node.TheVariants as node
 use Rattle.share_graph.specs.declared.refusal.Refusal.TheVariants.{Denied}
-use Rattle.share_graph.specs.declared.state.State.{State}
-use Rattle.share_graph.specs.Callers.{entry}
-use Rattle.share_graph.specs.Forms.{answers}
 use Rattle.desk_base.specs.Fitting.{ChangeFits, RowFits}
 use Rattle.desk_base.specs.Made.{nothing_made}
 use Rattle.desk_base.specs.Steps.{Refuses, Keeps, Makes, Change, denies}

@@ -1,13 +1,6 @@
 -- What holds of the commands holds of orders: one line a command, and nothing above speaks of commands.
 use Rattle.std.proofs.Common.{◌≡◌, Bool, Option, true, false, refl}
-use Rattle.host_base.specs.declared.digest.Digest.{Digest}
-use Rattle.share_graph.specs.declared.desk.Caller.{Caller}
-use Rattle.share_graph.specs.declared.event.Event.{Event}
-use Rattle.share_graph.specs.declared.state.State.{State}
-use Rattle.share_graph.specs.EventFits.{EventFits}
-use Rattle.share_graph.specs.Forms.{IsOne}
-use Rattle.share_graph.specs.Kinds.{IsUnused}
-use Rattle.share_graph.specs.WellFormed.{IsWellFormed}
+use Rattle.desk_base.specs.Terms.{Caller, Digest, Event, EventFits, IsOne, IsUnused, IsWellFormed, State}
 use Rattle.desk_base.specs.Fitting.{ChangeFits, RowFits}
 use Rattle.desk_base.specs.Outcomes.{with_digest, draft_step}
 use Rattle.desk_base.specs.Steps.{Drawn}

@@ -1,12 +1,8 @@
 -- What may be chosen is one list, where the law of the sites has one answer.
 use Rattle.std.proofs.Common.{◌≡◌, ◌∙◌, ℕ, Bool, List, Contains, sym, subst, arith, inl, inr}
 use Rattle.std.proofs.lemmas.List.Elements.{All-contains}
-use Rattle.host_base.specs.declared.ids.GrainId.{GrainId}
+use Rattle.desk_base.specs.Terms.{Caller, GrainId, IsOne, IsWellFormed, State}
 use Rattle.powerbox_match.specs.Descriptor.{DescriptorData}
-use Rattle.share_graph.specs.declared.desk.Caller.{Caller}
-use Rattle.share_graph.specs.declared.state.State.{State}
-use Rattle.share_graph.specs.Forms.{IsOne}
-use Rattle.share_graph.specs.WellFormed.{IsWellFormed}
 use Rattle.site_caps.specs.Law.{Law}
 use Rattle.site_caps.specs.Sites.{StandsBefore, IsSites}
 use Rattle.site_caps.specs.declared.offer.SiteOffer.{SiteOffer}

@@ -1,10 +1,7 @@
 -- THE LAWFUL ANSWERS of an order, once for all commands.
 use Rattle.std.specs.Prelude.{◌≡◌, ◌⊎◌, ℕ, Bool, false, List, [], ◌∷◌, Option, Some, None, Result, Ok, Err}
-use Rattle.share_graph.specs.declared.desk.Made.{Made}
-use Rattle.share_graph.specs.declared.event.Event.{Event}
-use Rattle.share_graph.specs.declared.refusal.Refusal.{Refusal}
-use Rattle.share_graph.specs.declared.state.State.{State}
-use Rattle.share_graph.specs.History.{IsOfRuns, IsOfTables}
+use Rattle.desk_base.specs.Terms.{Event, IsOfTables, Made, Refusal, State}
+use Rattle.share_graph.specs.History.{IsOfRuns}
 use Rattle.desk_base.specs.Accepting.{Ready, WantsSecret, Accepts, IsRefusal}
 use Rattle.desk_base.specs.Made.{nothing_made}
 use Rattle.desk_base.specs.Steps.{Keeps}

@@ -1,8 +1,6 @@
 -- What there is to know of commands beside their rows.
 use Rattle.std.specs.Prelude.{◌≡◌, Bool, true, false, Option, Some, None, is_some}
-use Rattle.share_graph.specs.declared.desk.Caller.{Caller}
-use Rattle.share_graph.specs.Fitting.{IsSoundManifest}
-use Rattle.share_graph.specs.Fresh.{is_handle}
+use Rattle.desk_base.specs.Terms.{Caller, is_handle, IsSoundManifest}
 use Rattle.desk_base.specs.Calling.{ByLogin, ByBearer, ByEither, ByRun}
 use Rattle.session_desk.specs.Calling.{NamesGrain}
 use Rattle.desk_orders.specs.declared.order.Command.{Command}

@@ -1,9 +1,6 @@
 -- What is decided of an order before anything outside is asked.
 use Rattle.std.specs.Prelude.{ℕ}
-use Rattle.share_graph.specs.declared.state.State.{State}
-use Rattle.share_graph.specs.EventFits.{EventFits}
-use Rattle.host_base.specs.declared.digest.Digest.{Digest}
-use Rattle.share_graph.specs.Kinds.{IsUnused}
+use Rattle.desk_base.specs.Terms.{Digest, EventFits, IsUnused, State}
 use Rattle.desk_base.specs.Accepting.{Ready}
 use Rattle.desk_base.specs.Outcomes.{with_digest, draft_step}
 use Rattle.desk_base.specs.Steps.{Step, Refuses, Keeps, Makes, Plain}

@@ -1,11 +1,8 @@
 -- An aid for the contracts of the functions that list what may be chosen: the row's answer, and the list.
 use Rattle.std.specs.Prelude.{List, None, Result, Ok, Err}
-use Rattle.host_base.specs.declared.ids.GrainId.{GrainId}
+use Rattle.desk_base.specs.Terms.{Caller, DeskFault, GrainId, State}
 use Rattle.powerbox_match.specs.Descriptor.{DescriptorData}
-use Rattle.share_graph.specs.declared.desk.Caller.{Caller}
-use Rattle.share_graph.specs.declared.desk.DeskFault.{DeskFault}
 use Rattle.share_graph.specs.declared.desk.DeskFault.TheVariants as fault
-use Rattle.share_graph.specs.declared.state.State.{State}
 use Rattle.desk_base.specs.Made.{nothing_made}
 use Rattle.desk_base.specs.Steps.{Refuses, Keeps}
 use Rattle.saved_refs.specs.Options.{Options}

@@ -1,7 +1,6 @@
 -- What the machine makes of an order: by the row of its command. Nothing above this definition speaks of a command.
 use Rattle.std.specs.Prelude.{Bool, true, false, Option}
-use Rattle.share_graph.specs.declared.desk.Caller.{Caller}
-use Rattle.share_graph.specs.declared.state.State.{State}
+use Rattle.desk_base.specs.Terms.{Caller, State}
 use Rattle.account_desk.specs.Commands.{AddAccount, SetAdmin, SetEnabled, AddApp, NewGrain, Trash}
 use Rattle.session_desk.specs.Commands.{StartRun, StopRun, OpenSession, CloseSession}
 use Rattle.share_desk.specs.Commands.{Share, MakeToken, Child, Redeem, Revoke}

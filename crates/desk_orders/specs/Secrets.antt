@@ -1,7 +1,7 @@
 -- The secrets that are drawn for an order, and the digests by which they are known.
 use Rattle.std.specs.Prelude.{◌≡◌, ℕ, List, [], ◌∷◌, Option, Some, None}
 use Rattle.sha2.specs.Sha256.{sha256}
-use Rattle.host_base.specs.declared.digest.Digest.{Digest}
+use Rattle.desk_base.specs.Terms.{Digest}
 use Rattle.host_base.specs.Drawing.{Coming, Draws}
 use Rattle.share_tokens.specs.Texts.{token_text_of, key_text_of}
 use Rattle.desk_orders.specs.declared.order.Command.{Command}

@@ -1,18 +1,13 @@
 -- What the sites tell of an order, and what is listed of them.
 use Rattle.std.specs.Prelude.{◌≡◌, ◌⊎◌, ◌++◌, ◌∷◌, [], ℕ, Bool, List, Option, Some, None, Contains, IsTrue, option_map, map, filter}
 use Rattle.std.specs.List.{filter_map}
-use Rattle.host_base.specs.declared.ids.GrainId.{GrainId}
+use Rattle.desk_base.specs.Terms.{Account, Caller, GrainId, IsOne, Offer, State}
 use Rattle.powerbox_match.specs.Descriptor.{DescriptorData}
 use Rattle.powerbox_match.specs.Matching.{match_of, same_quality}
 use Rattle.powerbox_match.specs.declared.choices.Choice.{Choice}
 use Rattle.powerbox_match.specs.declared.value.Quality.{Quality}
 use Rattle.powerbox_match.specs.declared.value.Quality.TheVariants.{Preferred, Acceptable}
-use Rattle.share_graph.specs.declared.desk.Caller.{Caller}
-use Rattle.share_graph.specs.declared.desk.Offer.{Offer}
 use Rattle.share_graph.specs.declared.desk.Offer.TheVariants as offer
-use Rattle.share_graph.specs.declared.rows.Account.{Account}
-use Rattle.share_graph.specs.declared.state.State.{State}
-use Rattle.share_graph.specs.Forms.{IsOne}
 use Rattle.site_caps.specs.Finding.{HasOffer, HasNoOffer}
 use Rattle.site_caps.specs.Law.{Law}
 use Rattle.site_caps.specs.Sites.{IsSites}

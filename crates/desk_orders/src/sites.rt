@@ -2,9 +2,7 @@
 
 ghost use Rattle.std.specs.Prelude.{◌≡◌, ◌++◌, Bool, IfOk, OnOk, true, map};
 ghost use Rattle.std.specs.List.{filter_map};
-ghost use Rattle.share_graph.specs.Forms.{IsOne};
-ghost use Rattle.share_graph.specs.WellFormed.{IsWellFormed};
-ghost use Rattle.least_access.specs.Solved.{IsSolutionOf};
+ghost use Rattle.desk_base.specs.Terms.{IsOne, IsSolutionOf, IsWellFormed};
 ghost use Rattle.desk_orders.specs.Commands as commands;
 ghost use Rattle.powerbox_match.specs.Matching.{same_quality};
 ghost use Rattle.desk_orders.specs.Listing.{IsListed, IsListedFor};

@@ -2,8 +2,7 @@
 use Rattle.std.proofs.Common.{◌≡◌, ◌∙◌, ◌++◌, ◌⊎◌, inl, inr, ℕ, zero, suc, Bool, true, false, List, Option, Some, None, Contains, if◌then◌else◌, map, refl, sym, ap, subst, arith}
 use Rattle.std.specs.List.{filter_map}
 use Rattle.std.proofs.lemmas.List.Elements.{Contains-append_left, Contains-append_right, Contains-append_cases}
-use Rattle.host_base.specs.declared.ids.AccountId.{AccountId}
-use Rattle.host_base.specs.declared.ids.GrainId.{GrainId}
+use Rattle.desk_base.specs.Terms.{AccountId, App, Grain, GrainId, Holds, IsSolutionOf, row, Table, Tables}
 use Rattle.powerbox_match.specs.Descriptor.{DescriptorData}
 use Rattle.powerbox_match.specs.Matching.{match_of, some_match, same_quality}
 use Rattle.powerbox_match.specs.declared.choices.Choice.{Choice}
@@ -11,15 +10,9 @@ use Rattle.powerbox_match.specs.declared.value.Quality.{Quality}
 use Rattle.powerbox_match.specs.declared.value.Quality.TheVariants.{Acceptable, Preferred, Unacceptable}
 use Rattle.share_graph.specs.declared.facts.Fact.TheVariants.{Open}
 use Rattle.share_graph.specs.declared.facts.Node.TheVariants as node
-use Rattle.share_graph.specs.declared.rows.App.{App}
-use Rattle.share_graph.specs.declared.rows.Grain.{Grain}
-use Rattle.share_graph.specs.declared.state.Tables.{Tables}
-use Rattle.share_graph.specs.Derivation.{Holds}
-use Rattle.share_graph.specs.Rows.{row}
 use Rattle.share_graph.specs.WellFormed.{AreNumbered}
 use Rattle.share_graph.proofs.Contained.{contains-filter_map, row_listed, listed_row}
 use Rattle.share_graph.proofs.Unused.{unfiltered}
-use Rattle.least_access.specs.Solved.{Table, IsSolutionOf}
 use Rattle.saved_refs.specs.Choosing.{grain_of, IsChoice, AreChoices}
 use Rattle.saved_refs.specs.Scan.{choice_of, of_quality}
 use Rattle.saved_refs.proofs.Ordered.{rising, preferred_first}

@@ -4,15 +4,10 @@ use Rattle.std.specs.Prelude.{MatchBool}
 use Rattle.std.specs.List.{HoldsAt, AllWithin}
 use Rattle.std.proofs.lemmas.Bool.{false≢true}
 use Rattle.std.proofs.lemmas.Option.{slice_get-get_or}
-use Rattle.host_base.specs.declared.digest.Digest.{Digest}
-use Rattle.host_base.specs.declared.ids.GrainId.{GrainId}
-use Rattle.share_graph.specs.declared.grants.Grant.{Grant}
-use Rattle.share_graph.specs.declared.grants.Target.{Target}
+use Rattle.desk_base.specs.Terms.{Digest, GrainId, Grant, IsNoneOf, IsNoUser, IsOneOf, IsWellFormed, State, Target}
 use Rattle.share_graph.specs.declared.grants.Target.TheVariants as target
-use Rattle.share_graph.specs.declared.state.State.{State}
-use Rattle.share_graph.specs.Keys.{IsOneOf, IsNoneOf, HasToken}
-use Rattle.share_graph.specs.Parents.{IsOwnNode, IsNoUser}
-use Rattle.share_graph.specs.WellFormed.{IsWellFormed}
+use Rattle.share_graph.specs.Keys.{HasToken}
+use Rattle.share_graph.specs.Parents.{IsOwnNode}
 use Rattle.share_graph.proofs.Apart.{token_one}
 use Rattle.share_graph.proofs.Contained.{contains_at, listed_row}
 use Rattle.saved_refs.specs.Rows.{IsClaim, IsClaimOf}

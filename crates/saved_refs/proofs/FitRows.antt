@@ -1,44 +1,20 @@
 -- The changes of each command fit.
-use Rattle.std.proofs.Common.{◌≡◌, ◌∙◌, ◌<◌, ◌≤◌, ℕ, Bool, true, false, All, Contains, List, [], Option, Some, None, length, refl, sym, ap, subst, arith}
+use Rattle.std.proofs.Common.{◌≡◌, ◌∙◌, ◌<◌, ◌≤◌, ℕ, Bool, true, false, All, List, [], Option, Some, None, length, refl, sym, ap, subst, arith}
 use Rattle.std.proofs.lemmas.List.Elements.{All-nil, All-cons}
-use Rattle.std.proofs.lemmas.Nat.Bits.{bit_at-zero}
-use Rattle.std.specs.Int.{bit_at}
-use Rattle.host_base.specs.declared.digest.Digest.{Digest}
-use Rattle.host_base.specs.declared.ids.AccountId.{AccountId}
-use Rattle.host_base.specs.declared.ids.GrainId.{GrainId}
-use Rattle.host_base.specs.declared.ids.GrantId.{GrantId}
-use Rattle.perm_roles.specs.PermSet.{Has, IsWithin, no_permissions}
-use Rattle.perm_roles.specs.declared.perm_set.PermSet.{PermSet}
-use Rattle.perm_roles.specs.declared.roles.Assignment.{Assignment}
+use Rattle.desk_base.specs.Terms.{AccountId, App, Assignment, Caller, Digest, GrainId, Grant, GrantId, HasAccount}
+use Rattle.desk_base.specs.Terms.{HasGrain, HasRunToken, IsAppOf, IsGrant, IsOneOf, IsRootMaker, IsUnused}
+use Rattle.desk_base.specs.Terms.{IsWellFormed, KnowsNeed, Made, Need, NeedFits, NeedSetFits, Offer, PermSet, Refusal}
+use Rattle.desk_base.specs.Terms.{Run, Saved, SetFits, State, Target}
 use Rattle.powerbox_match.specs.Descriptor.{DescriptorData}
-use Rattle.share_graph.specs.declared.desk.Caller.{Caller}
-use Rattle.share_graph.specs.declared.desk.Made.{Made}
-use Rattle.share_graph.specs.declared.desk.Offer.{Offer}
 use Rattle.share_graph.specs.declared.desk.Offer.TheVariants as offer
 use Rattle.share_graph.specs.declared.event.Event.TheVariants.{GrantAdded, SavedAdded, SavedDropped, Claimed, HandleMade}
 use Rattle.share_graph.specs.declared.facts.Node.TheVariants as node
 use Rattle.share_graph.specs.declared.fault.Kind.TheVariants as kind
 use Rattle.share_graph.specs.declared.grants.Giver.TheVariants as giver
-use Rattle.share_graph.specs.declared.grants.Grant.{Grant}
-use Rattle.share_graph.specs.declared.grants.Need.{Need}
 use Rattle.share_graph.specs.declared.grants.Need.TheVariants as need
-use Rattle.share_graph.specs.declared.grants.Target.{Target}
 use Rattle.share_graph.specs.declared.grants.Target.TheVariants as target
-use Rattle.share_graph.specs.declared.refusal.Refusal.{Refusal}
 use Rattle.share_graph.specs.declared.refusal.Refusal.TheVariants.{NoSuchOffer}
-use Rattle.share_graph.specs.declared.rows.Account.{Account}
-use Rattle.share_graph.specs.declared.rows.App.{App}
-use Rattle.share_graph.specs.declared.rows.Saved.{Saved}
-use Rattle.share_graph.specs.declared.sessions.Run.{Run}
-use Rattle.share_graph.specs.declared.state.State.{State}
-use Rattle.share_graph.specs.Fitting.{SetFits, NeedSetFits}
-use Rattle.share_graph.specs.Keys.{IsOneOf, HasRunToken}
-use Rattle.share_graph.specs.Kinds.{IsUnused}
-use Rattle.share_graph.specs.Known.{HasAccount, HasGrain, KnowsNeed}
-use Rattle.share_graph.specs.Parents.{NeedFits, PassesTo}
-use Rattle.share_graph.specs.Rows.{IsGrant, IsAppOf}
-use Rattle.share_graph.specs.Ways.{IsRootMaker}
-use Rattle.share_graph.specs.WellFormed.{IsWellFormed}
+use Rattle.share_graph.specs.Parents.{PassesTo}
 use Rattle.share_graph.proofs.Coherence.{coherent}
 use Rattle.share_graph.proofs.Contained.{listed_row}
 use Rattle.state_step.specs.NewRows.{IsNewGrant}
@@ -54,7 +30,8 @@ use Rattle.desk_base.specs.Roles.{MayGiveOn}
 use Rattle.desk_base.specs.Granting.{new_grant}
 use Rattle.desk_base.proofs.FitForms.{when_fits, unless_fits, must_fits, found_fits, some_fits, adds_fits, access_fits, keeps_fits}
 use Rattle.desk_base.proofs.Room.{room_of}
-use Rattle.desk_base.proofs.GivenRoles.{assignment_for}
+use Rattle.desk_base.proofs.GivenRoles.{assignment_for, none_within}
+use Rattle.desk_base.proofs.Words.{listed_account}
 use Rattle.saved_refs.specs.Commands.{by_run, ChooseGrain, ChooseSite, ChooseOffer, Choose, Claim, Save, Restore, DropSaved}
 use Rattle.saved_refs.specs.Rows.{no_role, admin_needs, claimed_grant, claimed_handle, made_claim, new_saved, made_saved, new_handle, shown_handle, with_maker}
 use Rattle.saved_refs.proofs.Named.{run_grain, handle_grant, reference_grant, maker_is_there}
@@ -75,13 +52,6 @@ module _ (s : State) {draws : Bool} where
       unless_fits s tt λ kept.
       when_fits s tt λ live.
       rest run is
-
-no_has : (p : ℕ) → Has no_permissions p → ⊥
-unfolding Has no_permissions
-no_has p has = let none : bit_at 0 p ≡ 0 = bit_at-zero p in let odd : 0 ≡ 1 = sym none ∙ has in omega (arith, odd)
-
-none_within : (n : ℕ) → IsWithin no_permissions n
-none_within n p has = absurd (no_has p has)
 
 -- a choice of a grain, by an account that is there, is new
 grain_is_new : (s : State) (n m : GrainId) (from : AccountId) (assignment : Assignment) (d : Digest) → HasGrain s.tables n → HasGrain s.tables m → HasAccount s.tables from → MayGiveOn s.tables m assignment
@@ -152,9 +122,6 @@ first_free (Some r) b is = is
 first_free None b is = refl
 
 module _ (s : State) (formed : IsWellFormed s) where
-  listed_account : (account : Account) → Contains s.tables.accounts account → HasAccount s.tables account.num
-  listed_account account listed = (account, listed_row (λ (x : Account). x.num.0) s.tables.accounts account formed.numbered.accounts listed)
-
   -- a choice by its offer
   grain_fits : (n m : GrainId) (query : List DescriptorData) (assignment : Assignment) (from : AccountId) → HasGrain s.tables n → HasAccount s.tables from → RowFits s true (ChooseGrain s n m query assignment from)
   grain_fits n m query assignment from there account =

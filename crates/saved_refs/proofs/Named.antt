@@ -1,29 +1,17 @@
 -- What runs, handles and saved references name is there.
 use Rattle.std.proofs.Common.{◌≡◌, Contains, List, sym, ap, subst, ◌∙◌}
 use Rattle.std.proofs.lemmas.List.Elements.{All-contains}
-use Rattle.host_base.specs.declared.ids.AccountId.{AccountId}
-use Rattle.host_base.specs.declared.ids.GrainId.{GrainId}
-use Rattle.host_base.specs.declared.ids.GrantId.{GrantId}
-use Rattle.host_base.specs.declared.ids.RunId.{RunId}
-use Rattle.share_graph.specs.declared.grants.Giver.{Giver}
-use Rattle.share_graph.specs.declared.grants.Grant.{Grant}
-use Rattle.share_graph.specs.declared.grants.Target.{Target}
+use Rattle.desk_base.specs.Terms.{AccountId, Giver, GrainId, Grant, GrantId, Handle, HasAccount, HasGrain, IsGrant}
+use Rattle.desk_base.specs.Terms.{IsNoUser, IsOne, IsOneOf, IsRootMaker, IsWellFormed, Run, RunId, Saved, State}
+use Rattle.desk_base.specs.Terms.{Tables, Target}
 use Rattle.share_graph.specs.declared.grants.Target.TheVariants as target
-use Rattle.share_graph.specs.declared.rows.Saved.{Saved}
-use Rattle.share_graph.specs.declared.sessions.Handle.{Handle}
-use Rattle.share_graph.specs.declared.sessions.Run.{Run}
-use Rattle.share_graph.specs.declared.state.State.{State}
-use Rattle.share_graph.specs.declared.state.Tables.{Tables}
 use Rattle.share_graph.specs.declared.ways.Origin.{Origin}
 use Rattle.share_graph.specs.Coherent.{IsCoherent}
 use Rattle.share_graph.specs.Fitting.{IsReference}
-use Rattle.share_graph.specs.Forms.{IsOne}
-use Rattle.share_graph.specs.Keys.{IsOneOf}
-use Rattle.share_graph.specs.Known.{HasAccount, HasGrain, KnowsGiver}
-use Rattle.share_graph.specs.Parents.{IsNoUser, IsOwnNode}
-use Rattle.share_graph.specs.Rows.{IsGrant}
-use Rattle.share_graph.specs.Ways.{IsWay, from_account, from_site, from_grant, maker_of, IsRootMaker}
-use Rattle.share_graph.specs.WellFormed.{IsRootedHandle, IsWellFormed}
+use Rattle.share_graph.specs.Known.{KnowsGiver}
+use Rattle.share_graph.specs.Parents.{IsOwnNode}
+use Rattle.share_graph.specs.Ways.{IsWay, from_account, from_site, from_grant, maker_of}
+use Rattle.share_graph.specs.WellFormed.{IsRootedHandle}
 use Rattle.share_graph.proofs.Coherence.{coherent}
 use Rattle.share_graph.proofs.Contained.{place_of, single}
 use Rattle.state_step.proofs.Sound.{sound_of}

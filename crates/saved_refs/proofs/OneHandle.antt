@@ -3,12 +3,8 @@ use Rattle.std.proofs.Common.{◌≡◌, ◌<◌, ◌≤◌, ◌+◌, ◌⊎◌,
 use Rattle.std.proofs.lemmas.List.{take-take, take-append-drop}
 use Rattle.std.proofs.lemmas.List.Sums.{count_by_more_yes, sum_by-append}
 use Rattle.std.proofs.lemmas.Option.{slice_get_within, get_or_from_slice_get}
-use Rattle.host_base.specs.declared.ids.RunId.{RunId}
-use Rattle.share_graph.specs.declared.sessions.Handle.{Handle}
-use Rattle.share_graph.specs.declared.state.State.{State}
-use Rattle.share_graph.specs.Forms.{IsOne}
-use Rattle.share_graph.specs.Keys.{IsOneOf, IsHandleOf}
-use Rattle.share_graph.specs.WellFormed.{IsWellFormed, AreNumberedByRun}
+use Rattle.desk_base.specs.Terms.{Handle, IsHandleOf, IsOne, IsOneOf, IsWellFormed, RunId, State}
+use Rattle.share_graph.specs.WellFormed.{AreNumberedByRun}
 use Rattle.share_graph.proofs.Contained.{place_of}
 
 -- more are counted up to a later place

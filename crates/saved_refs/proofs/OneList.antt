@@ -5,17 +5,10 @@ use Rattle.std.proofs.lemmas.Bool.{and_parts}
 use Rattle.std.proofs.lemmas.Bool.Decides.{nat_tests}
 use Rattle.std.proofs.lemmas.List.Kept.{AllPairs-cons}
 use Rattle.std.proofs.lemmas.List.Sums.{AllPass-from_list_all}
-use Rattle.host_base.specs.declared.ids.AccountId.{AccountId}
-use Rattle.host_base.specs.declared.ids.GrainId.{GrainId}
+use Rattle.desk_base.specs.Terms.{Account, AccountId, Caller, GrainId, IsOne, IsWellFormed, State, Tables}
 use Rattle.powerbox_match.specs.Choices.{rank_of, stands_before, is_in_order}
 use Rattle.powerbox_match.specs.Descriptor.{DescriptorData}
 use Rattle.powerbox_match.specs.declared.choices.Choice.{Choice}
-use Rattle.share_graph.specs.declared.desk.Caller.{Caller}
-use Rattle.share_graph.specs.declared.rows.Account.{Account}
-use Rattle.share_graph.specs.declared.state.State.{State}
-use Rattle.share_graph.specs.declared.state.Tables.{Tables}
-use Rattle.share_graph.specs.Forms.{IsOne}
-use Rattle.share_graph.specs.WellFormed.{IsWellFormed}
 use Rattle.share_graph.proofs.Apart.{login_one}
 use Rattle.desk_base.specs.Wording.{secret_of}
 use Rattle.saved_refs.specs.Choosing.{AreChoices}

@@ -1,12 +1,7 @@
 -- The row of options comes to one step, and the caller has one account.
 use Rattle.std.proofs.Common.{subst}
-use Rattle.host_base.specs.declared.ids.GrainId.{GrainId}
-use Rattle.share_graph.specs.declared.desk.Caller.{Caller}
+use Rattle.desk_base.specs.Terms.{Account, Caller, GrainId, IsOne, IsWellFormed, State}
 use Rattle.share_graph.specs.declared.facts.Node.TheVariants as node
-use Rattle.share_graph.specs.declared.rows.Account.{Account}
-use Rattle.share_graph.specs.declared.state.State.{State}
-use Rattle.share_graph.specs.Forms.{IsOne}
-use Rattle.share_graph.specs.WellFormed.{IsWellFormed}
 use Rattle.share_graph.proofs.Apart.{login_one}
 use Rattle.share_graph.proofs.MissingOne.{entry_one}
 use Rattle.share_graph.proofs.OneAnswer.{answers_one}

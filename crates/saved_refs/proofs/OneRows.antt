@@ -1,28 +1,12 @@
 -- Each command makes one step at the most.
 use Rattle.std.proofs.Common.{◌≡◌, ◌∙◌, ℕ, Bool, List, Option, Some, None, sym, subst}
-use Rattle.host_base.specs.declared.digest.Digest.{Digest}
-use Rattle.host_base.specs.declared.ids.AccountId.{AccountId}
-use Rattle.host_base.specs.declared.ids.GrainId.{GrainId}
-use Rattle.host_base.specs.declared.ids.GrantId.{GrantId}
-use Rattle.perm_roles.specs.declared.perm_set.PermSet.{PermSet}
-use Rattle.perm_roles.specs.declared.roles.Assignment.{Assignment}
+use Rattle.desk_base.specs.Terms.{AccountId, Assignment, Caller, Digest, GrainId, Grant, GrantId, IsOne, IsOneOf}
+use Rattle.desk_base.specs.Terms.{IsWellFormed, Offer, PermSet, Refusal, Run, State, Tables, Target}
 use Rattle.powerbox_match.specs.Descriptor.{DescriptorData}
-use Rattle.share_graph.specs.declared.desk.Caller.{Caller}
-use Rattle.share_graph.specs.declared.desk.Offer.{Offer}
 use Rattle.share_graph.specs.declared.desk.Offer.TheVariants as offer
 use Rattle.share_graph.specs.declared.facts.Node.TheVariants as node
 use Rattle.share_graph.specs.declared.fault.Kind.TheVariants as kind
-use Rattle.share_graph.specs.declared.grants.Grant.{Grant}
-use Rattle.share_graph.specs.declared.grants.Target.{Target}
 use Rattle.share_graph.specs.declared.grants.Target.TheVariants as target
-use Rattle.share_graph.specs.declared.refusal.Refusal.{Refusal}
-use Rattle.share_graph.specs.declared.rows.Grain.{Grain}
-use Rattle.share_graph.specs.declared.sessions.Run.{Run}
-use Rattle.share_graph.specs.declared.state.State.{State}
-use Rattle.share_graph.specs.declared.state.Tables.{Tables}
-use Rattle.share_graph.specs.Forms.{IsOne}
-use Rattle.share_graph.specs.Keys.{IsOneOf}
-use Rattle.share_graph.specs.WellFormed.{IsWellFormed}
 use Rattle.share_graph.proofs.Apart.{reference_one, run_token_one, token_known}
 use Rattle.share_graph.proofs.Contained.{single}
 use Rattle.share_graph.proofs.MissingOne.{entry_one}
@@ -30,7 +14,7 @@ use Rattle.share_graph.proofs.OneAnswer.{answers_one, when_one, unless_one, must
 use Rattle.share_graph.proofs.WaysOne.{maker_one}
 use Rattle.desk_base.specs.Steps.{Step, denies}
 use Rattle.desk_base.specs.Wording.{secret_of}
-use Rattle.desk_base.proofs.OneWord.{by_account_one, known_grain_one, adds_one}
+use Rattle.desk_base.proofs.OneWord.{numbered_one, by_account_one, known_grain_one, adds_one}
 use Rattle.desk_base.proofs.FirstRow.{keeps_one}
 use Rattle.desk_base.proofs.GivenRoles.{refusing_one, refusing_apart, role_one}
 use Rattle.saved_refs.specs.Commands.{by_run, ChooseGrain, choose_grain_step, ChooseSite, choose_site_step, ChooseOffer, Choose, Claim, claim_step, Save, save_step, Restore, restore_step, DropSaved, drop_step}
@@ -40,10 +24,6 @@ use Rattle.saved_refs.proofs.OneHandle.{handle_one}
 -- the run that calls is one
 by_run_one : (s : State) → IsWellFormed s → (who : Caller) {Rest : Run → Step → Type 0} → ((run : Run) → IsOne (Rest run)) → IsOne (by_run s who Rest)
 by_run_one s formed who rest = some_of_one (run_token_one s formed (secret_of who)) (λ run. unless_one (when_one (rest run)))
-
--- a grain of a number is one
-grain_one : (o : Option Grain) → IsOne (λ (x : Grain). o ≡ Some x)
-grain_one o = record { one = λ a b x y. (let same : Some a ≡ Some b = sym x ∙ y in cc) }
 
 -- a grant that may be claimed by a token is one
 claim_of_one : (s : State) → IsWellFormed s → (d : Digest) → IsOne (λ grant. IsOneOf s.tables.grants (IsClaimOf d) grant)
@@ -68,7 +48,7 @@ with_maker_one t g {Rest} rest = record { one = maker_cases t g Rest rest }
 choose_grain_one : (s : State) (n m : GrainId) (query : List DescriptorData) (assignment : Assignment) (from : AccountId) → IsOne (ChooseGrain s n m query assignment from)
 choose_grain_one s n m query assignment from =
     when_one (
-    found_or_none_one (grain_one _) λ grain.
+    found_or_none_one (numbered_one _) λ grain.
     entry_one denies s.tables (node.User m from) (
     unless_one (
     role_one s m assignment (

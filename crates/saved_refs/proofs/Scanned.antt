@@ -6,18 +6,14 @@ use Rattle.std.proofs.lemmas.List.Elements.{filter_map-append}
 use Rattle.std.specs.Option.{option_map, IsSomeAnd}
 use Rattle.std.proofs.lemmas.Bool.{eqb-false, ne_eqb}
 use Rattle.std.proofs.lemmas.Option.{slice_get-map}
-use Rattle.host_base.specs.declared.ids.AccountId.{AccountId}
-use Rattle.host_base.specs.declared.ids.GrainId.{GrainId}
+use Rattle.desk_base.specs.Terms.{AccountId, App, Grain, GrainId, row, Table}
 use Rattle.powerbox_match.specs.declared.choices.Choice.{Choice}
 use Rattle.powerbox_match.specs.declared.value.Quality.{Quality}
 use Rattle.share_graph.specs.declared.facts.Fact.TheVariants.{Open}
 use Rattle.share_graph.specs.declared.facts.Node.TheVariants as node
-use Rattle.share_graph.specs.declared.rows.App.{App}
-use Rattle.share_graph.specs.declared.rows.Grain.{Grain}
-use Rattle.share_graph.specs.Rows.{row}
 use Rattle.least_access.specs.declared.held.Held.{Held}
 use Rattle.least_access.specs.Held.{IsIn}
-use Rattle.least_access.specs.Solved.{Table, held_at, HeldAt}
+use Rattle.least_access.specs.Solved.{held_at, HeldAt}
 use Rattle.saved_refs.specs.Scan.{has_entry, flat, match_at, choice_of}
 
 -- what is kept of one row more

@@ -1,17 +1,11 @@
 -- Which run calls, and what of a grain's own it names: what each test establishes, and its refusals.
 use Rattle.std.specs.Prelude.{◌≡◌, ◌⊎◌, true}
-use Rattle.host_base.specs.declared.digest.Digest.{Digest}
-use Rattle.host_base.specs.declared.ids.GrainId.{GrainId}
+use Rattle.desk_base.specs.Terms.{Digest, GrainId, Grant, HasRunToken, IsNoneOf, IsOneOf, Refusal, Run, Saved, State}
+use Rattle.desk_base.specs.Terms.{Tables}
 use Rattle.host_base.specs.declared.verdict.Denial.TheVariants.{UnknownKey, GrainTrashed, GrainStopped, NotHolder}
-use Rattle.share_graph.specs.declared.grants.Grant.{Grant}
 use Rattle.share_graph.specs.declared.grants.Target.TheVariants as target
-use Rattle.share_graph.specs.declared.refusal.Refusal.{Refusal}
 use Rattle.share_graph.specs.declared.refusal.Refusal.TheVariants.{Denied}
-use Rattle.share_graph.specs.declared.rows.Saved.{Saved}
-use Rattle.share_graph.specs.declared.sessions.Run.{Run}
-use Rattle.share_graph.specs.declared.state.State.{State}
-use Rattle.share_graph.specs.declared.state.Tables.{Tables}
-use Rattle.share_graph.specs.Keys.{IsOneOf, IsNoneOf, HasReference, HasRunToken}
+use Rattle.share_graph.specs.Keys.{HasReference}
 use Rattle.share_graph.specs.Rows.{IsKept}
 use Rattle.saved_refs.specs.Rows.{IsClaimOf, IsOfAnother}
 

@@ -1,17 +1,12 @@
 -- The grains that an account may choose for a grain.
 use Rattle.std.specs.Prelude.{◌≡◌, ◌↔◌, List, Some, Contains, IsTrue}
-use Rattle.host_base.specs.declared.ids.AccountId.{AccountId}
-use Rattle.host_base.specs.declared.ids.GrainId.{GrainId}
+use Rattle.desk_base.specs.Terms.{AccountId, App, GrainId, Holds, IsAppOf, Tables}
 use Rattle.powerbox_match.specs.Choices.{is_in_order}
 use Rattle.powerbox_match.specs.Descriptor.{DescriptorData}
 use Rattle.powerbox_match.specs.Matching.{match_of}
 use Rattle.powerbox_match.specs.declared.choices.Choice.{Choice}
 use Rattle.share_graph.specs.declared.facts.Fact.TheVariants.{Open}
 use Rattle.share_graph.specs.declared.facts.Node.TheVariants as node
-use Rattle.share_graph.specs.declared.rows.App.{App}
-use Rattle.share_graph.specs.declared.state.Tables.{Tables}
-use Rattle.share_graph.specs.Derivation.{Holds}
-use Rattle.share_graph.specs.Rows.{IsAppOf}
 
 -- the grain of a choice
 abbrev pub grain_of : Choice → GrainId

@@ -1,32 +1,19 @@
 -- THE COMMANDS of the powerbox and of saved references. Each definition reads like its row of the table of commands.
 use Rattle.std.specs.Prelude.{◌≡◌, ℕ, Bool, true, List, [], Option, Some, None}
-use Rattle.host_base.specs.declared.digest.Digest.{Digest}
-use Rattle.host_base.specs.declared.ids.AccountId.{AccountId}
-use Rattle.host_base.specs.declared.ids.GrainId.{GrainId}
+use Rattle.desk_base.specs.Terms.{AccountId, Assignment, Caller, Digest, found◌or◌then◌, GrainId, Grant, Handle}
+use Rattle.desk_base.specs.Terms.{IsGrain, IsHandleOf, must◌or◌then◌, none, Offer, PermSet, Run, Saved, SetFits}
+use Rattle.desk_base.specs.Terms.{some◌of◌or◌then◌, State, Tables, unless◌then◌else◌, when◌then◌else◌}
 use Rattle.host_base.specs.declared.ids.SavedId.{SavedId}
 use Rattle.host_base.specs.declared.verdict.Denial.TheVariants.{UnknownKey, NotHolder, Dropped}
-use Rattle.perm_roles.specs.declared.perm_set.PermSet.{PermSet}
-use Rattle.perm_roles.specs.declared.roles.Assignment.{Assignment}
 use Rattle.powerbox_match.specs.Descriptor.{DescriptorData}
-use Rattle.share_graph.specs.declared.desk.Caller.{Caller}
-use Rattle.share_graph.specs.declared.desk.Offer.{Offer}
 use Rattle.share_graph.specs.declared.desk.Offer.TheVariants as offer
 use Rattle.share_graph.specs.declared.event.Event.TheVariants.{SavedAdded, SavedDropped, Claimed, HandleMade}
 use Rattle.share_graph.specs.declared.facts.Node.TheVariants as node
 use Rattle.share_graph.specs.declared.grants.Giver.TheVariants as giver
-use Rattle.share_graph.specs.declared.grants.Grant.{Grant}
 use Rattle.share_graph.specs.declared.grants.Target.TheVariants as target
 use Rattle.share_graph.specs.declared.refusal.Refusal.TheVariants.{AlreadyClaimed, LongSet, NoMatch, NoSuchOffer, UnknownHandle}
-use Rattle.share_graph.specs.declared.rows.Saved.{Saved}
-use Rattle.share_graph.specs.declared.sessions.Handle.{Handle}
-use Rattle.share_graph.specs.declared.sessions.Run.{Run}
-use Rattle.share_graph.specs.declared.state.State.{State}
-use Rattle.share_graph.specs.declared.state.Tables.{Tables}
 use Rattle.share_graph.specs.Callers as callers
-use Rattle.share_graph.specs.Fitting.{SetFits}
-use Rattle.share_graph.specs.Forms.{when◌then◌else◌, unless◌then◌else◌, must◌or◌then◌, found◌or◌then◌, none, some◌of◌or◌then◌}
-use Rattle.share_graph.specs.Keys.{HasReference, IsHandleOf, IsHandleTo}
-use Rattle.share_graph.specs.Rows.{IsGrain}
+use Rattle.share_graph.specs.Keys.{HasReference, IsHandleTo}
 use Rattle.desk_base.specs.Granting.{token_step}
 use Rattle.desk_base.specs.Limits.{adds}
 use Rattle.desk_base.specs.Made.{nothing_made}

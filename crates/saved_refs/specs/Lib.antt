@@ -4,4 +4,3 @@ pub mod Scan
 pub mod Rows
 pub mod Commands
 pub mod Calling
-pub mod Offers

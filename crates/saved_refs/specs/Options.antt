@@ -1,16 +1,10 @@
 -- THE ROW of the question what may be chosen for a grain, and its answer.
 use Rattle.std.specs.Prelude.{List, Result, Ok, Err}
-use Rattle.host_base.specs.declared.ids.GrainId.{GrainId}
+use Rattle.desk_base.specs.Terms.{Account, answers, Caller, DeskFault, entry, GrainId, State}
 use Rattle.powerbox_match.specs.Descriptor.{DescriptorData}
 use Rattle.powerbox_match.specs.declared.choices.Choice.{Choice}
-use Rattle.share_graph.specs.declared.desk.Caller.{Caller}
-use Rattle.share_graph.specs.declared.desk.DeskFault.{DeskFault}
 use Rattle.share_graph.specs.declared.desk.DeskFault.TheVariants as fault
 use Rattle.share_graph.specs.declared.facts.Node.TheVariants as node
-use Rattle.share_graph.specs.declared.rows.Account.{Account}
-use Rattle.share_graph.specs.declared.state.State.{State}
-use Rattle.share_graph.specs.Callers.{entry}
-use Rattle.share_graph.specs.Forms.{answers}
 use Rattle.desk_base.specs.Calling.{IsCaller}
 use Rattle.desk_base.specs.Made.{nothing_made}
 use Rattle.desk_base.specs.Steps.{Step, Refuses, Keeps, denies}

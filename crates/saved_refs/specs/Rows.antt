@@ -1,34 +1,18 @@
 -- The rows that the commands add, and the tests of this desk alone.
 use Rattle.std.specs.Prelude.{◌≡◌, ℕ, ◌+◌, ◌==◌, Bool, true, false, List, [], ◌∷◌, Some, None, IsTrue, count_by, is_some}
-use Rattle.host_base.specs.declared.digest.Digest.{Digest}
-use Rattle.host_base.specs.declared.ids.AccountId.{AccountId}
-use Rattle.host_base.specs.declared.ids.GrainId.{GrainId}
-use Rattle.host_base.specs.declared.ids.GrantId.{GrantId}
-use Rattle.host_base.specs.declared.ids.RunId.{RunId}
+use Rattle.desk_base.specs.Terms.{AccountId, Assignment, Digest, ForApp, GrainId, Grant, GrantId, Handle, IsOneOf}
+use Rattle.desk_base.specs.Terms.{IsRootMaker, Made, Need, PermSet, Refusal, RunId, Saved, State, Tables, Target}
 use Rattle.host_base.specs.declared.verdict.Denial.TheVariants.{NotHolder}
 use Rattle.perm_roles.specs.PermSet.{no_permissions}
-use Rattle.perm_roles.specs.declared.perm_set.PermSet.{PermSet}
-use Rattle.perm_roles.specs.declared.roles.Assignment.{Assignment}
 use Rattle.perm_roles.specs.declared.roles.Base.TheVariants as base
 use Rattle.powerbox_match.specs.Descriptor.{DescriptorData}
 use Rattle.powerbox_match.specs.Matching.{match_of}
-use Rattle.share_graph.specs.declared.desk.Made.{Made}
 use Rattle.share_graph.specs.declared.facts.Node.TheVariants as node
 use Rattle.share_graph.specs.declared.grants.Giver.TheVariants as giver
-use Rattle.share_graph.specs.declared.grants.Grant.{Grant}
-use Rattle.share_graph.specs.declared.grants.Need.{Need}
 use Rattle.share_graph.specs.declared.grants.Need.TheVariants as need
-use Rattle.share_graph.specs.declared.grants.Target.{Target}
 use Rattle.share_graph.specs.declared.grants.Target.TheVariants as target
-use Rattle.share_graph.specs.declared.refusal.Refusal.{Refusal}
 use Rattle.share_graph.specs.declared.refusal.Refusal.TheVariants.{Denied}
-use Rattle.share_graph.specs.declared.rows.Saved.{Saved}
-use Rattle.share_graph.specs.declared.sessions.Handle.{Handle}
-use Rattle.share_graph.specs.declared.state.State.{State}
-use Rattle.share_graph.specs.declared.state.Tables.{Tables}
-use Rattle.share_graph.specs.Fitting.{ForApp}
-use Rattle.share_graph.specs.Keys.{IsOneOf, IsGivenFrom, HasToken}
-use Rattle.share_graph.specs.Ways.{IsRootMaker}
+use Rattle.share_graph.specs.Keys.{IsGivenFrom, HasToken}
 use Rattle.desk_base.specs.Made.{next, nothing_made}
 use Rattle.desk_base.specs.Steps.{Step}
 use Rattle.desk_base.specs.Granting.{new_grant, all_access}

@@ -1,15 +1,12 @@
 -- An aid for proofs: how grains are looked through.
 use Rattle.std.specs.Prelude.{ℕ, ◌==◌, Bool, false, List, Option, Some, None, if◌then◌else◌, option_map}
-use Rattle.host_base.specs.declared.ids.AccountId.{AccountId}
-use Rattle.host_base.specs.declared.ids.GrainId.{GrainId}
+use Rattle.desk_base.specs.Terms.{AccountId, Grain, GrainId, row, Table}
 use Rattle.powerbox_match.specs.Matching.{same_quality}
 use Rattle.powerbox_match.specs.declared.choices.Choice.{Choice}
 use Rattle.powerbox_match.specs.declared.value.Quality.{Quality}
 use Rattle.share_graph.specs.declared.facts.Node.TheVariants as node
-use Rattle.share_graph.specs.declared.rows.Grain.{Grain}
-use Rattle.share_graph.specs.Rows.{row}
 use Rattle.least_access.specs.declared.held.Held.{Held}
-use Rattle.least_access.specs.Solved.{Table, held_at}
+use Rattle.least_access.specs.Solved.{held_at}
 
 -- whether entry is among what is held
 abbrev pub has_entry : Option Held → Bool

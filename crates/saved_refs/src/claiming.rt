@@ -1,9 +1,7 @@
 //! Claiming of what was chosen.
 
 ghost use Rattle.std.specs.Prelude.{◌↔◌, IsTrue, MatchResult, false};
-ghost use Rattle.share_graph.specs.Forms.{IsOne};
-ghost use Rattle.share_graph.specs.WellFormed.{IsWellFormed};
-ghost use Rattle.least_access.specs.Solved.{IsSolutionOf};
+ghost use Rattle.desk_base.specs.Terms.{IsOne, IsSolutionOf, IsWellFormed};
 ghost use Rattle.desk_base.specs.Fitting.{RowFits};
 ghost use Rattle.desk_base.specs.Outcomes.{Checks, IsCarried};
 ghost use Rattle.saved_refs.specs.Calling.{IsClaimBy, IsNoClaimBy};
@@ -14,7 +12,7 @@ use crate::handles::next_handle;
 use crate::needs::one_need;
 use crate::runs::caller_run;
 use desk_base::{
-    NOTHING, Outcome, Stop, all_access, has_entry, has_grant_room, new_grant, set_fits,
+    Answer, NOTHING, Outcome, Stop, all_access, has_entry, has_grant_room, new_grant, set_fits,
 };
 use host_base::{AccountId, Denial, Digest, GrainId, GrantId};
 use least_access::Solved;
@@ -106,7 +104,7 @@ pub fn claim(
     caller: &Caller,
     token: &Digest,
     set: &PermSet,
-) -> Result<Outcome, Stop>
+) -> Answer
     requires formed { IsWellFormed state.now }
     requires solution { IsSolutionOf state.now.tables solved.now }
     ensures row { IsCarried (Claim state.now caller.now token.now set.now) result }

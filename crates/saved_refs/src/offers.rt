@@ -1,39 +1,24 @@
 //! Choosing of what is offered.
 
 ghost use Rattle.std.specs.Prelude.{true};
-ghost use Rattle.share_graph.specs.Forms.{IsOne};
-ghost use Rattle.share_graph.specs.Known.{HasAccount};
-ghost use Rattle.share_graph.specs.WellFormed.{IsWellFormed};
-ghost use Rattle.least_access.specs.Solved.{IsSolutionOf};
+ghost use Rattle.desk_base.specs.Terms.{HasAccount, IsOne, IsSolutionOf, IsWellFormed};
 ghost use Rattle.desk_base.specs.Fitting.{RowFits};
-ghost use Rattle.desk_base.specs.Outcomes.{Checks, IsCarried};
+ghost use Rattle.desk_base.specs.Outcomes.{IsCarriedExactly, IsCarried};
 ghost use Rattle.saved_refs.specs.Commands.{Choose, ChooseGrain, ChooseSite};
-ghost use Rattle.saved_refs.specs.Offers.{chosen_step};
 
 use crate::applications::has_match;
 use crate::needs::{admin_needs, no_role};
-use desk_base::{
-    Outcome, Stop, caller_account, draft_grant, given_role, has_entry, has_grant_room, known_grain,
-};
+use desk_base::{Answer, Stop, caller_on, draft_grant, given_role, has_entry, has_grant_room};
 use host_base::{AccountId, GrainId};
 use least_access::Solved;
 use perm_roles::Assignment;
 use powerbox_match::Query;
-use share_graph::{Caller, Giver, Node, Offer, Refusal, State, Target, has_grain};
+use share_graph::{Caller, Giver, Needs, Node, Offer, Refusal, State, Target, has_grain};
 use std::alloc::Global;
 
-// What was chosen, and by whom: the grant is to be on the grain, by the giver and the assignment.
-#[derive(Clone, Copy)]
-struct Picked {
-    by: AccountId,
-    grain: GrainId,
-    giver: Giver,
-    assignment: Assignment,
-    admin_only: bool,
-}
-
-// The checks of `choose` for a grain.
-fn check_grain(
+// Chooses another grain, of which an account gives what the assignment says.
+fn choose_grain(
+    alloc: Global,
     state: &State,
     solved: &Solved,
     num: GrainId,
@@ -41,12 +26,11 @@ fn check_grain(
     query: &Query,
     assignment: &Assignment,
     by: AccountId,
-) -> Result<Picked, Stop>
+) -> Answer
     requires formed { IsWellFormed state.now }
     requires solution { IsSolutionOf state.now.tables solved.now }
     requires there { HasAccount state.now.tables by }
-    ensures { Checks (ChooseGrain state.now num other query.now assignment.now by)
-        (chosen_step state.now.tables num) result }
+    ensures { IsCarriedExactly (ChooseGrain state.now num other query.now assignment.now by) result }
 {
     if other == num {
         return Err(Stop::Refused(Refusal::NoSuchOffer));
@@ -60,65 +44,31 @@ fn check_grain(
     }
     given_role(&state.tables, other, assignment)?;
     has_grant_room(&state.tables)?;
-    Ok(Picked {
-        by,
-        grain: other,
-        giver: Giver::Account(by),
-        assignment: *assignment,
-        admin_only: false,
-    })
+    let (giver, target) = (Giver::Account(by), Target::Claim(num));
+    let needs = Needs::empty(alloc);
+    Ok(draft_grant(state, other, giver, target, *assignment, needs))
 }
 
-// The checks of `choose` for an item of a site, and whether the sites offer it to admins alone.
-fn check_site(
+// Chooses an item of a site, where the sites have it; they may offer it to admins alone.
+fn choose_site(
+    alloc: Global,
     state: &State,
     num: GrainId,
     tag: u64,
     item: u32,
     found: Option<bool>,
     by: AccountId,
-) -> Result<Picked, Stop>
-    ensures { Checks (ChooseSite state.now num tag item found by)
-        (chosen_step state.now.tables num) result }
+) -> Answer
+    requires { IsWellFormed state.now }
+    ensures { IsCarried (ChooseSite state.now num tag item found by) result }
 {
     let Some(admin_only) = found else {
         return Err(Stop::Refused(Refusal::NoSuchOffer));
     };
     has_grant_room(&state.tables)?;
-    Ok(Picked {
-        by,
-        grain: num,
-        giver: Giver::Site { by, tag, item },
-        assignment: no_role(),
-        admin_only,
-    })
-}
-
-// The checks of `choose`.
-fn check_choose(
-    state: &State,
-    solved: &Solved,
-    caller: &Caller,
-    num: GrainId,
-    offer: &Offer,
-    query: &Query,
-    assignment: &Assignment,
-    found: Option<bool>,
-) -> Result<Picked, Stop>
-    requires formed { IsWellFormed state.now }
-    requires solution { IsSolutionOf state.now.tables solved.now }
-    ensures { Checks (Choose state.now caller.now num offer.now query.now assignment.now found)
-        (chosen_step state.now.tables num) result }
-{
-    let account = caller_account(state, caller)?;
-    known_grain(&state.tables, num)?;
-    has_entry(&state.tables, solved, Node::User(num, account.num))?;
-    match *offer {
-        Offer::Grain(other) => {
-            check_grain(state, solved, num, other, query, assignment, account.num)
-        }
-        Offer::Site { tag, item } => check_site(state, num, tag, item, found, account.num),
-    }
+    let (giver, target) = (Giver::Site { by, tag, item }, Target::Claim(num));
+    let needs = admin_needs(alloc, admin_only, by)?;
+    Ok(draft_grant(state, num, giver, target, no_role(), needs))
 }
 
 /// Chooses what a grain, to which the caller has access, may claim by a token, which is drawn: another grain of which the caller
@@ -135,7 +85,7 @@ pub fn choose(
     query: &Query,
     assignment: &Assignment,
     found: Option<bool>,
-) -> Result<Outcome, Stop>
+) -> Answer
     requires formed { IsWellFormed state.now }
     requires solution { IsSolutionOf state.now.tables solved.now }
     ensures row { IsCarried
@@ -144,14 +94,12 @@ pub fn choose(
     ensures fits { RowFits state.now true
         (Choose state.now caller.now num offer.now query.now assignment.now found) }
 {
-    let picked = check_choose(state, solved, caller, num, offer, query, assignment, found)?;
-    let needs = admin_needs(alloc, picked.admin_only, picked.by)?;
-    Ok(draft_grant(
-        state,
-        picked.grain,
-        picked.giver,
-        Target::Claim(num),
-        picked.assignment,
-        needs,
-    ))
+    let account = caller_on(state, solved, caller, num)?;
+    let by = account.num;
+    match *offer {
+        Offer::Grain(other) => {
+            choose_grain(alloc, state, solved, num, other, query, assignment, by)
+        }
+        Offer::Site { tag, item } => choose_site(alloc, state, num, tag, item, found, by),
+    }
 }

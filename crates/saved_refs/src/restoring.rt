@@ -2,9 +2,7 @@
 
 ghost use Rattle.std.specs.Prelude.{◌≡◌, MatchResult, false};
 ghost use Rattle.share_graph.specs.declared.event.Event.TheVariants.{HandleMade};
-ghost use Rattle.share_graph.specs.Forms.{IsOne};
-ghost use Rattle.share_graph.specs.WellFormed.{IsWellFormed};
-ghost use Rattle.least_access.specs.Solved.{IsSolutionOf};
+ghost use Rattle.desk_base.specs.Terms.{IsOne, IsSolutionOf, IsWellFormed};
 ghost use Rattle.desk_base.specs.Fitting.{RowFits};
 ghost use Rattle.desk_base.specs.Outcomes.{Checks, IsCarriedExactly};
 ghost use Rattle.desk_base.specs.Steps.{Makes, Plain};
@@ -14,7 +12,7 @@ ghost use Rattle.saved_refs.specs.Rows.{shown_handle};
 
 use crate::handles::next_handle;
 use crate::runs::caller_run;
-use desk_base::{NOTHING, Outcome, Stop, has_entry};
+use desk_base::{Answer, NOTHING, Outcome, Stop, has_entry};
 use host_base::{Denial, Digest, GrainId, SavedId};
 use least_access::Solved;
 use share_graph::{
@@ -77,12 +75,7 @@ fn check_restore(
 /// Restores a saved reference, by its token, for the run that calls, whose grain saved it: the run has a handle to its grant from
 /// then on. Where it has one already nothing is to be done. The reply shows the number of the handle.
 #[tactic(auto, using(crate::proofs::OneRows::restore_one, crate::proofs::FitRows::restore_fits))]
-pub fn restore(
-    state: &State,
-    solved: &Solved,
-    caller: &Caller,
-    token: &Digest,
-) -> Result<Outcome, Stop>
+pub fn restore(state: &State, solved: &Solved, caller: &Caller, token: &Digest) -> Answer
     requires formed { IsWellFormed state.now }
     requires solution { IsSolutionOf state.now.tables solved.now }
     ensures row { IsCarriedExactly (Restore state.now caller.now token.now) result }
@@ -109,7 +102,7 @@ fn check_drop_saved(state: &State, caller: &Caller, token: &Digest) -> Result<Sa
 /// Drops a saved reference, by its token, for the run that calls, whose grain saved it: it can't be restored any more. Handles that
 /// were restored from it stay. Where it is dropped nothing is to be done.
 #[tactic(auto, using(crate::proofs::OneRows::drop_saved_one, crate::proofs::FitRows::drop_saved_fits))]
-pub fn drop_saved(state: &State, caller: &Caller, token: &Digest) -> Result<Outcome, Stop>
+pub fn drop_saved(state: &State, caller: &Caller, token: &Digest) -> Answer
     requires { IsWellFormed state.now }
     ensures row { IsCarriedExactly (DropSaved state.now caller.now token.now) result }
     ensures one { IsOne (DropSaved state.now caller.now token.now) }

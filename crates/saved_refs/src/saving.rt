@@ -1,15 +1,13 @@
 //! Saving of what a handle is to.
 
 ghost use Rattle.std.specs.Prelude.{true};
-ghost use Rattle.share_graph.specs.Forms.{IsOne};
-ghost use Rattle.share_graph.specs.WellFormed.{IsWellFormed};
-ghost use Rattle.least_access.specs.Solved.{IsSolutionOf};
+ghost use Rattle.desk_base.specs.Terms.{IsOne, IsSolutionOf, IsWellFormed};
 ghost use Rattle.desk_base.specs.Fitting.{RowFits};
 ghost use Rattle.desk_base.specs.Outcomes.{Checks, IsCarried};
 ghost use Rattle.saved_refs.specs.Commands.{Save, save_step};
 
 use crate::runs::caller_run;
-use desk_base::{BLANK, Draft, NOTHING, Outcome, Stop, has_entry, has_room};
+use desk_base::{Answer, BLANK, Draft, NOTHING, Outcome, Stop, has_entry, has_room};
 use host_base::SavedId;
 use least_access::Solved;
 use plain_data::Name;
@@ -52,13 +50,7 @@ fn check_save(
 /// Saves a reference, whose token is drawn, to the grant of a handle of the run that calls: the run's grain may restore it in
 /// later runs. The reply shows the number of the reference.
 #[tactic(auto, using(crate::proofs::OneRows::save_one, crate::proofs::FitRows::save_fits))]
-pub fn save(
-    state: &State,
-    solved: &Solved,
-    caller: &Caller,
-    handle: u32,
-    label: &Name,
-) -> Result<Outcome, Stop>
+pub fn save(state: &State, solved: &Solved, caller: &Caller, handle: u32, label: &Name) -> Answer
     requires formed { IsWellFormed state.now }
     requires solution { IsSolutionOf state.now.tables solved.now }
     ensures row { IsCarried (Save state.now caller.now handle label.now) result }

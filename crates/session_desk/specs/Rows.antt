@@ -1,22 +1,12 @@
 -- The rows that the commands add, and the tests of this desk alone.
 use Rattle.std.specs.Prelude.{◌≡◌, ◌⊎◌, ℕ, Option, Some, None, count_by, nat_lt, if◌then◌else◌, true, false}
 use Rattle.std.specs.Option.{unwrap_or}
-use Rattle.host_base.specs.declared.digest.Digest.{Digest}
-use Rattle.host_base.specs.declared.ids.GrainId.{GrainId}
-use Rattle.share_graph.specs.declared.desk.Made.{Made}
+use Rattle.desk_base.specs.Terms.{Account, Digest, Grain, GrainId, is_open_of, IsLiveRun, IsOneOf, Made, Refusal}
+use Rattle.desk_base.specs.Terms.{Root, Run, Session, State}
 use Rattle.share_graph.specs.declared.fault.Kind.TheVariants as kind
-use Rattle.share_graph.specs.declared.refusal.Refusal.{Refusal}
-use Rattle.share_graph.specs.declared.rows.Account.{Account}
-use Rattle.share_graph.specs.declared.rows.Grain.{Grain}
-use Rattle.share_graph.specs.declared.sessions.Root.{Root}
-use Rattle.share_graph.specs.declared.sessions.Run.{Run}
-use Rattle.share_graph.specs.declared.sessions.Session.{Session}
-use Rattle.share_graph.specs.declared.state.State.{State}
-use Rattle.share_graph.specs.History.{is_open_of}
-use Rattle.share_graph.specs.Keys.{IsOneOf, IsLiveRun}
 use Rattle.desk_base.specs.Limits.{too_many, is_open}
 use Rattle.desk_base.specs.Made.{next, nothing_made}
-use Rattle.session_desk.specs.declared.actor.Actor.{Actor}
+use Rattle.session_desk.specs.declared.callers.Actor.{Actor}
 
 -- a new run of a grain is live
 abbrev pub new_run : State → GrainId → Digest → Run

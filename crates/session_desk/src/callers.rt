@@ -2,17 +2,21 @@
 
 ghost use Rattle.std.specs.Prelude.{◌↔◌, IsTrue, MatchResult};
 ghost use Rattle.share_graph.specs.Callers.{IsSomeLogin};
-ghost use Rattle.share_graph.specs.WellFormed.{IsWellFormed};
-ghost use Rattle.least_access.specs.Solved.{IsSolutionOf};
-ghost use Rattle.desk_base.specs.Passing.{Passes, Fails};
+ghost use Rattle.desk_base.specs.Terms.{IsSolutionOf, IsWellFormed};
 ghost use Rattle.desk_base.specs.Wording as wording;
-ghost use Rattle.session_desk.specs.Calling.{by_root, with_access, with_token, on_grain, NamesGrain};
+ghost use Rattle.session_desk.specs.Calling.{IsActor, IsNoActor, IsRootOf, HasNoRoot};
 
-use crate::actor::Actor;
-use desk_base::{caller_account, caller_grant, has_entry, known_grain, secret_of};
+use desk_base::{caller_account, caller_grant, caller_on, secret_of};
 use host_base::GrainId;
 use least_access::Solved;
-use share_graph::{Caller, Node, Refusal, Root, State, by_login};
+use share_graph::{Caller, Refusal, Root, State, by_login};
+
+/// Who acts, and on which grain: an account, or the bearer of a grant.
+#[derive(Clone, Copy, Debug, PartialEq, Eq)]
+pub struct Actor {
+    pub grain: GrainId,
+    pub root: Root,
+}
 
 // Whether the caller shows the login of an account.
 fn is_login(state: &State, caller: &Caller) -> bool
@@ -28,7 +32,7 @@ fn is_login(state: &State, caller: &Caller) -> bool
 pub fn caller_root(state: &State, solved: &Solved, caller: &Caller) -> Result<Root, Refusal>
     requires formed { IsWellFormed state.now }
     requires solution { IsSolutionOf state.now.tables solved.now }
-    ensures { let Word = by_root state.now caller.now in MatchResult result (Passes Word) (Fails Word) }
+    ensures { MatchResult result (IsRootOf state.now caller.now) (HasNoRoot state.now caller.now) }
 {
     if is_login(state, caller) {
         let account = caller_account(state, caller)?;
@@ -36,40 +40,6 @@ pub fn caller_root(state: &State, solved: &Solved, caller: &Caller) -> Result<Ro
     }
     let grant = caller_grant(state, solved, caller)?;
     Ok(Root::Grant(grant.num))
-}
-
-// The caller's account on a grain, where it has access.
-fn account_on(
-    state: &State,
-    solved: &Solved,
-    caller: &Caller,
-    num: GrainId,
-) -> Result<Actor, Refusal>
-    requires formed { IsWellFormed state.now }
-    requires solution { IsSolutionOf state.now.tables solved.now }
-    ensures { let Word = with_access state.now caller.now num in
-        MatchResult result (Passes Word) (Fails Word) }
-{
-    let account = caller_account(state, caller)?;
-    known_grain(&state.tables, num)?;
-    has_entry(&state.tables, solved, Node::User(num, account.num))?;
-    Ok(Actor {
-        grain: num,
-        root: Root::Account(account.num),
-    })
-}
-
-// The bearer that calls, on its grant's grain.
-fn bearer_on(state: &State, solved: &Solved, caller: &Caller) -> Result<Actor, Refusal>
-    requires formed { IsWellFormed state.now }
-    requires solution { IsSolutionOf state.now.tables solved.now }
-    ensures { let Word = with_token state.now caller.now in MatchResult result (Passes Word) (Fails Word) }
-{
-    let grant = caller_grant(state, solved, caller)?;
-    Ok(Actor {
-        grain: grant.grain,
-        root: Root::Grant(grant.num),
-    })
 }
 
 /// Who acts: a login on the grain that it names, or a bearer on its grant's grain.
@@ -81,11 +51,18 @@ pub fn actor_of(
 ) -> Result<Actor, Refusal>
     requires formed { IsWellFormed state.now }
     requires solution { IsSolutionOf state.now.tables solved.now }
-    requires named { NamesGrain caller.now num }
-    ensures { let Word = on_grain state.now caller.now num in MatchResult result (Passes Word) (Fails Word) }
+    ensures { MatchResult result (IsActor state.now caller.now num) (IsNoActor state.now caller.now num) }
 {
     match num {
-        Some(num) => account_on(state, solved, caller, num),
-        None => bearer_on(state, solved, caller),
+        Some(grain) => {
+            let account = caller_on(state, solved, caller, grain)?;
+            let root = Root::Account(account.num);
+            Ok(Actor { grain, root })
+        }
+        None => {
+            let grant = caller_grant(state, solved, caller)?;
+            let (grain, root) = (grant.grain, Root::Grant(grant.num));
+            Ok(Actor { grain, root })
+        }
     }
 }

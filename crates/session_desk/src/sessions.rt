@@ -1,40 +1,32 @@
-ghost use Rattle.std.specs.Prelude.{◌<◌, ◌-◌, ◌^◌, MatchResult, length, true, false};
+ghost use Rattle.std.specs.Prelude.{◌≡◌, ◌<◌, ◌-◌, ◌^◌, Some, None, MatchResult, length, true, false};
 ghost use Rattle.share_graph.specs.declared.fault.Kind.TheVariants as kind;
 ghost use Rattle.share_graph.specs.declared.refusal.Refusal.TheVariants as refusal;
-ghost use Rattle.share_graph.specs.Forms.{IsOne, none};
+ghost use Rattle.desk_base.specs.Terms.{IsOne, IsSolutionOf, IsWellFormed, none};
 ghost use Rattle.share_graph.specs.Rows.{IsSession};
-ghost use Rattle.share_graph.specs.WellFormed.{IsWellFormed};
-ghost use Rattle.least_access.specs.Solved.{IsSolutionOf};
 ghost use Rattle.desk_base.specs.Fitting.{RowFits};
-ghost use Rattle.desk_base.specs.Outcomes.{Checks, IsCarriedExactly};
+ghost use Rattle.desk_base.specs.Outcomes.{IsCarriedExactly};
 ghost use Rattle.session_desk.specs.Calling.{NamesGrain};
-ghost use Rattle.session_desk.specs.Commands.{OpenSession, open_step, CloseSession, close_step};
+ghost use Rattle.session_desk.specs.Commands.{OpenSession, CloseSession};
+ghost use Rattle.session_desk.specs.Rows.{session_limit};
 
-use crate::actor::Actor;
 use crate::callers::{actor_of, caller_root};
-use crate::room::has_session_room;
-use desk_base::{BLANK, Draft, NOTHING, Outcome, Stop};
+use desk_base::{Answer, BLANK, Draft, NOTHING, Outcome, Stop, has_room};
 use host_base::{GrainId, SessionId};
 use least_access::Solved;
-use share_graph::{Caller, Event, Kind, Made, Refusal, Session, State, session as find_session};
+use share_graph::{
+    Caller, Event, Kind, Made, Refusal, Root, Session, State, session as find_session,
+};
+use state_step::ROOT_SESSIONS;
 
-// The checks of `open_session`: who is to act in it.
-fn check_open_session(
-    state: &State,
-    solved: &Solved,
-    caller: &Caller,
-    num: Option<GrainId>,
-    tab: Option<u64>,
-) -> Result<Actor, Stop>
-    requires formed { IsWellFormed state.now }
-    requires solution { IsSolutionOf state.now.tables solved.now }
-    requires named { NamesGrain caller.now num }
-    ensures { Checks (OpenSession state.now caller.now num tab)
-        (λ actor. open_step state.now actor tab) result }
+// Whether a root may open one more session. Where it has 32 open ones it may, since one of its own is closed for that.
+fn has_session_room(state: &State, root: Root) -> Result<(), Refusal>
+    ensures { let over = session_limit state.now root in
+        MatchResult result (λ _. over ≡ None) (λ refusal. over ≡ Some refusal) }
 {
-    let actor = actor_of(state, solved, caller, num)?;
-    has_session_room(state, actor.root)?;
-    Ok(actor)
+    if state.sessions.open_of(root) >= ROOT_SESSIONS {
+        return Ok(());
+    }
+    has_room(Kind::Session, state.sessions.open_count() as u64)
 }
 
 /// Opens a session, whose key is drawn: on the grain that a login names and has access to, or on that of a bearer's
@@ -45,7 +37,7 @@ pub fn open_session(
     caller: &Caller,
     num: Option<GrainId>,
     tab: Option<u64>,
-) -> Result<Outcome, Stop>
+) -> Answer
     requires formed { IsWellFormed state.now }
     requires few { length state.now.sessions < 2 ^ 32 - 1 }
     requires solution { IsSolutionOf state.now.tables solved.now }
@@ -54,7 +46,8 @@ pub fn open_session(
     ensures one { IsOne (OpenSession state.now caller.now num tab) }
     ensures fits { RowFits state.now true (OpenSession state.now caller.now num tab) }
 {
-    let actor = check_open_session(state, solved, caller, num, tab)?;
+    let actor = actor_of(state, solved, caller, num)?;
+    has_session_room(state, actor.root)?;
     let next = state.sessions.as_slice().len() as u32 + 1;
     let session = Session {
         num: SessionId(next),
@@ -80,16 +73,15 @@ fn known_session(state: &State, num: SessionId) -> Result<&Session, Refusal>
     find_session(state, num).ok_or(Refusal::Unknown(Kind::Session, num.0))
 }
 
-// The checks of `close_session`.
-fn check_close_session(
-    state: &State,
-    solved: &Solved,
-    caller: &Caller,
-    num: SessionId,
-) -> Result<(), Stop>
+/// Closes a session, which whoever it acts as may: the account of a login, or the bearer of a grant. Where it is closed
+/// nothing is to be done.
+#[tactic(auto, using(crate::proofs::OneRows::close_session_one, crate::proofs::FitRows::close_session_fits))]
+pub fn close_session(state: &State, solved: &Solved, caller: &Caller, num: SessionId) -> Answer
     requires formed { IsWellFormed state.now }
     requires solution { IsSolutionOf state.now.tables solved.now }
-    ensures { Checks (CloseSession state.now caller.now num) (λ _. close_step num) result }
+    ensures row { IsCarriedExactly (CloseSession state.now caller.now num) result }
+    ensures one { IsOne (CloseSession state.now caller.now num) }
+    ensures fits { RowFits state.now false (CloseSession state.now caller.now num) }
 {
     let root = caller_root(state, solved, caller)?;
     let session = known_session(state, num)?;
@@ -99,24 +91,5 @@ fn check_close_session(
     if session.closed {
         return Err(Stop::Same(NOTHING));
     }
-    Ok(())
-}
-
-/// Closes a session, which whoever it acts as may: the account of a login, or the bearer of a grant. Where it is closed
-/// nothing is to be done.
-#[tactic(auto, using(crate::proofs::OneRows::close_session_one, crate::proofs::FitRows::close_session_fits))]
-pub fn close_session(
-    state: &State,
-    solved: &Solved,
-    caller: &Caller,
-    num: SessionId,
-) -> Result<Outcome, Stop>
-    requires formed { IsWellFormed state.now }
-    requires solution { IsSolutionOf state.now.tables solved.now }
-    ensures row { IsCarriedExactly (CloseSession state.now caller.now num) result }
-    ensures one { IsOne (CloseSession state.now caller.now num) }
-    ensures fits { RowFits state.now false (CloseSession state.now caller.now num) }
-{
-    check_close_session(state, solved, caller, num)?;
     Ok(Outcome::Change(Event::SessionClosed(num), NOTHING))
 }

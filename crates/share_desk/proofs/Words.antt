@@ -1,33 +1,21 @@
--- From what a test tells into the row that begins with its word, and from its refusals.
-use Rattle.std.proofs.Common.{◌≡◌, ◌↔◌, Bool, IsTrue, ap, subst, inl, inr}
-use Rattle.host_base.specs.declared.ids.AccountId.{AccountId}
-use Rattle.host_base.specs.declared.ids.GrantId.{GrantId}
-use Rattle.share_graph.specs.declared.desk.Caller.{Caller}
-use Rattle.share_graph.specs.declared.facts.Node.{Node}
-use Rattle.share_graph.specs.declared.grants.Grant.{Grant}
-use Rattle.share_graph.specs.declared.refusal.Refusal.{Refusal}
-use Rattle.share_graph.specs.declared.refusal.Refusal.TheVariants.{Denied}
-use Rattle.share_graph.specs.declared.state.State.{State}
-use Rattle.share_graph.specs.declared.state.Tables.{Tables}
-use Rattle.share_graph.specs.Callers.{LacksEntry}
-use Rattle.share_graph.specs.Forms.{IsOne}
-use Rattle.share_graph.specs.Keys.{IsOneOf, IsBearerOf}
-use Rattle.share_graph.specs.Known.{HasGrain}
-use Rattle.share_graph.specs.Ways.{IsRootMaker}
-use Rattle.share_graph.specs.WellFormed.{IsWellFormed}
+-- What the tests of this desk tell, and what is added for a gift, by whom it goes to.
+use Rattle.std.proofs.Common.{◌≡◌, Bool, List, length, refl, subst, inl, inr}
+use Rattle.desk_base.specs.Terms.{Assignment, Caller, Giver, GrainId, Grant, HasGrain, IsBearerOf, IsOneOf}
+use Rattle.desk_base.specs.Terms.{IsWellFormed, Need, State, Target}
+use Rattle.share_graph.specs.declared.fault.Kind.TheVariants as kind
+use Rattle.share_graph.specs.declared.grants.Target.TheVariants as target
 use Rattle.share_graph.proofs.Coherence.{coherent}
 use Rattle.share_graph.proofs.Contained.{listed_row}
+use Rattle.desk_base.specs.Granting.{grant_step}
+use Rattle.desk_base.specs.Limits.{limit_at, too_many}
 use Rattle.desk_base.specs.Made.{nothing_made}
-use Rattle.desk_base.specs.Steps.{Step, Refuses, Keeps}
-use Rattle.desk_base.specs.Wording.{secret_of, by_bearer, access◌of◌then◌}
 use Rattle.desk_base.specs.Passing.{Passes}
-
--- where a step is missing for entry, the row refuses
-pub access_fails : (s : State) (at : Node) (Rest : Step → Type 0) (r : Refusal) → LacksEntry Denied s.tables at r → (access at of s then Rest) (Refuses r)
-access_fails s at Rest r (reason, same, missing) = inl (reason, ap Refuses same, missing)
+use Rattle.desk_base.specs.Steps.{Keeps}
+use Rattle.desk_base.specs.Wording.{secret_of, by_bearer}
+use Rattle.share_desk.specs.Commands.{give_step}
 
 -- a bearer that calls has a grant of the state, which is a bearer's
-pub caller_is : (s : State) (who : Caller) (grant : Grant) → by_bearer s who (λ other any. other ≡ grant) (Keeps nothing_made) → IsOneOf s.tables.grants (IsBearerOf (secret_of who)) grant
+caller_is : (s : State) (who : Caller) (grant : Grant) → by_bearer s who (λ other any. other ≡ grant) (Keeps nothing_made) → IsOneOf s.tables.grants (IsBearerOf (secret_of who)) grant
 caller_is s who grant (inl (odd, never)) = cc
 caller_is s who grant (inr (other, one, inl (reason, odd, missing))) = cc
 caller_is s who grant (inr (other, one, inr (held, same))) = subst (λ (x : Grant). IsOneOf s.tables.grants (IsBearerOf (secret_of who)) x) same one
@@ -38,6 +26,17 @@ caller_grain s formed who grant passes =
     let one = caller_is s who grant (passes (Keeps nothing_made)) in
     ((coherent s.tables formed.tables).grants grant.num grant (listed_row (λ (x : Grant). x.num.0) s.tables.grants grant formed.numbered.grants one.listed)).knows.grain
 
--- the account that gave first on a grant's way is one
-pub maker_by : (t : Tables) (g : GrantId) (made a : AccountId) (test : Bool) → IsRootMaker t g made → IsOne (IsRootMaker t g) → IsTrue test ↔ (made ≡ a) → IsTrue test ↔ IsRootMaker t g a
-maker_by t g made a test is one tells = (λ yes. subst (λ (x : AccountId). IsRootMaker t g x) (tells.0 yes) is, λ other. tells.1 (one.one made a is other))
+module _ (s : State) (n : GrainId) (from : Giver) (assignment : Assignment) (wanted : List Need) where
+  -- a gift is one more of the grants
+  pub gift_limit : (to : Target) → limit_at s (give_step s.tables n from to assignment wanted) ≡ too_many kind.Grant (length s.tables.grants)
+  gift_limit (target.Bearer for_sharing) = refl
+  gift_limit (target.User a) = refl
+  gift_limit (target.Claim h) = refl
+  gift_limit (target.Grain h) = refl
+
+  -- only a bearer has a token
+  pub others_gift : (to : Target) → ((for_sharing : Bool) → to ≡ target.Bearer for_sharing → ⊥) → give_step s.tables n from to assignment wanted ≡ grant_step s.tables n from to assignment wanted
+  others_gift (target.Bearer for_sharing) other = absurd (other for_sharing refl)
+  others_gift (target.User a) other = refl
+  others_gift (target.Claim h) other = refl
+  others_gift (target.Grain h) other = refl

@@ -1,14 +1,7 @@
 -- The tests of this desk alone.
 use Rattle.std.specs.Prelude.{◌≡◌, ◌⊎◌}
-use Rattle.host_base.specs.declared.ids.AccountId.{AccountId}
-use Rattle.host_base.specs.declared.ids.GrainId.{GrainId}
-use Rattle.host_base.specs.declared.ids.GrantId.{GrantId}
-use Rattle.share_graph.specs.declared.grants.Grant.{Grant}
+use Rattle.desk_base.specs.Terms.{AccountId, Grain, GrainId, Grant, GrantId, IsGrain, IsRootMaker, Tables}
 use Rattle.share_graph.specs.declared.grants.Target.TheVariants as target
-use Rattle.share_graph.specs.declared.rows.Grain.{Grain}
-use Rattle.share_graph.specs.declared.state.Tables.{Tables}
-use Rattle.share_graph.specs.Rows.{IsGrain}
-use Rattle.share_graph.specs.Ways.{IsRootMaker}
 
 -- the account owns the grain
 abbrev pub IsOwnerOf : Tables → GrainId → AccountId → Type 0

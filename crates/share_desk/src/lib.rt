@@ -1,6 +1,7 @@
 //! The desk of shares: what becomes of a command on shares, links and tokens.
 #![tactic(auto)]
 
+mod giving;
 mod redeeming;
 mod revoking;
 mod sharing;

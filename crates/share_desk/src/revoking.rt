@@ -1,18 +1,14 @@
 //! Revocation of grants.
 
 ghost use Rattle.std.specs.Prelude.{◌↔◌, IsTrue, false};
-ghost use Rattle.share_graph.specs.Checked.{IsChecked};
-ghost use Rattle.share_graph.specs.Forms.{IsOne};
+ghost use Rattle.desk_base.specs.Terms.{IsChecked, IsGrant, IsOne, IsRootMaker, IsWellFormed};
 ghost use Rattle.share_graph.specs.Known.{HasGrant};
-ghost use Rattle.share_graph.specs.Rows.{IsGrant};
-ghost use Rattle.share_graph.specs.Ways.{IsRootMaker};
-ghost use Rattle.share_graph.specs.WellFormed.{IsWellFormed};
 ghost use Rattle.desk_base.specs.Fitting.{RowFits};
-ghost use Rattle.desk_base.specs.Outcomes.{Checks, IsCarriedExactly};
-ghost use Rattle.share_desk.specs.Commands.{Revoke, revoke_step};
+ghost use Rattle.desk_base.specs.Outcomes.{IsCarriedExactly};
+ghost use Rattle.share_desk.specs.Commands.{Revoke};
 ghost use Rattle.share_desk.specs.Rows.{IsOwnerOf, MayRevoke};
 
-use desk_base::{NOTHING, Outcome, Stop, caller_account, known_grant};
+use desk_base::{Answer, NOTHING, Outcome, Stop, caller_account, known_grant};
 use host_base::{AccountId, GrainId, GrantId};
 use share_graph::{
     Caller, Event, Grant, Refusal, State, Tables, Target, grain as find_grain, root_maker,
@@ -48,10 +44,14 @@ fn may_revoke(tables: &Tables, account: AccountId, num: GrantId, grant: &Grant) 
         || grant.target == Target::User(account)
 }
 
-// The checks of `revoke`.
-fn check_revoke(state: &State, caller: &Caller, num: GrantId) -> Result<(), Stop>
-    requires formed { IsWellFormed state.now }
-    ensures { Checks (Revoke state.now caller.now num) (λ _. revoke_step num) result }
+/// Revokes a grant, which the owner of its grain, its root maker and its recipient may. Where it is revoked nothing is to be
+/// done.
+#[tactic(auto, using(crate::proofs::OneRows::revoke_one, crate::proofs::FitRows::revoke_fits))]
+pub fn revoke(state: &State, caller: &Caller, num: GrantId) -> Answer
+    requires { IsWellFormed state.now }
+    ensures row { IsCarriedExactly (Revoke state.now caller.now num) result }
+    ensures one { IsOne (Revoke state.now caller.now num) }
+    ensures fits { RowFits state.now false (Revoke state.now caller.now num) }
 {
     let account = caller_account(state, caller)?;
     let grant = known_grant(&state.tables, num)?;
@@ -61,18 +61,5 @@ fn check_revoke(state: &State, caller: &Caller, num: GrantId) -> Result<(), Stop
     if grant.revoked {
         return Err(Stop::Same(NOTHING));
     }
-    Ok(())
-}
-
-/// Revokes a grant, which the owner of its grain, its root maker and its recipient may. Where it is revoked nothing is to be
-/// done.
-#[tactic(auto, using(crate::proofs::OneRows::revoke_one, crate::proofs::FitRows::revoke_fits))]
-pub fn revoke(state: &State, caller: &Caller, num: GrantId) -> Result<Outcome, Stop>
-    requires { IsWellFormed state.now }
-    ensures row { IsCarriedExactly (Revoke state.now caller.now num) result }
-    ensures one { IsOne (Revoke state.now caller.now num) }
-    ensures fits { RowFits state.now false (Revoke state.now caller.now num) }
-{
-    check_revoke(state, caller, num)?;
     Ok(Outcome::Change(Event::GrantRevoked(num), NOTHING))
 }

@@ -1,6 +1,5 @@
 use Rattle.std.proofs.Common.{refl, subst, inl}
-use Rattle.host_base.specs.declared.digest.Digest.{Digest}
-use Rattle.share_graph.specs.Keys.{IsNoneOf, HasLogin}
+use Rattle.desk_base.specs.Terms.{Digest, HasLogin, IsNoneOf}
 use Rattle.desk_base.proofs.callers.caller_account.Goals as goal
 
 pub returns-in_default : goal.returns-in_default

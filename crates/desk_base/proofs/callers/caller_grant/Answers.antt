@@ -1,5 +1,5 @@
 use Rattle.std.proofs.Common.{inl, inr, refl}
-use Rattle.share_graph.specs.declared.grants.Grant.{Grant}
+use Rattle.desk_base.specs.Terms.{Grant}
 use Rattle.share_graph.specs.declared.facts.Node.TheVariants as node
 use Rattle.share_graph.proofs.Contained.{listed_row}
 use Rattle.desk_base.proofs.Words.{bearer_is_no_user, handed_on, lacking}

@@ -1,6 +1,6 @@
 use Rattle.std.proofs.Common.{sym, ap, ◌∙◌}
 use Rattle.std.specs.Option.{option_copied}
-use Rattle.share_graph.specs.Fitting.{SetFits}
+use Rattle.desk_base.specs.Terms.{SetFits}
 use Rattle.desk_base.proofs.Words.{for_grant}
 use Rattle.desk_base.proofs.needs.holder_set_fits.Goals as goal
 

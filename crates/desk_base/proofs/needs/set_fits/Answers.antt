@@ -1,5 +1,5 @@
 use Rattle.std.proofs.Common.{length}
-use Rattle.perm_roles.specs.PermSet.{IsWithin}
+use Rattle.desk_base.specs.Terms.{IsWithin}
 use Rattle.desk_base.proofs.GivenRoles.{for_app, for_no_app}
 use Rattle.desk_base.proofs.needs.set_fits.Goals as goal
 

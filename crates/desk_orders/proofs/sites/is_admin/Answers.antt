@@ -1,8 +1,6 @@
 -- The login is one account's.
 use Rattle.std.proofs.Common.{ap, sym, subst}
-use Rattle.host_base.specs.declared.digest.Digest.{Digest}
-use Rattle.share_graph.specs.declared.rows.Account.{Account}
-use Rattle.share_graph.specs.Keys.{IsOneOf, HasLogin}
+use Rattle.desk_base.specs.Terms.{Account, Digest, HasLogin, IsOneOf}
 use Rattle.share_graph.proofs.Apart.{login_one}
 use Rattle.desk_base.specs.Wording.{secret_of}
 use Rattle.desk_orders.proofs.sites.is_admin.Goals as goal

@@ -3,7 +3,7 @@ use Rattle.std.proofs.lemmas.Bool.{false≢true}
 use Rattle.desk_base.proofs.Stopped.{stopped}
 use Rattle.desk_base.specs.Steps.{Refuses}
 use Rattle.share_graph.specs.declared.facts.Node.TheVariants as node
-use Rattle.share_graph.specs.declared.grants.Grant.{Grant}
+use Rattle.desk_base.specs.Terms.{Grant}
 use Rattle.share_graph.proofs.Contained.{listed_row}
 use Rattle.desk_base.proofs.Words.{lacking}
 use Rattle.saved_refs.specs.declared.claiming.Claiming.{Claiming}

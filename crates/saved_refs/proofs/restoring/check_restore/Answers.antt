@@ -4,7 +4,7 @@ use Rattle.desk_base.specs.Steps.{Makes, Plain}
 use Rattle.desk_base.proofs.Stopped.{stopped}
 use Rattle.share_graph.specs.declared.event.Event.TheVariants.{HandleMade}
 use Rattle.share_graph.specs.declared.facts.Node.TheVariants as node
-use Rattle.share_graph.specs.declared.sessions.Handle.{Handle}
+use Rattle.desk_base.specs.Terms.{Handle}
 use Rattle.desk_base.proofs.Words.{lacking}
 use Rattle.saved_refs.specs.Commands.{Restore}
 use Rattle.saved_refs.specs.Rows.{shown_handle}

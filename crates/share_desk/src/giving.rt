@@ -1,0 +1,33 @@
+//! What whoever gives does: an account that shares or makes a token, and a bearer that makes a further one.
+
+ghost use Rattle.desk_base.specs.Terms.{HasGrain, IsWellFormed};
+ghost use Rattle.desk_base.specs.Outcomes.{IsCarried};
+ghost use Rattle.share_desk.specs.Commands.{Gives};
+
+use desk_base::{Answer, add_grant, draft_grant, given_role, good_needs, has_grant_room};
+use host_base::GrainId;
+use perm_roles::Assignment;
+use share_graph::{Giver, Needs, State, Target};
+
+// Gives what an assignment says, under needs, on a grain that is there. Whoever bears a token gets one, which is drawn.
+pub(crate) fn give(
+    state: &State,
+    num: GrainId,
+    giver: Giver,
+    target: Target,
+    assignment: &Assignment,
+    needs: &Needs,
+) -> Answer
+    requires formed { IsWellFormed state.now }
+    requires there { HasGrain state.now.tables num }
+    ensures { IsCarried (Gives state.now num giver target assignment.now needs.now) result }
+{
+    given_role(&state.tables, num, assignment)?;
+    good_needs(&state.tables, needs)?;
+    has_grant_room(&state.tables)?;
+    let needs = needs.clone()?;
+    match target {
+        Target::Bearer { .. } => Ok(draft_grant(state, num, giver, target, *assignment, needs)),
+        _ => Ok(add_grant(state, num, giver, target, *assignment, needs)),
+    }
+}
