@@ -14,7 +14,6 @@ use cloud_keeper::Keeper;
 use club_site::{ClubDriver, club_offers, club_sites, club_text};
 use command_line::{Line, line_of};
 use conn_door::MemDoor;
-use grain_process::{ProcSpawner, UnixDoor, UnixLink};
 use grain_supervise::{EchoLink, FakeSpawner, Link, Spawner};
 use host_base::{Fails, Memory, Secrets, SeqSecrets, StdSink, StdSource};
 use host_clock::StillClock;
@@ -27,8 +26,7 @@ use sqlite::Connection;
 use std::alloc::Global;
 use std::process::ExitCode;
 use std::{env, fs, io};
-use system_secrets::RngSecrets;
-use tcp_door::TcpDoor;
+use system_edges::{ProcSpawner, RngSecrets, TcpDoor, UnixDoor, UnixLink};
 
 // The status where memory runs out.
 const NO_MEMORY: u8 = 7;

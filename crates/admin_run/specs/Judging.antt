@@ -8,7 +8,7 @@ use Rattle.share_graph.specs.declared.state.Tables.{Tables}
 use Rattle.row_tables.specs.Checks.{IsBadRow}
 use Rattle.row_tables.specs.TablesRows.{tables_of}
 use Rattle.row_tables.specs.declared.stored.BadRow.{BadRow}
-use Rattle.printed_lines.specs.Lines.{counts_line, bad_row_line}
+use Rattle.admin_run.specs.Lines.{counts_line, bad_row_line}
 use Rattle.admin_run.specs.Outside.{Outside, Tells}
 
 -- Of rows that state tables without a fault the counts are printed, and else the place of the first bad row, counted from 0, with status 10; where memory runs

@@ -1,5 +1,6 @@
 pub mod Connection
 pub mod Judging
+pub mod Lines
 pub mod Making
 pub mod Outside
 pub mod Playing

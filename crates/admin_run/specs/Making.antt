@@ -8,7 +8,7 @@ use Rattle.cloud_serve.specs.declared.serve.End.TheVariants as end
 use Rattle.cloud_serve.specs.Served.{Wired}
 use Rattle.grain_supervise.specs.Line.{Line}
 use Rattle.site_caps.specs.Law.{Law}
-use Rattle.printed_lines.specs.Lines.{summary_lines}
+use Rattle.admin_run.specs.Lines.{summary_lines}
 use Rattle.admin_run.specs.Connection.{ServesBook}
 use Rattle.admin_run.specs.Outside.{Outside, DoesNothing, Tells}
 use Rattle.admin_run.specs.Statuses.{status_of_made}

@@ -4,10 +4,10 @@ ghost use Rattle.host_base.specs.Outside.{Rose};
 ghost use Rattle.cloud_keeper.specs.Keeping.{RowsFollow};
 ghost use Rattle.admin_run.specs.Judging.{Judges, JudgesRows};
 
+use crate::lines::{bad_row_line, counts_line};
 use crate::telling::tell_line;
 use cloud_keeper::{KeepFault, Keeper, Row};
 use host_base::Sink;
-use printed_lines::{bad_row_line, counts_line};
 use row_tables::{LoadFault, tables_of};
 use std::alloc::Global;
 

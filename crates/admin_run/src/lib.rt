@@ -5,6 +5,7 @@ mod beginning;
 mod connection;
 mod judging;
 mod keeping;
+mod lines;
 mod making;
 mod playing;
 mod program;

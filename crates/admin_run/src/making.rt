@@ -7,13 +7,13 @@ ghost use Rattle.admin_run.specs.Making.{Makes, TellsMade};
 ghost use Rattle.admin_run.specs.Outside.{HasStatusCause};
 
 use crate::connection::small_desk;
+use crate::lines::summary_lines;
 use crate::statuses::status_of_memory;
 use crate::telling::tell_line;
 use crate::world::{Ran, Setting, World, joined};
 use cloud_serve::{ConnEnd, End, Wire, serve_conn};
 use front_http::Routes;
 use host_base::{Fails, MemSink, MemSource, Sink};
-use printed_lines::summary_lines;
 use request_maker::generate;
 use site_caps::SiteDriver;
 use std::alloc::Global;

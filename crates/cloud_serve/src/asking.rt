@@ -32,7 +32,6 @@ fn stated(
 {
     let login = Caller::Login(who);
     let bearer = Caller::Bearer(who);
-    let either = Caller::Either(who);
     match route {
         Route::Accounts => Some(new_account(alloc, who, body)),
         Route::AccountAdmin(num) => Some(admin_mark(alloc, who, AccountId(num), body)),
@@ -56,7 +55,7 @@ fn stated(
         Route::GrantRevoke(num) => Some(plain(alloc, login, Command::Revoke(GrantId(num)), body)),
         Route::SessionClose(num) => Some(plain(
             alloc,
-            either,
+            Caller::Either(who),
             Command::CloseSession(SessionId(num)),
             body,
         )),

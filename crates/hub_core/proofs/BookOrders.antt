@@ -1,9 +1,6 @@
 -- What the book of a hub tells of an order.
 use Rattle.std.proofs.Common.{◌≡◌, ◌≢◌, ◌≤◌, ◌+◌, ◌++◌, ◌⊎◌, inl, inr, ℕ, Bool, true, false, List, [], ◌∷◌, Option, Result, Ok, Err, length, refl, sym, ◌∙◌, ap, subst, arith, append_assoc, append-nil, length-append}
-use Rattle.share_graph.specs.declared.event.Event.{Event}
-use Rattle.share_graph.specs.declared.state.State.{State}
-use Rattle.share_graph.specs.History.{replay}
-use Rattle.share_graph.specs.WellFormed.{IsWellFormed}
+use Rattle.desk_base.specs.Terms.{Event, IsWellFormed, replay, State}
 use Rattle.site_caps.specs.Law.{Law}
 use Rattle.desk_orders.specs.Answers.{IsAnswer}
 use Rattle.desk_orders.specs.Commands.{Asked}

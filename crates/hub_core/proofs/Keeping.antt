@@ -1,11 +1,7 @@
 -- What a value that holds a history keeps when an entry was added, and when none was.
 use Rattle.std.proofs.Common.{◌≡◌, ℕ, ◌+◌, ◌<◌, ◌≤◌, ◌++◌, List, [], ◌∷◌, Result, Ok, Err, OnOk, OnErr, length, sym, ◌∙◌, ap, subst, arith, length-append}
 use Rattle.std.specs.Prelude.{⊤}
-use Rattle.share_graph.specs.declared.event.Event.{Event}
-use Rattle.share_graph.specs.declared.state.State.{State}
-use Rattle.share_graph.specs.EventFits.{EventFits}
-use Rattle.share_graph.specs.History.{after, replay}
-use Rattle.share_graph.specs.WellFormed.{IsWellFormed}
+use Rattle.desk_base.specs.Terms.{after, Event, EventFits, IsWellFormed, replay, State}
 use Rattle.state_step.proofs.AfterAll.{replay_appended}
 use Rattle.live_access.specs.Kept.{Kept, IsSolvedFor}
 use Rattle.desk_orders.specs.declared.reply.OrderFault.{OrderFault}

@@ -1,20 +1,13 @@
 -- Tables without a fault, within their limits and numbered, without sessions, runs and handles, are a well-formed state.
 use Rattle.std.proofs.Common.{◌≡◌, ◌<◌, ◌+◌, ◌⊎◌, ℕ, List, All, Option, Some, None, slice_get, refl, sym, ◌∙◌, ap, subst, inl, inr, arith}
 use Rattle.std.proofs.lemmas.List.Elements.{All-nil}
-use Rattle.host_base.specs.declared.digest.Digest.{Digest}
-use Rattle.share_graph.specs.declared.fault.Kind.{Kind}
+use Rattle.desk_base.specs.Terms.{Account, Digest, Grant, HasGrain, IsChecked, IsWellFormed, Kind, Run, Saved}
+use Rattle.desk_base.specs.Terms.{Session, Tables}
 use Rattle.share_graph.specs.declared.fault.Kind.TheVariants as kind
-use Rattle.share_graph.specs.declared.grants.Grant.{Grant}
-use Rattle.share_graph.specs.declared.rows.Account.{Account}
-use Rattle.share_graph.specs.declared.rows.Saved.{Saved}
-use Rattle.share_graph.specs.declared.sessions.Run.{Run}
-use Rattle.share_graph.specs.declared.sessions.Session.{Session}
-use Rattle.share_graph.specs.declared.state.Tables.{Tables}
-use Rattle.share_graph.specs.Checked.{AccountFault, GrantFault, SavedFault, IsChecked}
+use Rattle.share_graph.specs.Checked.{AccountFault, GrantFault, SavedFault}
 use Rattle.share_graph.specs.Fresh.{IsFreshLogin, IsFreshToken, IsNewToken, IsFreshReference}
 use Rattle.share_graph.specs.Kinds.{AreApart}
-use Rattle.share_graph.specs.WellFormed.{AreNumbered, IsWithinLimits, IsRootedSession, IsRootedHandle, IsWellFormed}
-use Rattle.share_graph.specs.Known.{HasGrain}
+use Rattle.share_graph.specs.WellFormed.{AreNumbered, IsWithinLimits, IsRootedSession, IsRootedHandle}
 use Rattle.state_step.proofs.Each.{before_none, all_from_each, each_from_all}
 use Rattle.table_check.specs.Apart.{HasNoOther, IsApart}
 use Rattle.table_check.proofs.Digests.{HaveNoOther, no_other, apart_from}

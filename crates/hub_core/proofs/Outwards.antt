@@ -1,16 +1,13 @@
 -- What telling the keeper or the spawner comes to.
 use Rattle.std.proofs.Common.{◌≡◌, ℕ, ◌≤◌, List, [], ◌∷◌, ◌++◌, Some, Result, Ok, Err, refl, sym, ◌∙◌, ap, arith, append-nil}
 use Rattle.std.specs.Prelude.{⊤, IfErr}
-use Rattle.host_base.specs.Outside.{Rose}
-use Rattle.host_base.specs.declared.ids.RunId.{RunId}
+use Rattle.desk_base.specs.Terms.{Event, IsOfTables, Rose, RunId}
 use Rattle.cloud_keeper.specs.Keeping.{Keeping}
-use Rattle.share_graph.specs.declared.event.Event.{Event}
 use Rattle.share_graph.specs.declared.event.Event.TheVariants as event
 use Rattle.grain_supervise.specs.declared.start.Start.{Start}
 use Rattle.grain_supervise.specs.Spawning.{Spawns}
 use Rattle.desk_orders.specs.declared.reply.OrderFault.{OrderFault}
 use Rattle.desk_orders.specs.declared.reply.OrderFault.TheVariants as fault
-use Rattle.share_graph.specs.History.{IsOfTables}
 use Rattle.hub_core.specs.Inner.Adding.{Outer, IsOuter, IsStartOrMemory, IsStoreOrMemory, Starts, TellsOuter}
 use Rattle.hub_core.specs.Spawning.{Spawned, starts_of, stops_of}
 

@@ -1,11 +1,6 @@
 -- An order that was answered at the end of a history, as a desk tells it.
 use Rattle.std.proofs.Common.{◌++◌, Option, List, [], Result, length, refl, sym, ◌∙◌, ap, arith, append-nil, length-append}
-use Rattle.host_base.specs.declared.key.Key.{Key}
-use Rattle.host_base.specs.declared.verdict.Verdict.{Verdict}
-use Rattle.share_graph.specs.declared.event.Event.{Event}
-use Rattle.share_graph.specs.declared.state.State.{State}
-use Rattle.share_graph.specs.History.{replay}
-use Rattle.share_graph.specs.WellFormed.{IsWellFormed}
+use Rattle.desk_base.specs.Terms.{Event, IsWellFormed, Key, replay, State, Verdict}
 use Rattle.session_table.specs.Verdict.{IsVerdict}
 use Rattle.desk_orders.specs.declared.reply.OrderFault.{OrderFault}
 use Rattle.desk_orders.specs.declared.reply.Reply.{Reply}

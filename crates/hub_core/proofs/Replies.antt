@@ -1,19 +1,11 @@
 -- What answering an order comes to, over plain values.
 use Rattle.std.proofs.Common.{◌≡◌, ℕ, ◌≤◌, ◌++◌, Bool, true, false, List, [], ◌∷◌, Option, Some, None, Result, Ok, Err, length, refl, sym, ◌∙◌, ap, subst, arith, append-nil, inl, inr}
 use Rattle.host_base.specs.Drawing.{Coming, Drawer, Draws}
-use Rattle.host_base.specs.Outside.{Rose}
-use Rattle.share_graph.specs.declared.desk.DeskFault.{DeskFault}
+use Rattle.desk_base.specs.Terms.{DeskFault, Digest, Event, HasDigest, IsUnused, Made, Refusal, Rose, RunId, State}
 use Rattle.share_graph.specs.declared.desk.DeskFault.TheVariants as desk_fault
-use Rattle.share_graph.specs.declared.desk.Made.{Made}
-use Rattle.share_graph.specs.declared.event.Event.{Event}
-use Rattle.share_graph.specs.declared.refusal.Refusal.{Refusal}
-use Rattle.share_graph.specs.declared.state.State.{State}
 use Rattle.cloud_keeper.specs.Keeping.{Keeping}
 use Rattle.grain_supervise.specs.Spawning.{Spawns}
 use Rattle.grain_supervise.specs.declared.start.Start.{Start}
-use Rattle.host_base.specs.declared.digest.Digest.{Digest}
-use Rattle.host_base.specs.declared.ids.RunId.{RunId}
-use Rattle.share_graph.specs.Kinds.{HasDigest, IsUnused}
 use Rattle.desk_base.specs.Accepting.{Ready, WantsSecret}
 use Rattle.desk_base.specs.Made.{nothing_made}
 use Rattle.desk_base.specs.Outcomes.{Completes, HasClash, draft_step, with_digest}

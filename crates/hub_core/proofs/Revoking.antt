@@ -1,34 +1,19 @@
 -- What a revocation takes away: from nodes, and from the keys that stand for them.
 use Rattle.std.proofs.Common.{◌≡◌, ◌++◌, ◌∷◌, [], ◌<◌, List, Result, Ok, Err, IfOk, ap, sym, subst, refl, ◌∙◌, inl, inr}
-use Rattle.host_base.specs.declared.ids.GrantId.{GrantId}
-use Rattle.host_base.specs.declared.ids.RunId.{RunId}
-use Rattle.host_base.specs.declared.key.Key.{Key}
+use Rattle.desk_base.specs.Terms.{after, Denial, Event, Grant, GrantId, Handle, HasRunToken, Holds, IsAppOf}
+use Rattle.desk_base.specs.Terms.{IsHandleOf, IsOneOf, IsWellFormed, Key, LacksEntry, Node, replay, Run, RunId}
+use Rattle.desk_base.specs.Terms.{Session, State, Verdict}
 use Rattle.host_base.specs.declared.key.Key.TheVariants as key
 use Rattle.host_base.specs.declared.permit.Permit.{Permit}
-use Rattle.host_base.specs.declared.verdict.Denial.{Denial}
 use Rattle.host_base.specs.declared.verdict.Denial.TheVariants as denial
-use Rattle.host_base.specs.declared.verdict.Verdict.{Verdict}
 use Rattle.host_base.specs.declared.verdict.Verdict.TheVariants as verdict
-use Rattle.share_graph.specs.declared.event.Event.{Event}
 use Rattle.share_graph.specs.declared.event.Event.TheVariants as event
 use Rattle.share_graph.specs.declared.facts.Fact.{Fact}
 use Rattle.share_graph.specs.declared.facts.Fact.TheVariants.{Open, Perm}
-use Rattle.share_graph.specs.declared.facts.Node.{Node}
 use Rattle.share_graph.specs.declared.facts.Node.TheVariants as node
-use Rattle.share_graph.specs.declared.grants.Grant.{Grant}
-use Rattle.share_graph.specs.declared.sessions.Handle.{Handle}
-use Rattle.share_graph.specs.declared.sessions.Run.{Run}
-use Rattle.share_graph.specs.declared.sessions.Session.{Session}
-use Rattle.share_graph.specs.declared.state.State.{State}
 use Rattle.share_graph.specs.declared.ways.Origin.{Origin}
 use Rattle.share_graph.specs.declared.ways.Origin.TheVariants as origin
-use Rattle.share_graph.specs.Callers.{LacksEntry}
-use Rattle.share_graph.specs.Derivation.{Holds}
-use Rattle.share_graph.specs.History.{replay, after}
-use Rattle.share_graph.specs.Keys.{IsOneOf, HasRunToken, IsHandleOf}
 use Rattle.share_graph.specs.Revoking.{TakesExactly}
-use Rattle.share_graph.specs.Rows.{IsAppOf}
-use Rattle.share_graph.specs.WellFormed.{IsWellFormed}
 use Rattle.share_graph.proofs.Apart.{bearer_one, key_one, run_token_one}
 use Rattle.share_graph.proofs.MissingOne.{lacks_none}
 use Rattle.share_graph.proofs.RevokingLaw.{revoking_law}

@@ -1,12 +1,9 @@
 -- An event opens one session at most.
 use Rattle.std.proofs.Common.{◌≡◌, ℕ, ◌+◌, ◌≤◌, zero, suc, Bool, true, false, if◌then◌else◌, List, [], ◌∷◌, ◌++◌, length, refl, ap, arith, length-append}
-use Rattle.share_graph.specs.declared.event.Event.{Event}
+use Rattle.desk_base.specs.Terms.{after, Event, is_open_of, Root, Session, State}
 use Rattle.share_graph.specs.declared.event.Event.TheVariants as event
-use Rattle.share_graph.specs.declared.sessions.Root.{Root}
-use Rattle.share_graph.specs.declared.sessions.Session.{Session}
-use Rattle.share_graph.specs.declared.state.State.{State}
 use Rattle.share_graph.specs.Changing.{change, change_row}
-use Rattle.share_graph.specs.History.{after, close_first, is_open_of, opened}
+use Rattle.share_graph.specs.History.{close_first, opened}
 use Rattle.share_graph.specs.Setting.{closed}
 
 length_changed : (f : Session → Session) (xs : List Session) (i : ℕ) → length (change f xs i) ≡ length xs

@@ -3,13 +3,8 @@ use Rattle.std.proofs.Common.{◌≡◌, List, Option, Some, None, Result, Ok, E
 use Rattle.std.specs.Prelude.{⊤, OnOk, OnErr}
 use Rattle.cloud_keeper.specs.declared.row.Row.{Row}
 use Rattle.cloud_keeper.specs.Keeping.{Keeping, RowsFollow, put}
-use Rattle.share_graph.specs.declared.event.Event.{Event}
+use Rattle.desk_base.specs.Terms.{after, Event, EventFits, IsWellFormed, State, Tables, tables_after}
 use Rattle.share_graph.specs.declared.event.Event.TheVariants as event
-use Rattle.share_graph.specs.declared.state.State.{State}
-use Rattle.share_graph.specs.declared.state.Tables.{Tables}
-use Rattle.share_graph.specs.EventFits.{EventFits}
-use Rattle.share_graph.specs.History.{after, tables_after}
-use Rattle.share_graph.specs.WellFormed.{IsWellFormed}
 use Rattle.desk_orders.specs.declared.reply.OrderFault.{OrderFault}
 use Rattle.row_tables.specs.Kept.{AreRowsOf, with_row, IsStored}
 use Rattle.row_tables.specs.RowAfter.{row_after}

@@ -1,13 +1,7 @@
 -- What a desk tells; the verdict on a key, and the answer to an order, at one place of its history.
 use Rattle.std.specs.Prelude.{◌≡◌, ℕ, Bool, ◌+◌, ◌≤◌, ◌++◌, List, Option, Result, Err, length}
 use Rattle.host_base.specs.Drawing.{Drawer}
-use Rattle.host_base.specs.declared.key.Key.{Key}
-use Rattle.host_base.specs.declared.verdict.Verdict.{Verdict}
-use Rattle.host_base.specs.Outside.{Rose}
-use Rattle.share_graph.specs.declared.state.State.{State}
-use Rattle.share_graph.specs.declared.event.Event.{Event}
-use Rattle.share_graph.specs.History.{replay}
-use Rattle.share_graph.specs.WellFormed.{IsWellFormed}
+use Rattle.desk_base.specs.Terms.{Event, IsWellFormed, Key, replay, Rose, State, Verdict}
 use Rattle.cloud_keeper.specs.Keeping.{Keeping}
 use Rattle.grain_supervise.specs.Spawning.{Spawns}
 use Rattle.session_table.specs.Verdict.{IsVerdict}

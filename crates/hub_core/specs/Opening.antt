@@ -1,10 +1,8 @@
 -- Opening a history on the rows of a keeper.
 use Rattle.std.specs.Prelude.{◌≡◌, ◌≤◌, List, [], Some, Ok}
-use Rattle.host_base.specs.Outside.{Rose}
+use Rattle.desk_base.specs.Terms.{Rose, State, Tables}
 use Rattle.cloud_keeper.specs.declared.row.Row.{Row}
 use Rattle.cloud_keeper.specs.Keeping.{Keeping, RowsFollow}
-use Rattle.share_graph.specs.declared.state.State.{State}
-use Rattle.share_graph.specs.declared.state.Tables.{Tables}
 use Rattle.row_tables.specs.Checks.{GivesTables, IsBadRow}
 use Rattle.row_tables.specs.declared.stored.BadRow.{BadRow}
 use Rattle.hub_core.specs.Book.{Backing}

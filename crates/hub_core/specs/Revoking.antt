@@ -1,30 +1,17 @@
 -- What a revocation takes away: from nodes, and from the keys that stand for them.
 use Rattle.std.specs.Prelude.{◌≡◌, ◌⊎◌, ◌++◌, ◌∷◌, [], ◌<◌, ◌↔◌, ℕ, List, Contains, false}
-use Rattle.host_base.specs.declared.ids.GrainId.{GrainId}
-use Rattle.host_base.specs.declared.ids.GrantId.{GrantId}
-use Rattle.host_base.specs.declared.key.Key.{Key}
+use Rattle.desk_base.specs.Terms.{App, Denial, Event, GrainId, Grant, GrantId, Handle, HasRunToken, IsAppOf}
+use Rattle.desk_base.specs.Terms.{IsBearerOf, IsHandleOf, IsOneOf, Key, Node, replay, Run, Session, State, Tables}
+use Rattle.desk_base.specs.Terms.{Verdict}
 use Rattle.host_base.specs.declared.key.Key.TheVariants as key
 use Rattle.host_base.specs.declared.permit.Permit.{Permit}
-use Rattle.host_base.specs.declared.verdict.Denial.{Denial}
 use Rattle.host_base.specs.declared.verdict.Denial.TheVariants as denial
-use Rattle.host_base.specs.declared.verdict.Verdict.{Verdict}
 use Rattle.host_base.specs.declared.verdict.Verdict.TheVariants as verdict
-use Rattle.share_graph.specs.declared.event.Event.{Event}
 use Rattle.share_graph.specs.declared.event.Event.TheVariants as event
 use Rattle.share_graph.specs.declared.facts.Fact.TheVariants.{Open, Perm}
-use Rattle.share_graph.specs.declared.facts.Node.{Node}
 use Rattle.share_graph.specs.declared.facts.Node.TheVariants as node
-use Rattle.share_graph.specs.declared.grants.Grant.{Grant}
-use Rattle.share_graph.specs.declared.rows.App.{App}
-use Rattle.share_graph.specs.declared.sessions.Handle.{Handle}
-use Rattle.share_graph.specs.declared.sessions.Run.{Run}
-use Rattle.share_graph.specs.declared.sessions.Session.{Session}
-use Rattle.share_graph.specs.declared.state.State.{State}
-use Rattle.share_graph.specs.declared.state.Tables.{Tables}
 use Rattle.share_graph.specs.Derivation.{Derivation, HoldsWithout, Uses}
-use Rattle.share_graph.specs.History.{replay}
-use Rattle.share_graph.specs.Keys.{IsOneOf, HasKey, HasRunToken, IsBearerOf, IsHandleOf}
-use Rattle.share_graph.specs.Rows.{IsAppOf}
+use Rattle.share_graph.specs.Keys.{HasKey}
 use Rattle.session_table.specs.Standing.{behind_session, node_behind}
 use Rattle.session_table.specs.Verdict.{names_at}
 use Rattle.state_step.specs.Losing.{RevokesExactly, ShutsOut, LeavesTheRest}

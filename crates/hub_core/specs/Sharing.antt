@@ -1,9 +1,6 @@
 -- One value that holds a history: what it began with, its entries, and the objects beside it.
 use Rattle.std.specs.Prelude.{◌≡◌, ◌+◌, ◌<◌, ◌≤◌, List, length}
-use Rattle.share_graph.specs.declared.event.Event.{Event}
-use Rattle.share_graph.specs.declared.state.State.{State}
-use Rattle.share_graph.specs.History.{replay}
-use Rattle.share_graph.specs.WellFormed.{IsWellFormed}
+use Rattle.desk_base.specs.Terms.{Event, IsWellFormed, replay, State}
 use Rattle.live_access.specs.Kept.{Kept, IsSolvedFor}
 use Rattle.site_caps.specs.Law.{Law}
 use Rattle.hub_core.specs.Book.{Book, Backing}

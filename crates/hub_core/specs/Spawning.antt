@@ -1,8 +1,7 @@
 -- What a spawner is told of what happens to the runs of grains.
 use Rattle.std.specs.Prelude.{◌≡◌, ◌++◌, ℕ, List, [], ◌∷◌, Some}
 use Rattle.std.specs.List.{flat_map}
-use Rattle.host_base.specs.declared.ids.RunId.{RunId}
-use Rattle.share_graph.specs.declared.event.Event.{Event}
+use Rattle.desk_base.specs.Terms.{Event, RunId}
 use Rattle.share_graph.specs.declared.event.Event.TheVariants as event
 use Rattle.grain_supervise.specs.declared.start.Start.{Start}
 use Rattle.grain_supervise.specs.Spawning.{Spawns}

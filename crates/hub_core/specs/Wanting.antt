@@ -1,11 +1,6 @@
 -- What is wanted of a history that many threads share, and what is told of it.
 use Rattle.std.specs.Prelude.{◌≡◌, Bool, true, false, ℕ, List, [], Option, Result, Err, length}
-use Rattle.share_graph.specs.declared.event.Event.{Event}
-use Rattle.share_graph.specs.declared.state.State.{State}
-use Rattle.share_graph.specs.History.{replay}
-use Rattle.share_graph.specs.WellFormed.{IsWellFormed}
-use Rattle.host_base.specs.declared.key.Key.{Key}
-use Rattle.host_base.specs.declared.verdict.Verdict.{Verdict}
+use Rattle.desk_base.specs.Terms.{Event, IsWellFormed, Key, replay, State, Verdict}
 use Rattle.session_table.specs.Verdict.{IsVerdict}
 use Rattle.site_caps.specs.Answering.{GivesText}
 use Rattle.site_caps.specs.Law.{Law}

@@ -1,9 +1,8 @@
 //! Adding an entry to a history, in place.
 
 ghost use Rattle.std.specs.Prelude.{◌≡◌, ◌<◌, ◌++◌, ◌∷◌, [], IfOk, OnOk, OnErr, vec_len, vec_capacity};
-ghost use Rattle.share_graph.specs.EventFits.{EventFits};
+ghost use Rattle.desk_base.specs.Terms.{EventFits, IsWellFormed};
 ghost use Rattle.share_graph.specs.History as history;
-ghost use Rattle.share_graph.specs.WellFormed.{IsWellFormed};
 ghost use Rattle.live_access.specs.Kept.{IsSolvedFor};
 ghost use Rattle.live_access.specs.Ready.{IsReadyFor};
 ghost use Rattle.row_tables.specs.RowAfter.{AddsNext};

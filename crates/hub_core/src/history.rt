@@ -1,9 +1,7 @@
 //! A history, with what stands at its end.
 
 ghost use Rattle.std.specs.Prelude.{◌≡◌, ◌+◌, ◌<◌, ◌≤◌, [], length, IfOk};
-ghost use Rattle.share_graph.specs.EventFits.{EventFits};
-ghost use Rattle.share_graph.specs.WellFormed.{IsWellFormed};
-ghost use Rattle.least_access.specs.Solved.{IsSolutionOf};
+ghost use Rattle.desk_base.specs.Terms.{EventFits, IsSolutionOf, IsWellFormed};
 ghost use Rattle.live_access.specs.Kept.{IsSolvedFor};
 ghost use Rattle.hub_core.specs.Inner.Adding.{AddsEntry};
 ghost use Rattle.hub_core.specs.Sharing.{state_of};

@@ -1,9 +1,7 @@
 //! One value that holds a history, the objects beside it, and the sites.
 
 ghost use Rattle.std.specs.Prelude.{◌≡◌, ◌<◌, ◌≤◌, [], length, true, false, IfOk, IfErr};
-ghost use Rattle.share_graph.specs.History.{replay};
-ghost use Rattle.share_graph.specs.WellFormed.{IsWellFormed};
-ghost use Rattle.least_access.specs.Solved.{IsSolutionOf};
+ghost use Rattle.desk_base.specs.Terms.{IsSolutionOf, IsWellFormed, replay};
 ghost use Rattle.session_table.specs.Verdict.{IsVerdict};
 ghost use Rattle.desk_orders.specs.Commands as commands;
 ghost use Rattle.desk_orders.specs.Listing.{IsListed};

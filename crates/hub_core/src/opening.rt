@@ -2,7 +2,7 @@
 
 ghost use Rattle.std.specs.Prelude.{◌≤◌, IfOk, IfErr};
 ghost use Rattle.cloud_keeper.specs.Keeping.{RowsFollow};
-ghost use Rattle.share_graph.specs.WellFormed.{IsWellFormed};
+ghost use Rattle.desk_base.specs.Terms.{IsWellFormed};
 ghost use Rattle.hub_core.specs.Opening.{AreLoaded, HasCause, opened};
 ghost use Rattle.row_tables.specs.Kept.{IsStored};
 

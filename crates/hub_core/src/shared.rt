@@ -1,7 +1,7 @@
 //! A history that many threads share, as the book of a hub.
 
 ghost use Rattle.std.specs.Prelude.{◌≡◌, ◌≤◌, length};
-ghost use Rattle.share_graph.specs.History.{replay};
+ghost use Rattle.desk_base.specs.Terms.{replay};
 ghost use Rattle.epoch_gate.specs.Books.{Acts};
 ghost use Rattle.hub_core.specs.Wanting.{AnswersOrder, faults_of};
 

@@ -1,7 +1,7 @@
 //! What is told outwards of an event.
 
 ghost use Rattle.std.specs.Prelude.{◌≡◌, ◌≤◌, ℕ, List, IfErr, OnOk, OnErr};
-ghost use Rattle.host_base.specs.Outside.{Rose};
+ghost use Rattle.desk_base.specs.Terms.{Rose};
 ghost use Rattle.cloud_keeper.specs.Keeping.{RowsFollow, put};
 ghost use Rattle.share_graph.specs.declared.event.Event.TheVariants as event;
 ghost use Rattle.desk_orders.specs.declared.reply.OrderFault.TheVariants as fault;

@@ -5,13 +5,12 @@ ghost use Rattle.conn_door.specs.Doors.{counted, kept_with};
 use crate::serve_door::ServeDoor;
 use cloud_serve::ConnEnd;
 use conn_door::MemDoor;
-use grain_process::UnixDoor;
 use grain_supervise::Link;
 use host_base::{MemSink, MemSource, StdSink, StdSource};
 use hub_core::Desk;
 use std::net::TcpStream;
 use std::os::unix::net::UnixStream;
-use tcp_door::TcpDoor;
+use system_edges::{TcpDoor, UnixDoor};
 
 impl ServeDoor for MemDoor {
     ghost start = { None };

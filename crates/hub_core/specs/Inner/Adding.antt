@@ -1,12 +1,7 @@
 -- What telling the outside of an event came to, and adding an entry.
 use Rattle.std.specs.Prelude.{◌≡◌, ◌≤◌, ◌++◌, ℕ, ⊤, List, [], ◌∷◌, Option, Some, None, Result, Ok, Err}
-use Rattle.host_base.specs.Outside.{Rose}
-use Rattle.share_graph.specs.declared.event.Event.{Event}
-use Rattle.share_graph.specs.declared.state.State.{State}
-use Rattle.share_graph.specs.declared.state.Tables.{Tables}
-use Rattle.share_graph.specs.EventFits.{EventFits}
-use Rattle.share_graph.specs.History.{tables_after, IsOfRuns, IsOfTables}
-use Rattle.share_graph.specs.WellFormed.{IsWellFormed}
+use Rattle.desk_base.specs.Terms.{Event, EventFits, IsOfTables, IsWellFormed, Rose, State, Tables, tables_after}
+use Rattle.share_graph.specs.History.{IsOfRuns}
 use Rattle.cloud_keeper.specs.Keeping.{Keeping, RowsFollow}
 use Rattle.cloud_keeper.specs.declared.row.Row.{Row}
 use Rattle.grain_supervise.specs.Spawning.{Spawns}

@@ -1,8 +1,7 @@
 -- An order that was answered at the end of a history.
 use Rattle.std.specs.Prelude.{◌≡◌, ◌++◌, ℕ, Bool, List, Option, Result, Ok, Err, length}
-use Rattle.share_graph.specs.declared.desk.DeskFault.{DeskFault}
+use Rattle.desk_base.specs.Terms.{DeskFault, Event}
 use Rattle.share_graph.specs.declared.desk.DeskFault.TheVariants as desk_fault
-use Rattle.share_graph.specs.declared.event.Event.{Event}
 use Rattle.saved_refs.specs.declared.listed.Listed.{Listed}
 use Rattle.desk_orders.specs.Commands.{Asked}
 use Rattle.desk_orders.specs.declared.reply.OrderFault.{OrderFault}

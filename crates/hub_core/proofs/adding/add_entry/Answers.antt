@@ -1,5 +1,5 @@
 use Rattle.std.proofs.Common.{◌≡◌, refl, rules}
-use Rattle.share_graph.specs.History.{after}
+use Rattle.desk_base.specs.Terms.{after}
 use Rattle.hub_core.proofs.Storing.{stored_same, stored_after}
 use Rattle.hub_core.proofs.adding.add_entry.Goals as goal
 

@@ -1,8 +1,5 @@
 use Rattle.std.proofs.Common.{[], None, Ok, refl, arith, subst}
-use Rattle.host_base.specs.declared.digest.Digest.{Digest}
-use Rattle.share_graph.specs.declared.state.State.{State}
-use Rattle.share_graph.specs.EventFits.{EventFits}
-use Rattle.share_graph.specs.Kinds.{IsUnused}
+use Rattle.desk_base.specs.Terms.{Digest, EventFits, IsUnused, State}
 use Rattle.desk_base.specs.Accepting.{Ready}
 use Rattle.desk_base.specs.Outcomes.{draft_step, with_digest}
 use Rattle.desk_base.specs.Steps.{Refuses, Keeps, Makes, Plain}

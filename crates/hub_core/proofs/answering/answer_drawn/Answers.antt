@@ -1,9 +1,6 @@
-use Rattle.host_base.specs.Outside.{Rose}
+use Rattle.desk_base.specs.Terms.{Event, EventFits, IsUnused, Rose}
 use Rattle.hub_core.specs.Sharing.{state_of}
 use Rattle.std.proofs.Common.{rules, ◌≡◌, ◌∙◌, ℕ, List, [], ◌∷◌, ap, refl, subst, sym}
-use Rattle.share_graph.specs.declared.event.Event.{Event}
-use Rattle.share_graph.specs.EventFits.{EventFits}
-use Rattle.share_graph.specs.Kinds.{IsUnused}
 use Rattle.desk_base.specs.Outcomes.{Completes, HasClash, with_digest}
 use Rattle.desk_orders.specs.Commands.{secret_use}
 use Rattle.desk_orders.specs.Secrets.{secret_text, shown_by}

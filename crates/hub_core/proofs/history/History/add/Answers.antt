@@ -1,6 +1,5 @@
 use Rattle.std.proofs.Common.{◌<◌, length, subst, sym}
-use Rattle.share_graph.specs.declared.state.State.{State}
-use Rattle.share_graph.specs.EventFits.{EventFits}
+use Rattle.desk_base.specs.Terms.{EventFits, State}
 use Rattle.hub_core.specs.Sharing.{Past, state_of}
 use Rattle.row_tables.specs.Kept.{IsStored}
 use Rattle.hub_core.proofs.Keeping.{holds_by, entry_of, same_of}

@@ -1,5 +1,5 @@
 use Rattle.std.proofs.Common.{subst}
-use Rattle.share_graph.specs.WellFormed.{IsWellFormed}
+use Rattle.desk_base.specs.Terms.{IsWellFormed}
 use Rattle.hub_core.proofs.Revoking.{spares_if}
 use Rattle.hub_core.proofs.locked.Locked.verdict.Goals as goal
 

@@ -1,5 +1,4 @@
 //! Secrets from the system's randomness.
-#![tactic(auto)]
 
 ghost use Rattle.std.specs.Prelude.{◌≡◌, None};
 

@@ -1,5 +1,5 @@
 use Rattle.std.proofs.Common.{rules, append_assoc}
-use Rattle.grain_process.proofs.socket.socket_path.Goals as goal
+use Rattle.system_edges.proofs.socket.socket_path.Goals as goal
 
 pub returns : goal.returns
 returns c = search (rules, append_assoc)

@@ -27,7 +27,7 @@ pub struct TcpDoor {
 
 impl Model for TcpDoor {
     ghost use Rattle.std.specs.Prelude.{option_map};
-    ghost use Rattle.tcp_door.specs.Bound.{BoundDoor};
+    ghost use Rattle.system_edges.specs.Bound.{BoundDoor};
 
     ghost Value = { BoundDoor };
 
