@@ -42,9 +42,9 @@ Checks Row makes (Err s) = Stops Row s
 abbrev pub IsCarriedExactly : (Step → Type 0) → Result Outcome Stop → Type 0
 IsCarriedExactly Row result = Checks Row step_of result
 
--- and where memory may run out
+-- and where memory may run out, which it does only where the row has an answer
 abbrev pub IsCarried : (Step → Type 0) → Result Outcome Stop → Type 0
-IsCarried Row (Err stop.Memory) = Unit {0}
+IsCarried Row (Err stop.Memory) = (step : Step) × Row step
 IsCarried Row (Err (stop.Refused r)) = Row (Refuses r)
 IsCarried Row (Err (stop.Same made)) = Row (Keeps made)
 IsCarried Row (Ok out) = Row (step_of out)

@@ -1,7 +1,7 @@
 use Rattle.std.proofs.Common.{◌≡◌, ◌∙◌, inl, inr, refl}
 use Rattle.std.proofs.lemmas.List.Elements.{same_from_all_zip}
-use Rattle.desk_base.proofs.Stopped.{refused}
-use Rattle.share_desk.specs.Commands.{Gives}
+use Rattle.desk_base.proofs.Stopped.{refused, starved}
+use Rattle.share_desk.specs.Commands.{Gives, give_step}
 use Rattle.share_desk.proofs.Words.{gift_limit, others_gift}
 use Rattle.share_desk.proofs.giving.give.Goals as goal
 
@@ -19,6 +19,11 @@ pub returns-in_err-has_grant_room : goal.returns-in_err-has_grant_room
 returns-in_err-has_grant_room c =
     refused (Gives c.args.state.now c.args.num c.args.giver c.args.target c.args.assignment.now c.args.needs.now) c.from_residual-in_err-has_grant_room.result c.in_err-has_grant_room.field-0.0 c.from_residual-in_err-has_grant_room.ensures.1
     (inr (c.in_ok-given_role.ensures, inr (c.in_ok-good_needs.ensures, inl (_, refl, gift_limit c.args.state.now c.args.num c.args.giver c.args.assignment.now c.args.needs.now c.args.target ∙ c.in_err-has_grant_room.ensures))))
+
+pub returns-in_err-needs : goal.returns-in_err-needs
+returns-in_err-needs c =
+    starved (Gives c.args.state.now c.args.num c.args.giver c.args.target c.args.assignment.now c.args.needs.now) c.from_residual-in_err-needs.result c.from_residual-in_err-needs.ensures.1
+    (give_step c.args.state.now.tables c.args.num c.args.giver c.args.target c.args.assignment.now c.args.needs.now, inr (c.in_ok-given_role.ensures, inr (c.in_ok-good_needs.ensures, inr (refl, gift_limit c.args.state.now c.args.num c.args.giver c.args.assignment.now c.args.needs.now c.args.target ∙ c.in_ok-has_grant_room.ensures))))
 
 pub returns-in-Bearer : goal.returns-in-Bearer
 returns-in-Bearer c =
