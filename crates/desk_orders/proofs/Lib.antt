@@ -1,5 +1,4 @@
 pub mod OfOptions
-pub mod Listed
-pub mod OneListing
 pub mod OfOrders
+pub mod OneListing
 pub mod Drafts

@@ -1,4 +1,4 @@
--- The question what may be chosen changes nothing.
+-- A command that asks what may be chosen changes nothing, and chooses nothing.
 use Rattle.std.proofs.Common.{◌≡◌, true, false, None, inl, inr}
 use Rattle.desk_base.specs.Terms.{answers, Caller, entry, GrainId, Made, Node, State}
 use Rattle.share_graph.specs.declared.facts.Node.TheVariants as node
@@ -28,24 +28,4 @@ options_fits s who n =
 -- it chooses nothing
 pub none_found : (law : Law) (s : State) (who : Caller) (c : Command) → lists c ≡ true → IsFoundBy law s who c None
 none_found law s who (command.Options n query) asks = tt
-none_found law s who (command.AddAccount handle name) asks = cc
-none_found law s who (command.SetAdmin a on) asks = cc
-none_found law s who (command.SetEnabled a on) asks = cc
-none_found law s who (command.AddApp manifest) asks = cc
-none_found law s who (command.NewGrain app title) asks = cc
-none_found law s who (command.Trash n) asks = cc
-none_found law s who (command.Untrash n) asks = cc
-none_found law s who (command.Share n to assignment needs) asks = cc
-none_found law s who (command.MakeToken n for_sharing assignment needs) asks = cc
-none_found law s who (command.Child for_sharing assignment needs) asks = cc
-none_found law s who (command.Redeem token) asks = cc
-none_found law s who (command.Revoke g) asks = cc
-none_found law s who (command.StartRun n) asks = cc
-none_found law s who (command.StopRun n) asks = cc
-none_found law s who (command.OpenSession n tab) asks = cc
-none_found law s who (command.CloseSession n) asks = cc
-none_found law s who (command.Choose n offer query assignment) asks = cc
-none_found law s who (command.Claim token permissions) asks = cc
-none_found law s who (command.Save handle label) asks = cc
-none_found law s who (command.Restore token) asks = cc
-none_found law s who (command.DropSaved token) asks = cc
+none_found law s who _ asks = cc

@@ -1,10 +1,7 @@
 -- What holds of the commands holds of orders: one line a command, and nothing above speaks of commands.
-use Rattle.std.proofs.Common.{◌≡◌, Bool, Option, true, false, refl}
-use Rattle.desk_base.specs.Terms.{Caller, Digest, Event, EventFits, IsOne, IsUnused, IsWellFormed, State}
-use Rattle.desk_base.specs.Fitting.{ChangeFits, RowFits}
-use Rattle.desk_base.specs.Outcomes.{with_digest, draft_step}
-use Rattle.desk_base.specs.Steps.{Drawn}
-use Rattle.desk_base.specs.declared.outcome.Draft.{Draft}
+use Rattle.std.proofs.Common.{Option, Bool, true, false}
+use Rattle.desk_base.specs.Terms.{Caller, IsOne, IsWellFormed, State}
+use Rattle.desk_base.specs.Fitting.{RowFits}
 use Rattle.account_desk.proofs.OneRows.{add_account_one, set_admin_one, set_enabled_one, add_app_one, new_grain_one, trash_one}
 use Rattle.account_desk.proofs.FitRows.{add_account_fits, set_admin_fits, set_enabled_fits, add_app_fits, new_grain_fits, trash_fits}
 use Rattle.session_desk.proofs.OneRows.{start_run_one, stop_run_one, open_session_one, close_session_one}
@@ -71,16 +68,3 @@ fits_by s formed found who (command.Claim token permissions) stated = claim_fits
 fits_by s formed found who (command.Save handle label) stated = save_fits s formed who handle label
 fits_by s formed found who (command.Restore token) stated = restore_fits s formed who token
 fits_by s formed found who (command.DropSaved token) stated = drop_saved_fits s formed who token
-
-pub order_fits : (s : State) → IsWellFormed s → (found : Option Bool) (order : Asked) → IsStated order.caller order.command → RowFits s (draws order.command) (RowOf s found order)
-unfolding RowOf
-order_fits s formed found order stated = fits_by s formed found order.caller order.command stated
-
--- a change that wants a digest is of a command that draws a secret, and fits with each digest that no row has
-drawn_fits : (s : State) (wants : Bool) (f : Digest → Event) → ChangeFits s wants (Drawn f) → (wants ≡ true) × ((d : Digest) → IsUnused s d → EventFits s (f d))
-drawn_fits s true f is = (refl, is)
-drawn_fits s false f is = absurd is
-
-pub draft_fits : (s : State) → IsWellFormed s → (found : Option Bool) (who : Caller) (c : Command) → IsStated who c → (draft : Draft) → RowBy s found who c (draft_step draft)
-    → (draws c ≡ true) × ((d : Digest) → IsUnused s d → EventFits s (with_digest draft.event d))
-draft_fits s formed found who c stated draft is = drawn_fits s (draws c) (with_digest draft.event) ((fits_by s formed found who c stated).fits (Drawn (with_digest draft.event)) draft.made is)

@@ -13,10 +13,7 @@ use Rattle.desk_orders.specs.declared.order.Command.TheVariants as command
 use Rattle.desk_orders.specs.Sites.{AreListed, ListsBy, HasOneAnswer}
 
 apart : (p q : ℕ × SiteOffer) → StandsBefore p q → StandsBefore q p → ⊥
-apart p q (inl less) (inl more) = omega (arith, less, more)
-apart p q (inl less) (inr (same, after)) = omega (arith, less, same)
-apart p q (inr (same, before)) (inl more) = omega (arith, same, more)
-apart p q (inr (same, before)) (inr (again, after)) = omega (arith, before, after)
+apart p q before after = grind arith
 
 module _ (law : Law) (one : HasOneAnswer law) (query : List DescriptorData) where
   members : (admin other : Bool) → admin ≡ other → (xs ys : List (ℕ × SiteOffer)) → IsSites law.tags law.may_offer query admin xs → IsSites law.tags law.may_offer query other ys

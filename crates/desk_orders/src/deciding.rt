@@ -10,7 +10,7 @@ ghost use Rattle.desk_orders.specs.Orders.{RowBy, RowOf};
 
 use crate::order::{Command, Order};
 use account_desk::{add_account, add_app, new_grain, set_admin, set_enabled, trash, untrash};
-use desk_base::{Draft, Outcome, Stop, has_room};
+use desk_base::{Answer, Draft, Outcome, Stop, has_room};
 use least_access::Solved;
 use saved_refs::{choose, claim, drop_saved, restore, save};
 use session_desk::{close_session, open_session, start_run, stop_run};
@@ -30,7 +30,51 @@ pub enum Decision {
     Memory,
 }
 
-// What its desk answers to an order, which asks for no list.
+// What its desk answers to a command that draws a secret.
+#[tactic(auto, using(desk_base::proofs::Stopped::loosely))]
+fn carry_drawing(
+    alloc: Global,
+    state: &State,
+    solved: &Solved,
+    found: Option<bool>,
+    caller: &Caller,
+    command: &Command,
+) -> Answer
+    requires formed { IsWellFormed state.now }
+    requires few { length state.now.sessions < 2 ^ 32 - 1 }
+    requires solution { IsSolutionOf state.now.tables solved.now }
+    requires stated { IsStated caller.now command.now }
+    requires draws { commands.draws command.now ≡ true }
+    ensures { IsCarried (RowBy state.now found caller.now command.now) result }
+{
+    match command {
+        Command::AddAccount(handle, name) => add_account(state, caller, handle, name),
+        Command::MakeToken {
+            grain,
+            for_sharing: link,
+            assignment,
+            needs,
+        } => make_token(state, solved, caller, *grain, *link, assignment, needs),
+        Command::Child {
+            for_sharing,
+            assignment,
+            needs,
+        } => child(state, solved, caller, *for_sharing, assignment, needs),
+        Command::StartRun(grain) => start_run(state, solved, caller, *grain),
+        Command::OpenSession { grain, tab } => open_session(state, solved, caller, *grain, *tab),
+        Command::Choose {
+            grain: num,
+            offer,
+            query,
+            assignment: by,
+        } => choose(alloc, state, solved, caller, *num, offer, query, by, found),
+        Command::Save { handle, label } => save(state, solved, caller, *handle, label),
+        _ => unreachable!(),
+    }
+}
+
+// What its desk answers to a command, which asks for no list.
+#[tactic(auto, using(desk_base::proofs::Stopped::loosely))]
 fn carry(
     alloc: Global,
     state: &State,
@@ -38,7 +82,7 @@ fn carry(
     found: Option<bool>,
     caller: &Caller,
     command: &Command,
-) -> Result<Outcome, Stop>
+) -> Answer
     requires formed { IsWellFormed state.now }
     requires few { length state.now.sessions < 2 ^ 32 - 1 }
     requires solution { IsSolutionOf state.now.tables solved.now }
@@ -47,7 +91,6 @@ fn carry(
     ensures { IsCarried (RowBy state.now found caller.now command.now) result }
 {
     match command {
-        Command::AddAccount(handle, name) => add_account(state, caller, handle, name),
         Command::SetAdmin(account, on) => set_admin(state, caller, *account, *on),
         Command::SetEnabled(account, on) => set_enabled(state, caller, *account, *on),
         Command::AddApp(manifest) => add_app(state, caller, manifest),
@@ -60,38 +103,17 @@ fn carry(
             assignment,
             needs,
         } => share(state, solved, caller, *grain, *to, assignment, needs),
-        Command::MakeToken {
-            grain,
-            for_sharing: link,
-            assignment,
-            needs,
-        } => make_token(state, solved, caller, *grain, *link, assignment, needs),
-        Command::Child {
-            for_sharing,
-            assignment,
-            needs,
-        } => child(state, solved, caller, *for_sharing, assignment, needs),
         Command::Redeem(token) => redeem(alloc, state, solved, caller, token),
         Command::Revoke(grant) => revoke(state, caller, *grant),
-        Command::StartRun(grain) => start_run(state, solved, caller, *grain),
         Command::StopRun(grain) => stop_run(state, caller, *grain),
-        Command::OpenSession { grain, tab } => open_session(state, solved, caller, *grain, *tab),
         Command::CloseSession(session) => close_session(state, solved, caller, *session),
         Command::Options(_, _) => unreachable!(),
-        Command::Choose {
-            grain,
-            offer,
-            query,
-            assignment: by,
-        } => choose(
-            alloc, state, solved, caller, *grain, offer, query, by, found,
-        ),
         Command::Claim { token, permissions } => {
             claim(alloc, state, solved, caller, token, permissions)
         }
-        Command::Save { handle, label } => save(state, solved, caller, *handle, label),
         Command::Restore(token) => restore(state, solved, caller, token),
         Command::DropSaved(token) => drop_saved(state, caller, token),
+        _ => carry_drawing(alloc, state, solved, found, caller, command),
     }
 }
 

@@ -29,14 +29,8 @@ pub fn secret_use(command: &Command) -> Option<SecretUse>
         Command::StartRun(_) => Some(SecretUse::Run),
         Command::AddAccount(_, _) => Some(SecretUse::Token),
         Command::MakeToken { .. } | Command::Child { .. } => Some(SecretUse::Token),
-        Command::SetAdmin(_, _) | Command::SetEnabled(_, _) => None,
-        Command::AddApp(_) | Command::NewGrain(_, _) => None,
-        Command::Trash(_) | Command::Untrash(_) => None,
-        Command::Share { .. } | Command::Redeem(_) | Command::Revoke(_) => None,
-        Command::StopRun(_) | Command::CloseSession(_) => None,
         Command::Choose { .. } | Command::Save { .. } => Some(SecretUse::Token),
-        Command::Options(_, _) | Command::Claim { .. } => None,
-        Command::Restore(_) | Command::DropSaved(_) => None,
+        _ => None,
     }
 }
 
@@ -47,22 +41,15 @@ pub fn draws(command: &Command) -> bool
     secret_use(command).is_some()
 }
 
-// The text of a secret by its use.
-fn text_by(alloc: Global, secret_use: Option<SecretUse>, secret: &Secret) -> Result<Bytes, Memory>
-    ensures { IfOk result (λ text. text ≡ texts.text_by secret_use secret.now.0) }
-{
-    match secret_use {
-        Some(SecretUse::Session) => key_text(alloc, secret),
-        Some(SecretUse::Run) | Some(SecretUse::Token) | None => token_text(alloc, secret),
-    }
-}
-
 /// The text of the secret that is drawn for an order.
 #[tactic(auto, unfolding(crate::specs::Secrets::secret_text))]
 pub fn secret_text(alloc: Global, order: &Order, secret: &Secret) -> Result<Bytes, Memory>
     ensures { IfOk result (λ text. text ≡ texts.secret_text order.now.command secret.now.0) }
 {
-    text_by(alloc, secret_use(&order.command), secret)
+    match secret_use(&order.command) {
+        Some(SecretUse::Session) => key_text(alloc, secret),
+        _ => token_text(alloc, secret),
+    }
 }
 
 /// What the reply to an order shows of the text of its secret.
@@ -71,6 +58,6 @@ pub fn shown_text(order: &Order, text: Bytes) -> Option<Bytes>
 {
     match secret_use(&order.command) {
         Some(SecretUse::Run) => None,
-        Some(SecretUse::Session) | Some(SecretUse::Token) | None => Some(text),
+        _ => Some(text),
     }
 }

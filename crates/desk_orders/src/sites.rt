@@ -4,8 +4,8 @@ ghost use Rattle.std.specs.Prelude.{◌≡◌, ◌++◌, Bool, IfOk, OnOk, true,
 ghost use Rattle.std.specs.List.{filter_map};
 ghost use Rattle.desk_base.specs.Terms.{IsOne, IsSolutionOf, IsWellFormed};
 ghost use Rattle.desk_orders.specs.Commands as commands;
-ghost use Rattle.powerbox_match.specs.Matching.{same_quality};
-ghost use Rattle.desk_orders.specs.Listing.{IsListed, IsListedFor};
+ghost use Rattle.desk_orders.specs.Listing.{IsListed};
+ghost use Rattle.desk_orders.specs.declared.order.Command.TheVariants as command;
 ghost use Rattle.desk_orders.specs.Sites.{IsAdminBy, IsFound, IsFoundOf, IsFoundBy, HasOneAnswer, ListsBy, site_listed, grain_listed, those_of, sites_listed};
 
 use crate::order::{Command, Order};
@@ -25,10 +25,7 @@ use std::slice;
 pub fn lists(order: &Order) -> bool
     ensures { result ≡ commands.lists order.now.command }
 {
-    match &order.command {
-        Command::Options(_, _) => true,
-        _ => false,
-    }
+    matches!(&order.command, Command::Options(_, _))
 }
 
 // Whether the caller's account is an admin.
@@ -94,12 +91,9 @@ pub fn found_of<C: SiteDriver + Drop>(
     ensures { IfOk result (IsFoundBy C.Law.law state.now order.now.caller order.now.command) }
 {
     match &order.command {
-        Command::Choose {
-            grain: _,
-            offer,
-            query,
-            assignment: _,
-        } => found_of_offer(alloc, state, sites, &order.caller, query, offer),
+        Command::Choose { offer, query, .. } => {
+            found_of_offer(alloc, state, sites, &order.caller, query, offer)
+        }
         _ => Ok(None),
     }
 }
@@ -149,13 +143,6 @@ fn offers_of(
         .collect(alloc)
 }
 
-// Whether it has the quality.
-fn has_quality(quality: Quality, listed: &Listed) -> bool
-    ensures { result ≡ same_quality listed.now.quality quality }
-{
-    listed.quality == quality
-}
-
 // Appends those of a quality.
 fn append_those(
     list: &mut Vec<Listed>,
@@ -165,7 +152,7 @@ fn append_those(
     ensures { OnOk result (list.new.items ≡ list.old.items ++ those_of quality listed.now) }
 {
     for one in listed {
-        if has_quality(quality, one) {
+        if one.quality == quality {
             list.push(*one)?;
         }
     }
@@ -190,6 +177,7 @@ fn joined(
 }
 
 // What may be chosen for a grain, of what matches a query.
+#[tactic(auto, unfolding(crate::specs::Orders::RowOf))]
 fn options_of<C: SiteDriver + Drop>(
     alloc: Global,
     state: &State,
@@ -201,14 +189,12 @@ fn options_of<C: SiteDriver + Drop>(
 ) -> Result<Listing, DeskFault>
     requires formed { IsWellFormed state.now }
     requires solution { IsSolutionOf state.now.tables solved.now }
-    ensures { IsListedFor C.Law.law state.now caller.now num query.now result }
+    ensures { IsListed C.Law.law state.now
+        (record { caller = caller.now; command = command.Options num query.now }) result }
 {
     let choices = grain_options(alloc, state, solved, caller, num, query)?;
     let told = sites.options(alloc, query, is_admin(state, caller))?;
-    match joined(alloc, query, choices.as_slice(), &told) {
-        Ok(list) => Ok(list),
-        Err(AllocError) => Err(DeskFault::Memory),
-    }
+    joined(alloc, query, choices.as_slice(), &told).map_err(|_| DeskFault::Memory)
 }
 
 /// What may be chosen, for an order that asks for it: by its row, with the offers of the sites.
@@ -226,16 +212,8 @@ pub fn list_options<C: SiteDriver + Drop>(
     ensures one { HasOneAnswer C.Law.law
         → IsOne (ListsBy C.Law.law state.now order.now.caller order.now.command) }
 {
-    match &order.command {
-        Command::Options(grain, query) => options_of(
-            alloc,
-            state,
-            solved,
-            sites,
-            &order.caller,
-            *grain,
-            query,
-        ),
-        _ => unreachable!(),
-    }
+    let Command::Options(grain, query) = &order.command else {
+        unreachable!();
+    };
+    options_of(alloc, state, solved, sites, &order.caller, *grain, query)
 }

@@ -1,12 +1,7 @@
-pub mod Scanned
-pub mod Ordered
+pub mod Members
 pub mod Chosen
 pub mod OneRow
-pub mod Members
 pub mod OneList
-pub mod OneHandle
-pub mod Claims
 pub mod Named
-pub mod Words
 pub mod OneRows
 pub mod FitRows

@@ -1,13 +1,12 @@
 -- Which run calls, and what of a grain's own it names: what each test establishes, and its refusals.
 use Rattle.std.specs.Prelude.{◌≡◌, ◌⊎◌, true}
-use Rattle.desk_base.specs.Terms.{Digest, GrainId, Grant, HasRunToken, IsNoneOf, IsOneOf, Refusal, Run, Saved, State}
-use Rattle.desk_base.specs.Terms.{Tables}
+use Rattle.desk_base.specs.Terms.{Digest, GrainId, Grant, HasRunToken, IsNoneOf, IsOneOf, none, Refusal, Run, Saved}
+use Rattle.desk_base.specs.Terms.{State, Tables}
 use Rattle.host_base.specs.declared.verdict.Denial.TheVariants.{UnknownKey, GrainTrashed, GrainStopped, NotHolder}
-use Rattle.share_graph.specs.declared.grants.Target.TheVariants as target
 use Rattle.share_graph.specs.declared.refusal.Refusal.TheVariants.{Denied}
 use Rattle.share_graph.specs.Keys.{HasReference}
 use Rattle.share_graph.specs.Rows.{IsKept}
-use Rattle.saved_refs.specs.Rows.{IsClaimOf, IsOfAnother}
+use Rattle.saved_refs.specs.Rows.{IsClaim}
 
 -- the caller is this run, which isn't stopped, and whose grain isn't in the trash
 pub record IsCallingRun (s : State) (d : Digest) (run : Run) : Type 0 where
@@ -33,13 +32,8 @@ IsNoReferenceOf t d n r =
     ((r ≡ Denied UnknownKey) × IsNoneOf t.saved (HasReference d))
     ⊎ ((saved : Saved) × (r ≡ Denied (NotHolder saved.holder)) × IsOneOf t.saved (HasReference d) saved × (saved.holder ≡ n → ⊥))
 
--- the grant has the token, and is for the grain to claim
-pub record IsClaimBy (t : Tables) (d : Digest) (n : GrainId) (grant : Grant) : Type 0 where
-  pub one : IsOneOf t.grants (IsClaimOf d) grant
-  pub holder : grant.target ≡ target.Claim n
-
 -- no grant that may be claimed has the token, or one for another grain has it
 abbrev pub IsNoClaimBy : Tables → Digest → GrainId → Refusal → Type 0
 IsNoClaimBy t d n r =
-    ((r ≡ Denied UnknownKey) × IsNoneOf t.grants (IsClaimOf d))
-    ⊎ ((grant : Grant) × IsOneOf t.grants (IsClaimOf d) grant × IsOfAnother grant.target n r)
+    none (IsClaim t d) (Denied UnknownKey) r
+    ⊎ ((claim : Grant × GrainId) × (r ≡ Denied (NotHolder claim.1)) × IsClaim t d claim × (claim.1 ≡ n → ⊥))

@@ -1,9 +1,8 @@
 -- THE COMMANDS of the powerbox and of saved references. Each definition reads like its row of the table of commands.
 use Rattle.std.specs.Prelude.{◌≡◌, ℕ, Bool, true, List, [], Option, Some, None}
-use Rattle.desk_base.specs.Terms.{AccountId, Assignment, Caller, Digest, found◌or◌then◌, GrainId, Grant, Handle}
-use Rattle.desk_base.specs.Terms.{IsGrain, IsHandleOf, must◌or◌then◌, none, Offer, PermSet, Run, Saved, SetFits}
-use Rattle.desk_base.specs.Terms.{some◌of◌or◌then◌, State, Tables, unless◌then◌else◌, when◌then◌else◌}
-use Rattle.host_base.specs.declared.ids.SavedId.{SavedId}
+use Rattle.desk_base.specs.Terms.{AccountId, Assignment, Caller, Digest, found◌or◌then◌, GrainId, Handle, IsGrain}
+use Rattle.desk_base.specs.Terms.{IsHandleOf, none, Offer, PermSet, Run, SetFits, some◌of◌or◌then◌, State}
+use Rattle.desk_base.specs.Terms.{unless◌then◌else◌, when◌then◌else◌}
 use Rattle.host_base.specs.declared.verdict.Denial.TheVariants.{UnknownKey, NotHolder, Dropped}
 use Rattle.powerbox_match.specs.Descriptor.{DescriptorData}
 use Rattle.share_graph.specs.declared.desk.Offer.TheVariants as offer
@@ -17,35 +16,13 @@ use Rattle.share_graph.specs.Keys.{HasReference, IsHandleTo}
 use Rattle.desk_base.specs.Granting.{token_step}
 use Rattle.desk_base.specs.Limits.{adds}
 use Rattle.desk_base.specs.Made.{nothing_made}
-use Rattle.desk_base.specs.Steps.{Step, Refuses, Keeps, Makes, Plain, Drawn, denies, refusing}
+use Rattle.desk_base.specs.Steps.{Step, Refuses, Keeps, Makes, Plain, Drawn, denies}
 use Rattle.desk_base.specs.Wording.{secret_of, by_account, known_grain, access◌of◌then◌, role◌on◌of◌then◌, keeps◌of◌showing◌else◌}
-use Rattle.saved_refs.specs.Rows.{no_role, admin_needs, claimed_grant, claimed_handle, made_claim, new_saved, made_saved, new_handle, shown_handle, IsClaimOf, IsOfAnother, IsClaimed, IsMatching, with_maker}
+use Rattle.saved_refs.specs.Rows.{no_role, admin_needs, claimed_grant, claimed_handle, made_claim, new_saved, made_saved, new_handle, shown_handle, IsClaim, IsClaimed, IsMatching, with_maker}
 
 -- the run that calls: Denied(UnknownKey), Denied(GrainTrashed) of its grain, Denied(GrainStopped) where it is stopped
 abbrev pub by_run : State → Caller → (Run → Step → Type 0) → Step → Type 0
 by_run s who Rest = callers.by_run denies s (secret_of who) Rest
-
--- what is added, and what the reply shows
-abbrev pub choose_grain_step : Tables → GrainId → GrainId → Assignment → AccountId → Step
-choose_grain_step t n m assignment from = token_step t m (giver.Account from) (target.Claim n) assignment []
-
-abbrev pub choose_site_step : Tables → GrainId → ℕ → ℕ → Bool → AccountId → Step
-choose_site_step t n tag item admin_only from = token_step t n (giver.Site from tag item) (target.Claim n) no_role (admin_needs admin_only from)
-
-abbrev pub claim_with : Tables → GrainId → Grant → PermSet → AccountId → Handle → Step
-claim_with t holder chosen set maker handle = Makes (Plain (Claimed (claimed_grant t holder chosen set maker) handle)) (made_claim t handle)
-
-abbrev pub claim_step : State → Run → Grant → PermSet → AccountId → Step
-claim_step s run chosen set maker = claim_with s.tables run.grain chosen set maker (claimed_handle s run.num)
-
-abbrev pub save_step : Tables → Run → Handle → List ℕ → Step
-save_step t run handle label = Makes (Drawn λ d. SavedAdded (new_saved t run.grain handle.grant label d)) (made_saved t)
-
-abbrev pub restore_step : State → Run → Saved → Step
-restore_step s run saved = Makes (Plain (HandleMade (new_handle s run.num saved.grant))) (shown_handle (new_handle s run.num saved.grant).num)
-
-abbrev pub drop_step : SavedId → Step
-drop_step v = Makes (Plain (SavedDropped v)) nothing_made
 
 -- choose, of a grain m: NoSuchOffer where m is n or isn't there; access(m); NoMatch; role
 abbrev pub ChooseGrain : State → GrainId → GrainId → List DescriptorData → Assignment → AccountId → Step → Type 0
@@ -55,12 +32,13 @@ ChooseGrain s n m query assignment from =
     access (node.User m from) of s then
     unless IsMatching s.tables m query then (Refuses NoMatch) else
     role assignment on m of s then
-    adds s (choose_grain_step s.tables n m assignment from)
+    adds s (token_step s.tables m (giver.Account from) (target.Claim n) assignment [])
 
 -- choose, of an item of a site: NoSuchOffer where the sites have none; else it is told whether the offer is for admins alone
 abbrev pub ChooseSite : State → GrainId → ℕ → ℕ → Option Bool → AccountId → Step → Type 0
 ChooseSite s n tag item None from step = step ≡ Refuses NoSuchOffer
-ChooseSite s n tag item (Some admin_only) from step = adds s (choose_site_step s.tables n tag item admin_only from) step
+ChooseSite s n tag item (Some admin_only) from step =
+    adds s (token_step s.tables n (giver.Site from tag item) (target.Claim n) no_role (admin_needs admin_only from)) step
 
 abbrev pub ChooseOffer : State → GrainId → Offer → List DescriptorData → Assignment → Option Bool → AccountId → Step → Type 0
 ChooseOffer s n (offer.Grain m) query assignment offered from step = ChooseGrain s n m query assignment from step
@@ -80,13 +58,14 @@ Choose s who n chosen query assignment offered =
 abbrev pub Claim : State → Caller → Digest → PermSet → Step → Type 0
 Claim s who token set =
     by_run s who λ run.
-    some IsClaimOf token of s.tables.grants or denies UnknownKey then λ chosen.
-    must (chosen.target ≡ target.Claim run.grain) or refusing (IsOfAnother chosen.target run.grain) then
+    found (IsClaim s.tables token) or (none (IsClaim s.tables token) (denies UnknownKey)) then λ (chosen, holder).
+    unless holder ≡ run.grain then denies (NotHolder holder) else
     when IsClaimed s.tables chosen.num then (Refuses (AlreadyClaimed chosen.num)) else
     access (node.Grant chosen.num) of s then
     unless SetFits s.tables run.grain set then (Refuses LongSet) else
     with_maker s.tables chosen.num λ maker.
-    adds s (claim_step s run chosen set maker)
+    let handle = claimed_handle s run.num in
+    adds s (Makes (Plain (Claimed (claimed_grant s.tables run.grain chosen set maker) handle)) (made_claim s.tables handle))
 
 -- save: UnknownHandle; Denied of the first step that is missing for the entry of the handle's grant
 abbrev pub Save : State → Caller → ℕ → List ℕ → Step → Type 0
@@ -94,7 +73,7 @@ Save s who num label =
     by_run s who λ run.
     some IsHandleOf run.num num of s.handles or (Refuses (UnknownHandle num)) then λ handle.
     access (node.Grant handle.grant) of s then
-    adds s (save_step s.tables run handle label)
+    adds s (Makes (Drawn λ d. SavedAdded (new_saved s.tables run.grain handle.grant label d)) (made_saved s.tables))
 
 -- restore: Denied(UnknownKey), Denied(NotHolder), Denied(Dropped), Denied of the first step that is missing for the entry of its grant;
 -- same where the run has a handle to the grant, the first such
@@ -106,7 +85,8 @@ Restore s who token =
     when saved.dropped ≡ true then denies (Dropped saved.num) else
     access (node.Grant saved.grant) of s then
     keeps IsHandleTo run.num saved.grant of s.handles showing (λ (handle : Handle). shown_handle handle.num) else
-    adds s (restore_step s run saved)
+    let handle = new_handle s run.num saved.grant in
+    adds s (Makes (Plain (HandleMade handle)) (shown_handle handle.num))
 
 -- drop_saved: Denied(UnknownKey), Denied(NotHolder); same where it is dropped. Live handles stay.
 abbrev pub DropSaved : State → Caller → Digest → Step → Type 0
@@ -115,4 +95,4 @@ DropSaved s who token =
     some HasReference token of s.tables.saved or denies UnknownKey then λ saved.
     unless saved.holder ≡ run.grain then denies (NotHolder saved.holder) else
     when saved.dropped ≡ true then (Keeps nothing_made) else
-    adds s (drop_step saved.num)
+    adds s (Makes (Plain (SavedDropped saved.num)) nothing_made)

@@ -19,13 +19,9 @@ Options s who n =
     entry denies s.tables (node.User n account.num) (
     answers (Keeps nothing_made))
 
--- this is so for the caller's account
-abbrev pub ForCaller : State → Caller → (Account → Type 0) → Type 0
-ForCaller s who P = (account : Account) × IsCaller s (secret_of who) account × P account
-
--- the grains that the caller may choose for grain n
+-- the grains that the caller's account may choose for grain n
 abbrev pub AreOptions : State → Caller → GrainId → List DescriptorData → List Choice → Type 0
-AreOptions s who n query list = ForCaller s who (λ account. AreChoices s.tables account.num n query list)
+AreOptions s who n query list = (account : Account) × IsCaller s (secret_of who) account × AreChoices s.tables account.num n query list
 
 -- the answer to a question, by its row and by what lists answer it
 abbrev pub IsAnswered : {X : Type 0} → (Step → Type 0) → (X → Type 0) → Result X DeskFault → Type 0

@@ -57,21 +57,9 @@ made_saved t = record nothing_made { saved = Some (next t.saved) }
 abbrev pub new_saved : Tables → GrainId → GrantId → List ℕ → Digest → Saved
 new_saved t holder g label d = record { num = record { 0 = next t.saved }; holder = holder; grant = g; label = label; digest = d; dropped = false }
 
--- a grain may claim what has the target
-abbrev pub IsClaim : Target → Type 0
-IsClaim (target.Claim h) = Unit {0}
-IsClaim (target.Bearer for_sharing) = ⊥
-IsClaim (target.User a) = ⊥
-IsClaim (target.Grain h) = ⊥
-
--- the grant may be claimed, and its token has the digest
-pub record IsClaimOf (d : Digest) (grant : Grant) : Type 0 where
-  pub token : HasToken d grant
-  pub claim : IsClaim grant.target
-
--- it is another grain's to claim: NotHolder of that one
-abbrev pub IsOfAnother : Target → GrainId → Refusal → Type 0
-IsOfAnother to n r = (h : GrainId) × (to ≡ target.Claim h) × (h ≡ n → ⊥) × (r ≡ Denied (NotHolder h))
+-- the grant has the token, and is for the grain to claim
+abbrev pub IsClaim : Tables → Digest → Grant × GrainId → Type 0
+IsClaim t d (grant, holder) = IsOneOf t.grants (HasToken d) grant × (grant.target ≡ target.Claim holder)
 
 -- some grant was given from the grant
 abbrev pub IsClaimed : Tables → GrantId → Type 0

@@ -3,22 +3,20 @@
 ghost use Rattle.std.specs.Prelude.{◌↔◌, IsTrue, MatchResult, false};
 ghost use Rattle.desk_base.specs.Terms.{IsOne, IsSolutionOf, IsWellFormed};
 ghost use Rattle.desk_base.specs.Fitting.{RowFits};
-ghost use Rattle.desk_base.specs.Outcomes.{Checks, IsCarried};
-ghost use Rattle.saved_refs.specs.Calling.{IsClaimBy, IsNoClaimBy};
-ghost use Rattle.saved_refs.specs.Commands.{Claim, claim_with};
-ghost use Rattle.saved_refs.specs.Rows.{IsClaimed};
+ghost use Rattle.desk_base.specs.Outcomes.{IsCarried};
+ghost use Rattle.saved_refs.specs.Calling.{IsNoClaimBy};
+ghost use Rattle.saved_refs.specs.Commands.{Claim};
+ghost use Rattle.saved_refs.specs.Rows.{IsClaim, IsClaimed};
 
-use crate::handles::next_handle;
-use crate::needs::one_need;
-use crate::runs::caller_run;
+use crate::runs::{caller_run, next_handle};
 use desk_base::{
     Answer, NOTHING, Outcome, Stop, all_access, has_entry, has_grant_room, new_grant, set_fits,
 };
-use host_base::{AccountId, Denial, Digest, GrainId, GrantId};
+use host_base::{Denial, Digest, GrainId, GrantId};
 use least_access::Solved;
 use perm_roles::PermSet;
 use share_graph::{
-    Caller, Event, Giver, Grant, Handle, Made, Need, Node, Refusal, State, Tables, Target,
+    Caller, Event, Giver, Grant, Made, Need, Needs, Node, Refusal, State, Tables, Target,
     by_grant_token, given_from, root_maker,
 };
 use std::alloc::Global;
@@ -26,7 +24,7 @@ use std::alloc::Global;
 // The grant of a token, which is for the grain to claim.
 fn own_claim<'a>(state: &'a State, token: &Digest, holder: GrainId) -> Result<&'a Grant, Refusal>
     requires { IsWellFormed state.now }
-    ensures { MatchResult result (λ grant. IsClaimBy state.now.tables token.now holder grant.now)
+    ensures { MatchResult result (λ grant. IsClaim state.now.tables token.now (grant.now, holder))
         (IsNoClaimBy state.now.tables token.now holder) }
 {
     let Some(grant) = by_grant_token(&state.tables, token) else {
@@ -51,49 +49,6 @@ fn is_claimed(tables: &Tables, num: GrantId) -> bool
     }
 }
 
-// Which grain claims what, who gave that first, and the handle to what it has then.
-#[derive(Clone, Copy)]
-struct Claiming<'a> {
-    holder: GrainId,
-    chosen: &'a Grant,
-    maker: AccountId,
-    handle: Handle,
-}
-
-// The checks of `claim`.
-fn check_claim<'a>(
-    state: &'a State,
-    solved: &Solved,
-    caller: &Caller,
-    token: &Digest,
-    set: &PermSet,
-) -> Result<Claiming<'a>, Stop>
-    requires formed { IsWellFormed state.now }
-    requires solution { IsSolutionOf state.now.tables solved.now }
-    ensures { Checks (Claim state.now caller.now token.now set.now)
-        (λ found. claim_with state.now.tables found.holder found.chosen.now set.now found.maker found.handle) result }
-{
-    let run = caller_run(state, caller)?;
-    let chosen = own_claim(state, token, run.grain)?;
-    if is_claimed(&state.tables, chosen.num) {
-        return Err(Stop::Refused(Refusal::AlreadyClaimed(chosen.num)));
-    }
-    has_entry(&state.tables, solved, Node::Grant(chosen.num))?;
-    if !set_fits(&state.tables, run.grain, set) {
-        return Err(Stop::Refused(Refusal::LongSet));
-    }
-    let maker = root_maker(&state.tables, chosen.num);
-    has_grant_room(&state.tables)?;
-    let place = state.tables.grants.as_slice().len() as u32 + 1;
-    let handle = next_handle(state, run.num, GrantId(place))?;
-    Ok(Claiming {
-        holder: run.grain,
-        chosen,
-        maker,
-        handle,
-    })
-}
-
 /// Claims, by its token, what was chosen for the grain of the run that calls: the grain has it from then on, and the run a handle
 /// to it, as long as whoever gave it first holds the set on the grain. The reply shows the numbers of the grant and of the handle.
 #[tactic(auto, using(crate::proofs::OneRows::claim_one, crate::proofs::FitRows::claim_fits))]
@@ -111,24 +66,39 @@ pub fn claim(
     ensures one { IsOne (Claim state.now caller.now token.now set.now) }
     ensures fits { RowFits state.now false (Claim state.now caller.now token.now set.now) }
 {
-    let found = check_claim(state, solved, caller, token, set)?;
+    let run = caller_run(state, caller)?;
+    let chosen = own_claim(state, token, run.grain)?;
+    if is_claimed(&state.tables, chosen.num) {
+        return Err(Stop::Refused(Refusal::AlreadyClaimed(chosen.num)));
+    }
+    has_entry(&state.tables, solved, Node::Grant(chosen.num))?;
+    if !set_fits(&state.tables, run.grain, set) {
+        return Err(Stop::Refused(Refusal::LongSet));
+    }
+    let maker = root_maker(&state.tables, chosen.num);
+    has_grant_room(&state.tables)?;
+    let place = state.tables.grants.as_slice().len() as u32 + 1;
+    let handle = next_handle(state, run.num, GrantId(place))?;
     let need = Need::PermissionsHeld {
-        holder: Node::User(found.holder, found.maker),
+        holder: Node::User(run.grain, maker),
         set: *set,
     };
+    let mut needs = Needs::empty(alloc);
+    needs.push(need)?;
+    let (giver, target) = (Giver::Grant(chosen.num), Target::Grain(run.grain));
     let grant = new_grant(
         state,
-        found.chosen.grain,
-        Giver::Grant(found.chosen.num),
-        Target::Grain(found.holder),
+        chosen.grain,
+        giver,
+        target,
         all_access(),
-        one_need(alloc, need)?,
+        needs,
         None,
     );
     let made = Made {
-        grant: Some(grant.num.0),
-        handle: Some(found.handle.num),
+        grant: Some(place),
+        handle: Some(handle.num),
         ..NOTHING
     };
-    Ok(Outcome::Change(Event::Claimed(grant, found.handle), made))
+    Ok(Outcome::Change(Event::Claimed(grant, handle), made))
 }

@@ -1,15 +1,11 @@
 //! The desk of the powerbox: what a user's grain may be given, and what a grain claims, saves and restores of that.
 #![tactic(auto)]
 
-mod applications;
 mod choosing;
 mod claiming;
-mod handles;
 mod listed;
-mod needs;
 mod offers;
 mod options;
-mod restoring;
 mod runs;
 mod saving;
 
@@ -17,5 +13,4 @@ pub use claiming::claim;
 pub use listed::Listed;
 pub use offers::choose;
 pub use options::{GrainChoices, grain_options};
-pub use restoring::{drop_saved, restore};
-pub use saving::save;
+pub use saving::{drop_saved, restore, save};

@@ -1,20 +1,53 @@
 //! Choosing of what is offered.
 
-ghost use Rattle.std.specs.Prelude.{true};
+ghost use Rattle.std.specs.Prelude.{◌≡◌, ◌↔◌, IfOk, IsTrue, true};
 ghost use Rattle.desk_base.specs.Terms.{HasAccount, IsOne, IsSolutionOf, IsWellFormed};
 ghost use Rattle.desk_base.specs.Fitting.{RowFits};
 ghost use Rattle.desk_base.specs.Outcomes.{IsCarriedExactly, IsCarried};
 ghost use Rattle.saved_refs.specs.Commands.{Choose, ChooseGrain, ChooseSite};
+ghost use Rattle.saved_refs.specs.Rows.{IsMatching, admin_needs, no_role as the_no_role};
 
-use crate::applications::has_match;
-use crate::needs::{admin_needs, no_role};
 use desk_base::{Answer, Stop, caller_on, draft_grant, given_role, has_entry, has_grant_room};
 use host_base::{AccountId, GrainId};
 use least_access::Solved;
-use perm_roles::Assignment;
-use powerbox_match::Query;
-use share_graph::{Caller, Giver, Needs, Node, Offer, Refusal, State, Target, has_grain};
-use std::alloc::Global;
+use perm_roles::{Assignment, Base, PermSet};
+use powerbox_match::{Query, matches};
+use share_graph::{
+    Caller, Giver, Need, Needs, Node, Offer, Refusal, State, Tables, Target, app_of, has_grain,
+};
+use std::alloc::{AllocError, Global};
+
+// Whether what a grain's application offers matches.
+fn has_match(tables: &Tables, num: GrainId, query: &Query) -> bool
+    ensures { IsTrue result ↔ IsMatching tables.now num query.now }
+{
+    match app_of(tables, num) {
+        None => false,
+        Some(app) => matches(query, app.manifest.match_requests.as_slice()).is_some(),
+    }
+}
+
+fn no_role() -> Assignment
+    ensures { result ≡ the_no_role }
+{
+    Assignment {
+        base: Base::NoRole,
+        add: PermSet::empty(),
+        remove: PermSet::empty(),
+    }
+}
+
+// That an account is an admin, where that is needed.
+fn admin_needs(alloc: Global, admin_only: bool, account: AccountId) -> Result<Needs, AllocError>
+    ensures { IfOk result (λ needs. needs ≡ admin_needs admin_only account) }
+{
+    let mut needs = Needs::empty(alloc);
+    if admin_only {
+        needs.push(Need::UserIsAdmin(account))?;
+        return Ok(needs);
+    }
+    Ok(needs)
+}
 
 // Chooses another grain, of which an account gives what the assignment says.
 fn choose_grain(

@@ -3,13 +3,12 @@
 ghost use Rattle.desk_base.specs.Terms.{IsOne, IsSolutionOf, IsWellFormed};
 ghost use Rattle.saved_refs.specs.Options.{Options, AreOptions, IsAnswered};
 
-use crate::applications::matches_of;
-use crate::choosing::{Question, choices_of, preferred_first};
+use crate::choosing::{Question, append_those, matches_of};
 use desk_base::caller_on;
 use host_base::GrainId;
 use least_access::Solved;
 use plain_data::List;
-use powerbox_match::{Choice, Query};
+use powerbox_match::{Choice, Quality, Query};
 use share_graph::{Caller, DeskFault, State};
 use std::alloc::Global;
 
@@ -45,6 +44,9 @@ pub fn grain_options(
         solved,
         found: &found,
     };
-    let choices = choices_of(alloc, &question, state.tables.grains.as_slice())?;
-    Ok(List::new(preferred_first(alloc, &choices)?))
+    let grains = state.tables.grains.as_slice();
+    let mut choices = Vec::new(alloc);
+    append_those(&mut choices, &question, Quality::Preferred, grains)?;
+    append_those(&mut choices, &question, Quality::Acceptable, grains)?;
+    Ok(List::new(choices))
 }

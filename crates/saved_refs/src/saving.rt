@@ -1,51 +1,22 @@
-//! Saving of what a handle is to.
+//! Saved references: saving what a handle is to, and restoring and dropping it by its token.
 
-ghost use Rattle.std.specs.Prelude.{true};
+ghost use Rattle.std.specs.Prelude.{◌≡◌, MatchResult, false, true};
 ghost use Rattle.desk_base.specs.Terms.{IsOne, IsSolutionOf, IsWellFormed};
 ghost use Rattle.desk_base.specs.Fitting.{RowFits};
-ghost use Rattle.desk_base.specs.Outcomes.{Checks, IsCarried};
-ghost use Rattle.saved_refs.specs.Commands.{Save, save_step};
+ghost use Rattle.desk_base.specs.Outcomes.{IsCarried, IsCarriedExactly};
+ghost use Rattle.saved_refs.specs.Calling.{IsReferenceOf, IsNoReferenceOf};
+ghost use Rattle.saved_refs.specs.Commands.{Save, Restore, DropSaved};
+ghost use Rattle.saved_refs.specs.Rows.{shown_handle};
 
-use crate::runs::caller_run;
+use crate::runs::{caller_run, next_handle};
 use desk_base::{Answer, BLANK, Draft, NOTHING, Outcome, Stop, has_entry, has_room};
-use host_base::SavedId;
+use host_base::{Denial, Digest, GrainId, SavedId};
 use least_access::Solved;
 use plain_data::Name;
 use share_graph::{
-    Caller, Event, Handle, Kind, Made, Node, Refusal, Run, Saved, State, handle as find_handle,
+    Caller, Event, Handle, Kind, Made, Node, Refusal, Saved, State, Tables, by_saved_token,
+    handle as find_handle, handle_to,
 };
-
-// Which run saves, and what of its own.
-#[derive(Clone, Copy)]
-struct Saving {
-    run: Run,
-    handle: Handle,
-}
-
-// The checks of `save`.
-fn check_save(
-    state: &State,
-    solved: &Solved,
-    caller: &Caller,
-    handle: u32,
-    label: &Name,
-) -> Result<Saving, Stop>
-    requires formed { IsWellFormed state.now }
-    requires solution { IsSolutionOf state.now.tables solved.now }
-    ensures { Checks (Save state.now caller.now handle label.now)
-        (λ found. save_step state.now.tables found.run found.handle label.now) result }
-{
-    let run = caller_run(state, caller)?;
-    let Some(own) = find_handle(state, run.num, handle) else {
-        return Err(Stop::Refused(Refusal::UnknownHandle(handle)));
-    };
-    has_entry(&state.tables, solved, Node::Grant(own.grant))?;
-    has_room(Kind::Saved, state.tables.saved.as_slice().len() as u64)?;
-    Ok(Saving {
-        run: *run,
-        handle: *own,
-    })
-}
 
 /// Saves a reference, whose token is drawn, to the grant of a handle of the run that calls: the run's grain may restore it in
 /// later runs. The reply shows the number of the reference.
@@ -57,12 +28,18 @@ pub fn save(state: &State, solved: &Solved, caller: &Caller, handle: u32, label:
     ensures one { IsOne (Save state.now caller.now handle label.now) }
     ensures fits { RowFits state.now true (Save state.now caller.now handle label.now) }
 {
-    let found = check_save(state, solved, caller, handle, label)?;
-    let num = state.tables.saved.as_slice().len() as u32 + 1;
+    let run = caller_run(state, caller)?;
+    let Some(own) = find_handle(state, run.num, handle) else {
+        return Err(Stop::Refused(Refusal::UnknownHandle(handle)));
+    };
+    has_entry(&state.tables, solved, Node::Grant(own.grant))?;
+    let count = state.tables.saved.as_slice().len();
+    has_room(Kind::Saved, count as u64)?;
+    let num = count as u32 + 1;
     let saved = Saved {
         num: SavedId(num),
-        holder: found.run.grain,
-        grant: found.handle.grant,
+        holder: run.grain,
+        grant: own.grant,
         label: label.clone()?,
         digest: BLANK,
         dropped: false,
@@ -73,4 +50,73 @@ pub fn save(state: &State, solved: &Solved, caller: &Caller, handle: u32, label:
     };
     let event = Event::SavedAdded(saved);
     Ok(Outcome::Draft(Draft { event, made }))
+}
+
+// The saved reference of a token, which is the grain's own.
+fn own_reference<'a>(
+    tables: &'a Tables,
+    token: &Digest,
+    holder: GrainId,
+) -> Result<&'a Saved, Refusal>
+    ensures { MatchResult result (λ saved. IsReferenceOf tables.now token.now holder saved.now)
+        (IsNoReferenceOf tables.now token.now holder) }
+{
+    let Some(saved) = by_saved_token(tables, token) else {
+        return Err(Refusal::Denied(Denial::UnknownKey));
+    };
+    if saved.holder != holder {
+        return Err(Refusal::Denied(Denial::NotHolder(saved.holder)));
+    }
+    Ok(saved)
+}
+
+// What the reply shows of a handle: its number.
+fn shown(handle: &Handle) -> Made
+    ensures { result ≡ shown_handle handle.now.num }
+{
+    Made {
+        handle: Some(handle.num),
+        ..NOTHING
+    }
+}
+
+/// Restores a saved reference, by its token, for the run that calls, whose grain saved it: the run has a handle to its grant from
+/// then on. Where it has one already nothing is to be done. The reply shows the number of the handle.
+#[tactic(auto, using(crate::proofs::OneRows::restore_one, crate::proofs::FitRows::restore_fits))]
+pub fn restore(state: &State, solved: &Solved, caller: &Caller, token: &Digest) -> Answer
+    requires formed { IsWellFormed state.now }
+    requires solution { IsSolutionOf state.now.tables solved.now }
+    ensures row { IsCarriedExactly (Restore state.now caller.now token.now) result }
+    ensures one { IsOne (Restore state.now caller.now token.now) }
+    ensures fits { RowFits state.now false (Restore state.now caller.now token.now) }
+{
+    let run = caller_run(state, caller)?;
+    let saved = own_reference(&state.tables, token, run.grain)?;
+    if saved.dropped {
+        return Err(Stop::Refused(Refusal::Denied(Denial::Dropped(saved.num))));
+    }
+    has_entry(&state.tables, solved, Node::Grant(saved.grant))?;
+    if let Some(handle) = handle_to(&state.handles, run.num, saved.grant) {
+        return Err(Stop::Same(shown(handle)));
+    }
+    let handle = next_handle(state, run.num, saved.grant)?;
+    let made = shown(&handle);
+    Ok(Outcome::Change(Event::HandleMade(handle), made))
+}
+
+/// Drops a saved reference, by its token, for the run that calls, whose grain saved it: it can't be restored any more. Handles that
+/// were restored from it stay. Where it is dropped nothing is to be done.
+#[tactic(auto, using(crate::proofs::OneRows::drop_saved_one, crate::proofs::FitRows::drop_saved_fits))]
+pub fn drop_saved(state: &State, caller: &Caller, token: &Digest) -> Answer
+    requires { IsWellFormed state.now }
+    ensures row { IsCarriedExactly (DropSaved state.now caller.now token.now) result }
+    ensures one { IsOne (DropSaved state.now caller.now token.now) }
+    ensures fits { RowFits state.now false (DropSaved state.now caller.now token.now) }
+{
+    let run = caller_run(state, caller)?;
+    let saved = own_reference(&state.tables, token, run.grain)?;
+    if saved.dropped {
+        return Err(Stop::Same(NOTHING));
+    }
+    Ok(Outcome::Change(Event::SavedDropped(saved.num), NOTHING))
 }

@@ -5,8 +5,8 @@ use Rattle.desk_base.specs.Steps.{Plain}
 use Rattle.desk_base.proofs.FitForms.{plain_fits}
 use Rattle.desk_orders.specs.Commands.{draws}
 use Rattle.desk_orders.specs.Orders.{RowBy, RowOf}
-use Rattle.desk_orders.proofs.Drafts.{changes_of, when_full}
-use Rattle.desk_orders.proofs.OfOrders.{fits_by, draft_fits}
+use Rattle.desk_orders.proofs.Drafts.{changes_of, draft_fits, when_full}
+use Rattle.desk_orders.proofs.OfOrders.{fits_by}
 use Rattle.desk_orders.proofs.deciding.decide.Goals as goal
 
 pub returns-in-Err-has_room-clause-decided : goal.returns-in-Err-has_room-clause-decided
@@ -17,18 +17,21 @@ returns-in-Err-has_room-clause-decided c =
 
 pub returns-in-Change-clause-fits : goal.returns-in-Change-clause-fits
 returns-in-Change-clause-fits c =
-    let s = c.args.state.now in
-    let who = c.order.inside.caller in
-    let command = c.order.inside.command in
-    plain_fits s (draws command) c.in-Change.event ((fits_by s c.requires.formed c.args.found who command c.order.invariant).fits (Plain c.in-Change.event) c.in-Change.made
-    (subst (λ (o : Outcome). IsCarried (RowBy s c.args.found who command) (Ok o)) c.in-Change.is c.in-Ok.ensures))
+    let Row = RowBy c.args.state.now c.args.found c.order.inside.caller c.order.inside.command in
+    let fits = fits_by c.args.state.now c.requires.formed c.args.found c.order.inside.caller c.order.inside.command c.order.invariant in
+    plain_fits c.args.state.now (draws c.order.inside.command) c.in-Change.event (fits.fits (Plain c.in-Change.event) c.in-Change.made
+    (subst (λ (o : Outcome). IsCarried Row (Ok o)) c.in-Change.is c.in-Ok.ensures))
 
 pub returns-in-Draft-clause-fits : goal.returns-in-Draft-clause-fits
 returns-in-Draft-clause-fits c =
-    (draft_fits c.args.state.now c.requires.formed c.args.found c.order.inside.caller c.order.inside.command c.order.invariant c.in-Draft.draft
-    (subst (λ (o : Outcome). IsCarried (RowBy c.args.state.now c.args.found c.order.inside.caller c.order.inside.command) (Ok o)) c.in-Draft.is c.in-Ok.ensures)).1
+    let Row = RowBy c.args.state.now c.args.found c.order.inside.caller c.order.inside.command in
+    let fits = fits_by c.args.state.now c.requires.formed c.args.found c.order.inside.caller c.order.inside.command c.order.invariant in
+    (draft_fits c.args.state.now (draws c.order.inside.command) Row fits c.in-Draft.draft
+    (subst (λ (o : Outcome). IsCarried Row (Ok o)) c.in-Draft.is c.in-Ok.ensures)).1
 
 pub returns-in-Draft-clause-draws : goal.returns-in-Draft-clause-draws
-returns-in-Draft-clause-draws c = λ any. rw (← c.order.view_is)
-    (draft_fits c.args.state.now c.requires.formed c.args.found c.order.inside.caller c.order.inside.command c.order.invariant c.in-Draft.draft
-    (subst (λ (o : Outcome). IsCarried (RowBy c.args.state.now c.args.found c.order.inside.caller c.order.inside.command) (Ok o)) c.in-Draft.is c.in-Ok.ensures)).0
+returns-in-Draft-clause-draws c = λ any.
+    let Row = RowBy c.args.state.now c.args.found c.order.inside.caller c.order.inside.command in
+    let fits = fits_by c.args.state.now c.requires.formed c.args.found c.order.inside.caller c.order.inside.command c.order.invariant in
+    rw (← c.order.view_is) (draft_fits c.args.state.now (draws c.order.inside.command) Row fits c.in-Draft.draft
+    (subst (λ (o : Outcome). IsCarried Row (Ok o)) c.in-Draft.is c.in-Ok.ensures)).0

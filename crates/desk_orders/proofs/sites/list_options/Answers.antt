@@ -1,12 +1,8 @@
-use Rattle.desk_orders.specs.contracts.order.Order.{the_view}
-use Rattle.desk_orders.proofs.Listed.{listed_from}
 use Rattle.desk_orders.proofs.OneListing.{lists_one}
 use Rattle.desk_orders.proofs.sites.list_options.Goals as goal
 
 pub returns-clause-listed : goal.returns-clause-listed
-returns-clause-listed g c =
-    rw (← c.order.view_is) (listed_from g.C.Law.SiteLaw.law c.args.state.now (the_view c.order.inside) c.in-Options.grain
-    c.in-Options.query c.in-Options.is c.options_of.result c.options_of.ensures)
+returns-clause-listed g c = rw (← c.order.view_is) (rw c.in-Options.is c.options_of.ensures)
 
 pub returns-clause-one : goal.returns-clause-one
 returns-clause-one g c = λ one. lists_one g.C.Law.SiteLaw.law one c.args.state.now c.requires.formed c.args.order.now.caller c.args.order.now.command

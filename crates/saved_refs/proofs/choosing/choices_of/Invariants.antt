@@ -1,7 +1,0 @@
-use Rattle.std.proofs.Common.{◌≡◌, take}
-use Rattle.std.specs.List.{filter_map}
-use Rattle.saved_refs.specs.Scan.{choice_of}
-use Rattle.saved_refs.proofs.choosing.choices_of.Given as goal
-
-abbrev pub invariant-loop-grain : goal.invariant-loop-grain
-invariant-loop-grain l = l.choices.items ≡ filter_map (choice_of l.question.num l.question.account l.question.solved.now l.question.found.now) (take l.grain-index l.grains)
