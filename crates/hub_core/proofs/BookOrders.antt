@@ -1,6 +1,7 @@
 -- What the book of a hub tells of an order.
-use Rattle.std.proofs.Common.{◌≡◌, ◌≢◌, ◌≤◌, ◌+◌, ◌++◌, ◌⊎◌, inl, inr, ℕ, Bool, true, false, List, [], ◌∷◌, Option, Result, Ok, Err, length, refl, sym, ◌∙◌, ap, subst, arith, append_assoc, append-nil, length-append}
-use Rattle.desk_base.specs.Terms.{Event, IsWellFormed, replay, State}
+use Rattle.std.proofs.Common.{◌≡◌, ◌≢◌, ◌≤◌, ◌+◌, ◌++◌, inl, inr, ℕ, Bool, true, false, List, [], Option, Result, Ok, Err, length, refl, sym, ◌∙◌, ap, arith, append_assoc, append-nil, length-append, take}
+use Rattle.std.proofs.lemmas.List.{nil_from_length, take_at}
+use Rattle.desk_base.specs.Terms.{Event, replay, State}
 use Rattle.site_caps.specs.Law.{Law}
 use Rattle.desk_orders.specs.Answers.{IsAnswer}
 use Rattle.desk_orders.specs.Commands.{Asked}
@@ -9,27 +10,19 @@ use Rattle.desk_orders.specs.declared.reply.OrderFault.TheVariants as fault
 use Rattle.desk_orders.specs.declared.reply.Reply.{Reply}
 use Rattle.desk_orders.specs.declared.reply.Reply.TheVariants as reply
 use Rattle.epoch_gate.specs.Books.{Acts, count}
-use Rattle.hub_core.specs.Book.{IsFoundFor, Ordered}
+use Rattle.hub_core.specs.Book.{Ordered}
 use Rattle.hub_core.specs.Sharing.{Sharing, book_of}
 use Rattle.hub_core.specs.Wanting.{AnswersOrder, faults_of}
 
 same_front : (xs ys zs ws : List Event) → xs ++ ys ≡ zs ++ ws → length xs ≡ length zs → xs ≡ zs
-same_front [] ys [] ws is long = refl
-same_front [] ys (z ∷ zs) ws is long = absurd (omega (arith, long))
-same_front (x ∷ xs) ys [] ws is long = absurd (omega (arith, long))
-same_front (x ∷ xs) ys (z ∷ zs) ws is long = let rest = same_front xs ys zs ws (cc is) (omega (arith, long)) in cc (is, rest)
-
-empty : (xs : List Event) → length xs ≡ 0 → xs ≡ []
-empty [] is = refl
-empty (x ∷ xs) is = absurd (omega (arith, is))
+same_front xs ys zs ws is long = sym (take_at xs ys (length zs) long) ∙ ap (take (length zs)) is ∙ take_at zs ws (length zs) refl
 
 -- an order adds one entry at the most
 at_most_one : (law : Law) (s : State) (n : ℕ) (found : Option Bool) (order : Asked) (answer : Result Reply OrderFault) (drawn : List (List ℕ)) (added : List Event)
     → IsAnswer law s n found order answer drawn added → length added ≤ 1
-at_most_one law s n found order (Ok (reply.Refused why)) drawn added is = omega (arith, ap length is.0)
 at_most_one law s n found order (Ok (reply.Made made text)) drawn added (changes, inl same) = omega (arith, ap length same.0)
 at_most_one law s n found order (Ok (reply.Made made text)) drawn added (changes, inr one) = omega (arith, ap length one.1)
-at_most_one law s n found order (Ok (reply.Options list)) drawn added is = omega (arith, ap length is.0)
+at_most_one law s n found order (Ok answer) drawn added is = omega (arith, ap length is.0)
 at_most_one law s n found order (Err fault.Secrets) drawn added is = omega (arith, ap length is.0)
 at_most_one law s n found order (Err fault.Start) drawn added is = omega (arith, ap length is.0)
 at_most_one law s n found order (Err fault.Store) drawn added is = omega (arith, ap length is.0)
@@ -40,10 +33,6 @@ count_is true added few some none = let not = some refl in omega (arith, few, no
 count_is false added few some none = none refl
 
 module _ (law : Law) (old new : Sharing) (order : Asked) (answer : Result Reply OrderFault) where
-  abbrev Here : Option Bool → List (List ℕ) → List Event → State → List Event → Type 0
-  Here found drawn added start before = IsWellFormed (replay start before) × IsFoundFor law (replay start before) order answer found
-      × IsAnswer law (replay start before) (length old.history) found order answer drawn added
-
   abbrev Answers : List Event → Type 0
   Answers added = AnswersOrder law (replay old.start old.history) (length old.history) order answer added (faults_of answer)
 
@@ -55,15 +44,17 @@ module _ (law : Law) (old new : Sharing) (order : Asked) (answer : Result Reply 
       let same : old.history ≡ p.before = same_front old.history o.later.more p.before (o.added ++ p.rest) (sym o.later.seen ∙ p.seen ∙ append_assoc p.before o.added p.rest) p.place_is in
       let long : length new.history ≡ (length p.before + length o.added) + length p.rest =
       ap length p.seen ∙ length-append (p.before ++ o.added) p.rest ∙ ap (λ (n : ℕ). n + length p.rest) (length-append p.before o.added) in
-      let none : p.rest ≡ [] = empty p.rest (omega (arith, long, o.accepted, p.place_is)) in
-      let entries : new.history ≡ old.history ++ o.added =
-      p.seen ∙ ap (λ (r : List Event). (p.before ++ o.added) ++ r) none ∙ append-nil (p.before ++ o.added) ∙ ap (λ (b : List Event). b ++ o.added) (sym same) in
-      let there : Here p.found o.drawn o.added new.start p.before = (p.formed, p.found_is, p.lawful) in
-      let here : Here p.found o.drawn o.added old.start old.history =
-      subst (λ (s : State). Here p.found o.drawn o.added s old.history) o.later.start (subst (λ (b : List Event). Here p.found o.drawn o.added new.start b) (sym same) there) in
-      let few : length o.added ≤ 1 = at_most_one law (replay old.start old.history) (length old.history) p.found order answer o.drawn o.added here.2 in (
+      let none : p.rest ≡ [] = nil_from_length p.rest (omega (arith, long, o.accepted, p.place_is)) in
+      let few : length o.added ≤ 1 = at_most_one law (replay new.start p.before) (length old.history) p.found order answer o.drawn o.added p.lawful in (
         o.added,
-        entries,
+        rw (p.seen, none, append-nil, same) refl,
         count_is more o.added few (λ is none. grew is (omega (arith, o.accepted, none))) (λ is. (let stands = stood is in omega (arith, o.accepted, stands))),
-        record { formed = here.0; found = p.found; drawn = o.drawn; found_is = here.1; lawful = here.2; faults_are = refl },
+        record {
+          formed = rw (same, ← o.later.start) p.formed;
+          found = p.found;
+          drawn = o.drawn;
+          found_is = rw (same, ← o.later.start) p.found_is;
+          lawful = rw (same, ← o.later.start, ← p.place_is) p.lawful;
+          faults_are = refl;
+        },
       )

@@ -1,9 +1,6 @@
-pub mod Sessions
-pub mod Keeping
+pub mod Adding
 pub mod Replies
 pub mod Placing
-pub mod Storing
 pub mod Opened
-pub mod Outwards
 pub mod Revoking
 pub mod BookOrders

@@ -1,49 +1,35 @@
--- What answering an order comes to, over plain values.
-use Rattle.std.proofs.Common.{◌≡◌, ℕ, ◌≤◌, ◌++◌, Bool, true, false, List, [], ◌∷◌, Option, Some, None, Result, Ok, Err, length, refl, sym, ◌∙◌, ap, subst, arith, append-nil, inl, inr}
-use Rattle.host_base.specs.Drawing.{Coming, Drawer, Draws}
-use Rattle.desk_base.specs.Terms.{DeskFault, Digest, Event, HasDigest, IsUnused, Made, Refusal, Rose, RunId, State}
-use Rattle.share_graph.specs.declared.desk.DeskFault.TheVariants as desk_fault
-use Rattle.cloud_keeper.specs.Keeping.{Keeping}
-use Rattle.grain_supervise.specs.Spawning.{Spawns}
-use Rattle.grain_supervise.specs.declared.start.Start.{Start}
-use Rattle.desk_base.specs.Accepting.{Ready, WantsSecret}
-use Rattle.desk_base.specs.Made.{nothing_made}
+-- What answering an order at the end of a history comes to, as its book tells it.
+use Rattle.std.proofs.Common.{◌≡◌, ℕ, ◌≤◌, ◌++◌, Bool, false, List, [], ◌∷◌, Option, Result, Ok, Err, length, refl, sym, ◌∙◌, ap, subst, arith, append-nil, length-append, inr}
+use Rattle.std.specs.Prelude.{⊤, IfErr}
+use Rattle.host_base.specs.Drawing.{Drawer}
+use Rattle.desk_base.specs.Accepting.{Ready}
 use Rattle.desk_base.specs.Outcomes.{Completes, HasClash, draft_step, with_digest}
-use Rattle.desk_base.specs.Steps.{Keeps, Makes, Drawn}
+use Rattle.desk_base.specs.Steps.{Makes, Drawn}
+use Rattle.desk_base.specs.Terms.{Digest, Event, HasDigest, IsUnused, Made, Refusal, replay}
+use Rattle.desk_base.specs.Terms.{State}
 use Rattle.desk_base.specs.declared.outcome.Draft.{Draft}
-use Rattle.saved_refs.specs.declared.listed.Listed.{Listed}
+use Rattle.desk_orders.specs.Answers.{AcceptsWith, RefusesWith, MayHaveDrawn, shown_text, IsAnswer}
+use Rattle.desk_orders.specs.Commands.{Asked, lists}
+use Rattle.desk_orders.specs.Orders.{RowOf}
+use Rattle.desk_orders.specs.Secrets.{DrawsAll, secret_text, text_digest}
+use Rattle.desk_orders.specs.Sites.{IsFoundBy}
 use Rattle.desk_orders.specs.declared.reply.OrderFault.{OrderFault}
 use Rattle.desk_orders.specs.declared.reply.OrderFault.TheVariants as fault
 use Rattle.desk_orders.specs.declared.reply.Reply.{Reply}
 use Rattle.desk_orders.specs.declared.reply.Reply.TheVariants as reply
-use Rattle.desk_orders.specs.Answers.{AcceptsWith, RefusesWith, MayHaveDrawn, shown_text, IsAnswer}
-use Rattle.desk_orders.specs.Commands.{Asked, lists}
-use Rattle.desk_orders.specs.Listing.{IsListed}
-use Rattle.desk_orders.specs.Orders.{RowOf}
-use Rattle.desk_orders.specs.Secrets.{DrawsAll, secret_text, text_digest}
+use Rattle.row_tables.specs.Kept.{IsStored}
 use Rattle.site_caps.specs.Law.{Law}
-use Rattle.desk_orders.specs.Sites.{ListsBy, IsFoundBy}
-use Rattle.desk_orders.proofs.OfOptions.{none_found}
-use Rattle.hub_core.specs.Book.{Backing, IsCounted, IsFoundFor}
-use Rattle.hub_core.specs.Inner.Adding.{Outer, Told, NotTold}
-use Rattle.hub_core.specs.Inner.Answering.{Answered, AnsweredBy, reply_of}
-use Rattle.hub_core.specs.Sharing.{Past, state_of}
-use Rattle.hub_core.specs.Spawning.{Spawned, Untold, token_of}
-
--- one secret was drawn
-pub draws_one : (coming rest : Option Coming) (secret : List ℕ) → Draws coming rest secret → DrawsAll coming rest (secret ∷ [])
-draws_one coming rest secret is = (rest, is, refl)
-
-abbrev the_past : State → List Event → Past
-the_past start entries = record { start = start; entries = entries }
-
--- what was decided by a state and a number of entries, at those of a history
-pub at_end : (P : State → ℕ → Type 0) (s t : State) (n m : ℕ) → s ≡ t → n ≡ m → P s n → P t m
-at_end P s t n m same long is = subst (λ (k : ℕ). P t k) long (subst (λ (x : State). P x n) same is)
+use Rattle.hub_core.specs.Book.{Backing, CountsOn, IsCounted, IsFoundFor}
+use Rattle.hub_core.specs.Inner.{CanMeet, OrderedBy, Told, entry_of, replied}
+use Rattle.hub_core.specs.Sharing.{Sharing}
+use Rattle.hub_core.specs.Spawning.{Spawned, token_of}
+use Rattle.hub_core.proofs.Adding.{told_nothing}
 
 -- a draft that the digest of a secret completes is accepted
-pub completed : (s : State) (n : ℕ) (found : Option Bool) (order : Asked) (secret : List ℕ) (draft : Draft) (d : Digest) (e : Event) (made : Made) → d ≡ text_digest (secret_text order.command secret)
-    → Ready n (RowOf s found order) (draft_step draft) → Completes s d draft (e, made) → AcceptsWith s n found order (secret ∷ []) e made
+pub completed : (s : State) (n : ℕ) (found : Option Bool) (order : Asked) (secret : List ℕ) (draft : Draft) (d : Digest)
+    (e : Event) (made : Made) → d ≡ text_digest (secret_text order.command secret)
+    → Ready n (RowOf s found order) (draft_step draft) → Completes s d draft (e, made)
+    → AcceptsWith s n found order (secret ∷ []) e made
 completed s n found order secret draft d e made same ready (e_is, made_is, unused) = (
   with_digest draft.event,
   subst (λ (m : Made). Ready n (RowOf s found order) (Makes (Drawn (with_digest draft.event)) m)) (sym made_is) ready,
@@ -52,143 +38,112 @@ completed s n found order secret draft d e made same ready (e_is, made_is, unuse
 )
 
 -- and one that a row has refuses it
-pub clashed : (s : State) (n : ℕ) (found : Option Bool) (order : Asked) (secret : List ℕ) (draft : Draft) (d : Digest) (r : Refusal) → d ≡ text_digest (secret_text order.command secret)
-    → Ready n (RowOf s found order) (draft_step draft) → HasClash s d r → RefusesWith s n found order (secret ∷ []) r
+pub clashed : (s : State) (n : ℕ) (found : Option Bool) (order : Asked) (secret : List ℕ) (draft : Draft) (d : Digest)
+    (r : Refusal) → d ≡ text_digest (secret_text order.command secret) → Ready n (RowOf s found order) (draft_step draft)
+    → HasClash s d r → RefusesWith s n found order (secret ∷ []) r
 clashed s n found order secret draft d r same ready (k, (i, is, has)) =
     (k, (i, is, subst (λ (x : Digest). HasDigest s x k i) same has, (with_digest draft.event, (draft.made, ready))))
 
--- a spawner that wasn't told anything was told what no entry wants
-pub untold_none : (old new : Spawns) (token : List ℕ) → Untold old new → Spawned old new token []
-untold_none old new token is = record {
-  starts = λ told was. is.starts ∙ was ∙ ap (λ (xs : List Start). Some xs) (sym (append-nil told));
-  stops = λ told was. is.stops ∙ was ∙ ap (λ (xs : List RunId). Some xs) (sym (append-nil told));
-}
+-- where a change is accepted, a secret that was drawn was wanted
+may_have_drawn : (s : State) (n : ℕ) (found : Option Bool) (order : Asked) (drawn : List (List ℕ)) (e : Event) (made : Made)
+    → AcceptsWith s n found order drawn e made → MayHaveDrawn s n found order drawn
+may_have_drawn s n found order [] e made is = tt
+may_have_drawn s n found order (secret ∷ []) e made (f, ready, unused, same) = (f, (made, ready))
+may_have_drawn s n found order (secret ∷ more ∷ rest) e made is = absurd is
 
--- a spawner that wasn't called
-pub untold : (spawns : Spawns) → Untold spawns spawns
-untold spawns = record { starts = refl; stops = refl }
+-- it is a lawful one
+carried : (law : Law) (s : State) (n : ℕ) (found : Option Bool) (order : Asked) (drawn : List (List ℕ)) (e : Event)
+    (made : Made) → lists order.command ≡ false → AcceptsWith s n found order drawn e made
+    → (result : Result ⊤ OrderFault) → IfErr result (CanMeet e)
+    → IsAnswer law s n found order (replied made (shown_text order.command drawn) result) drawn (entry_of e result)
+carried law s n found order drawn e made asks is (Ok done) can = (asks, inr (e, refl, refl, is))
+carried law s n found order drawn e made asks is (Err fault.Secrets) can = absurd can
+carried law s n found order drawn e made asks is (Err fault.Memory) can = (refl, may_have_drawn s n found order drawn e made is)
+carried law s n found order drawn e made asks is (Err why) can = (refl, (e, made, can, is))
 
-abbrev pub holds_of : Keeping → Drawer → Spawns → Backing
-holds_of keeping drawer spawns = record { keeping = keeping; drawer = drawer; spawns = spawns }
+-- and the fault was counted, by whoever had drawn
+counted_so : (old new : Backing) (drawer : Drawer) (e : Event) (made : Made) (text : Option (List ℕ))
+    (result : Result ⊤ OrderFault) → IfErr result (CanMeet e)
+    → IfErr result (λ why. IsCounted (record old { drawer = drawer }) new (Err why))
+    → IsCounted old new (replied made text result)
+counted_so old new drawer e made text (Ok done) can counted = tt
+counted_so old new drawer e made text (Err fault.Secrets) can counted = absurd can
+counted_so old new drawer e made text (Err why) can counted = counted
 
-abbrev pub outer_of : Keeping → Spawns → Outer
-outer_of keeping spawns = record { spawns = spawns; keeping = keeping }
+module _ (law : Law) (found : Option Bool) (old : Sharing) (order : Asked) where
+  abbrev Lawful : Result Reply OrderFault → List (List ℕ) → List Event → Type 0
+  Lawful = IsAnswer law (replay old.start old.history) (length old.history) found order
 
-module _ (law : Law) (found : Option Bool) (old : Past) (keeping : Keeping) (spawns : Spawns) (drawer drawer' : Drawer) (order : Asked) (drawn : List (List ℕ)) (draws : DrawsAll drawer.coming drawer'.coming drawn) (counts : drawer.faults ≤ drawer'.faults) where
-  abbrev Said : Past → Keeping → Spawns → Result Reply OrderFault → Type 0
-  Said new keeping' spawns' answer = Answered law found old new (holds_of keeping drawer spawns) (holds_of keeping' drawer' spawns') order answer
+  -- from rows of the tables before, a keeper has come to those of the tables after
+  abbrev Stores : Backing → Sharing → Type 0
+  Stores holds new = IsStored holds.keeping (replay old.start old.history).tables
+      → IsStored new.holds.keeping (replay new.start new.history).tables
+
+  -- these secrets were drawn, and nothing else was done
+  abbrev Drew : Backing → List (List ℕ) → Type 0
+  Drew holds drawn = (holds ≡ record old.holds { drawer = holds.drawer })
+      × (old.holds.drawer.faults ≤ holds.drawer.faults)
+      × DrawsAll old.holds.drawer.coming holds.drawer.coming drawn
+
+  -- the order's place is the end of the history
+  ordered : (new : Sharing) (answer : Result Reply OrderFault) (drawn : List (List ℕ)) (added : List Event)
+      → new.start ≡ old.start → new.history ≡ old.history ++ added → Stores old.holds new
+      → CountsOn old.holds new.holds → DrawsAll old.holds.drawer.coming new.holds.drawer.coming drawn
+      → Spawned old.holds.spawns new.holds.spawns (token_of order drawn) added → Lawful answer drawn added
+      → IsCounted old.holds new.holds answer → OrderedBy law found old new order answer
+  ordered new answer drawn added start entries stored counts draws spawned lawful counted formed found_is = record {
+    drawn = drawn;
+    added = added;
+    later = record { law = refl; start = start; more = added; seen = entries; counts = counts; stored = stored };
+    placed = record {
+      before = old.history;
+      rest = [];
+      seen = entries ∙ sym (append-nil (old.history ++ added));
+      place_is = refl;
+      low_is = omega arith;
+      formed = rw start formed;
+      found = found;
+      found_is = rw start found_is;
+      lawful = rw start lawful;
+    };
+    accepted = ap length entries ∙ length-append old.history added;
+    draws = draws;
+    spawned = spawned;
+    counted = counted;
+  }
 
   -- nothing was added
-  kept : (keeping' : Keeping) (spawns' : Spawns) → Untold spawns spawns' → spawns.faults ≤ spawns'.faults → keeping.faults ≤ keeping'.faults → (answer : Result Reply OrderFault)
-      → IsAnswer law (state_of old) (length old.entries) found order answer drawn [] → IsCounted (holds_of keeping drawer spawns) (holds_of keeping' drawer' spawns') answer → Said old keeping' spawns' answer
-  kept keeping' spawns' nothing more more_stored answer lawful counted = record {
-    drawn = drawn;
-    added = [];
-    start = refl;
-    lawful = lawful;
-    entries = sym (append-nil old.entries);
-    draws = draws;
-    spawned = untold_none spawns spawns' (token_of order drawn) nothing;
-    counts = record { store = more_stored; secrets = counts; starts = more };
-    counted = counted;
-  }
+  pub unchanged : (holds : Backing) (drawn : List (List ℕ)) → Drew holds drawn → (answer : Result Reply OrderFault)
+      → Lawful answer drawn [] → IsCounted old.holds holds answer
+      → OrderedBy law found old (record old { holds = holds }) order answer
+  unchanged holds drawn (others, counts, draws) answer lawful counted =
+      ordered (record old { holds = holds }) answer drawn [] refl (sym (append-nil old.history)) (λ has. rw others has)
+      (record { store = rw others (omega arith); secrets = counts; starts = rw others (omega arith) }) draws
+      (told_nothing old.holds.spawns holds.spawns (token_of order drawn) (rw others refl) (rw others refl)) lawful counted
 
-  pub answered_refused : (r : Refusal) → RefusesWith (state_of old) (length old.entries) found order drawn r → Said old keeping spawns (Ok (reply.Refused r))
-  answered_refused r is = kept keeping spawns (untold spawns) (omega arith) (omega arith) (Ok (reply.Refused r)) (refl, is) tt
+  -- nothing was drawn either
+  pub unmoved : (answer : Result Reply OrderFault) → Lawful answer [] [] → IsCounted old.holds old.holds answer
+      → OrderedBy law found old old order answer
+  unmoved = unchanged old.holds [] (refl, omega arith, refl)
 
-  pub answered_memory : MayHaveDrawn (state_of old) (length old.entries) found order drawn → Said old keeping spawns (Err fault.Memory)
-  answered_memory may = kept keeping spawns (untold spawns) (omega arith) (omega arith) (Err fault.Memory) (refl, may) tt
-
-  -- a change was accepted
-  pub answered_made : lists order.command ≡ false → (new : Past) (keeping' : Keeping) (spawns' : Spawns) (e : Event) (made : Made) (text : Option (List ℕ)) → text ≡ shown_text order.command drawn
-      → AcceptsWith (state_of old) (length old.entries) found order drawn e made → new.start ≡ old.start → new.entries ≡ old.entries ++ e ∷ [] → Told (outer_of keeping spawns) (outer_of keeping' spawns') e (token_of order drawn)
-      → Said new keeping' spawns' (Ok (reply.Made made text))
-  answered_made asks new keeping' spawns' e made text shown is start entry tells = record {
-    drawn = drawn;
-    added = e ∷ [];
-    start = start;
-    lawful = (asks, inr (e, refl, shown, is));
-    entries = entry;
-    draws = draws;
-    spawned = tells.told;
-    counts = record { store = tells.counts_store; secrets = counts; starts = tells.counts };
-    counted = tt;
-  }
-
-  -- where a change is accepted, a secret that was drawn was wanted
-  may_have_drawn : (all : List (List ℕ)) (e : Event) (made : Made) → AcceptsWith (state_of old) (length old.entries) found order all e made → MayHaveDrawn (state_of old) (length old.entries) found order all
-  may_have_drawn [] e made is = tt
-  may_have_drawn (secret ∷ []) e made (f, ready, unused, same) = (f, (made, ready))
-  may_have_drawn (secret ∷ more ∷ rest) e made is = absurd is
-
-  -- a change couldn't be carried out
-  not_carried : (keeping' : Keeping) (spawns' : Spawns) (e : Event) (made : Made) → AcceptsWith (state_of old) (length old.entries) found order drawn e made → (why : OrderFault)
-      → NotTold (outer_of keeping spawns) (outer_of keeping' spawns') e why → Said old keeping' spawns' (Err why)
-  not_carried keeping' spawns' e made is fault.Start tells =
-      kept keeping' spawns' tells.untold tells.counts tells.counts_store (Err fault.Start) (refl, (e, made, (tells.cause refl).1, is)) (tells.cause refl).0
-  not_carried keeping' spawns' e made is fault.Store tells =
-      kept keeping' spawns' tells.untold tells.counts tells.counts_store (Err fault.Store) (refl, (e, made, (tells.cause_store refl).1, is)) (tells.cause_store refl).0
-  not_carried keeping' spawns' e made is fault.Memory tells =
-      kept keeping' spawns' tells.untold tells.counts tells.counts_store (Err fault.Memory) (refl, may_have_drawn drawn e made is) tt
-  not_carried keeping' spawns' e made is fault.Secrets tells = absurd tells.fault_is
-
-  pub answered_fault : (new : Past) (keeping' : Keeping) (spawns' : Spawns) (e : Event) (made : Made) → AcceptsWith (state_of old) (length old.entries) found order drawn e made → (why : OrderFault)
-      → new.start ≡ old.start → new.entries ≡ old.entries → NotTold (outer_of keeping spawns) (outer_of keeping' spawns') e why → Said new keeping' spawns' (Err why)
-  answered_fault new keeping' spawns' e made is why start same tells =
-      let past : old ≡ new = ap (λ (s : State). the_past s old.entries) (sym start) ∙ ap (λ (xs : List Event). the_past new.start xs) (sym same) in
-      subst (λ (p : Past). Said p keeping' spawns' (Err why)) past (not_carried keeping' spawns' e made is why tells)
-
-module _ (law : Law) (found : Option Bool) (old : Past) (holds : Backing) (order : Asked) where
-  -- nothing was done
-  pub unmoved : (answer : Result Reply OrderFault) → IsAnswer law (state_of old) (length old.entries) found order answer [] [] → IsCounted holds holds answer → Answered law found old old holds holds order answer
-  unmoved answer lawful counted = record {
-    drawn = [];
-    added = [];
-    start = refl;
-    lawful = lawful;
-    entries = sym (append-nil old.entries);
-    draws = refl;
-    spawned = untold_none holds.spawns holds.spawns [] (untold holds.spawns);
-    counts = record { store = omega arith; secrets = omega arith; starts = omega arith };
-    counted = counted;
-  }
-
-  -- things are as the order asks
-  pub answered_same : lists order.command ≡ false → (made : Made) → Ready (length old.entries) (RowOf (state_of old) found order) (Keeps made) → Answered law found old old holds holds order (Ok (reply.Made made None))
-  answered_same asks made is = unmoved (Ok (reply.Made made None)) (asks, inl (refl, refl, refl, is)) tt
-
-  -- memory ran out before anything was done
-  pub answered_nothing : Answered law found old old holds holds order (Err fault.Memory)
-  answered_nothing = unmoved (Err fault.Memory) (refl, tt) tt
-
--- no secret could be drawn
-pub answered_undrawn : (law : Law) (found : Option Bool) (old : Past) (keeping : Keeping) (spawns : Spawns) (drawer drawer' : Drawer) (order : Asked) → drawer'.coming ≡ drawer.coming → drawer.faults ≤ drawer'.faults
-    → Rose drawer.faults drawer'.faults → WantsSecret (length old.entries) (RowOf (state_of old) found order) → Answered law found old old (holds_of keeping drawer spawns) (holds_of keeping drawer' spawns) order (Err fault.Secrets)
-answered_undrawn law found old keeping spawns drawer drawer' order coming counts rose wants = record {
-  drawn = [];
-  added = [];
-  start = refl;
-  lawful = (refl, refl, wants);
-  entries = sym (append-nil old.entries);
-  draws = coming;
-  spawned = untold_none spawns spawns [] (untold spawns);
-  counts = record { store = omega arith; secrets = counts; starts = omega arith };
-  counted = rose;
-}
-
--- what becomes of an order that asks for a list
-pub listed_by : (law : Law) (old : Past) (holds : Backing) (order : Asked) → lists order.command ≡ true → (result : Result (List Listed) DeskFault) → IsListed law (state_of old) order result
-    → AnsweredBy law old old holds holds order (reply_of result)
-listed_by law old holds order asks (Ok list) (is, has) =
-    (None, none_found law (state_of old) order.caller order.command asks, unmoved law None old holds order (Ok (reply.Options list)) (refl, refl, is, has) tt)
-listed_by law old holds order asks (Err (desk_fault.Refused r)) is =
-    (None, none_found law (state_of old) order.caller order.command asks, unmoved law None old holds order (Ok (reply.Refused r)) (refl, inl is) tt)
-listed_by law old holds order asks (Err desk_fault.Memory) is = (None, tt, unmoved law None old holds order (Err fault.Memory) (refl, tt) tt)
+  -- a change was carried out, or a fault kept it from being
+  pub changed : (holds : Backing) (drawn : List (List ℕ)) → Drew holds drawn → lists order.command ≡ false
+      → (new : Sharing) (e : Event) (made : Made) (result : Result ⊤ OrderFault) → new.start ≡ old.start
+      → new.history ≡ old.history ++ entry_of e result → Told holds new.holds e (token_of order drawn) result
+      → Stores holds new → AcceptsWith (replay old.start old.history) (length old.history) found order drawn e made
+      → OrderedBy law found old new order (replied made (shown_text order.command drawn) result)
+  changed holds drawn (others, counts, draws) asks new e made result start entries told stored is =
+      let tells : Told (record old.holds { drawer = holds.drawer }) new.holds e (token_of order drawn) result = rw others at told in
+      let text = shown_text order.command drawn in
+      ordered new (replied made text result) drawn (entry_of e result) start entries
+      (subst (λ (h : Backing). Stores h new) others stored)
+      (record { store = tells.counts.store; secrets = omega arith; starts = tells.counts.starts })
+      (rw tells.undrawn draws) tells.spawned
+      (carried law (replay old.start old.history) (length old.history) found order drawn e made asks is result tells.meets)
+      (counted_so old.holds new.holds holds.drawer e made text result tells.meets tells.counted)
 
 -- what the sites have counts for every answer
-pub found_for : (law : Law) (s : State) (order : Asked) (answer : Result Reply OrderFault) (found : Option Bool) → IsFoundBy law s order.caller order.command found → IsFoundFor law s order answer found
-found_for law s order (Ok reply) found is = is
-found_for law s order (Err fault.Store) found is = is
-found_for law s order (Err fault.Secrets) found is = is
-found_for law s order (Err fault.Start) found is = is
+pub found_for : (law : Law) (s : State) (order : Asked) (answer : Result Reply OrderFault) (found : Option Bool)
+    → IsFoundBy law s order.caller order.command found → IsFoundFor law s order answer found
 found_for law s order (Err fault.Memory) found is = tt
+found_for law s order answer found is = is

@@ -20,6 +20,10 @@ pub record Sharing : Type 0 where
   pub history : List Event
   pub holds : Backing
 
+-- that history, beside what such objects tell
+abbrev pub sharing_of : Past → Backing → Sharing
+sharing_of past holds = record { start = past.start; history = past.entries; holds = holds }
+
 -- What a value that holds a history keeps: its state is the replay of the history and well formed, what each node holds is
 -- solved for it, the history isn't longer than it may be, and no more sessions were ever opened than a session's number can
 -- say.

@@ -1,22 +1,29 @@
 //! Answering an order at the end of a history.
 
-ghost use Rattle.std.specs.Prelude.{◌≡◌, length, false, IfOk};
+ghost use Rattle.std.specs.Prelude.{◌≡◌, ◌≤◌, length, true, false, IfOk, OnErr};
 ghost use Rattle.desk_base.specs.Accepting.{Ready};
 ghost use Rattle.desk_base.specs.Outcomes.{draft_step, with_digest};
+ghost use Rattle.desk_base.specs.Terms.{Digest, EventFits, IsUnused, Rose};
 ghost use Rattle.desk_orders.specs.Commands as commands;
 ghost use Rattle.desk_orders.specs.Orders.{RowOf};
 ghost use Rattle.desk_orders.specs.Secrets as texts;
 ghost use Rattle.desk_orders.specs.Secrets.{text_digest};
-ghost use Rattle.desk_base.specs.Terms.{EventFits, IsUnused, IsWellFormed};
+ghost use Rattle.host_base.specs.Drawing.{Draws};
 ghost use Rattle.site_caps.specs.Law.{Law};
-ghost use Rattle.hub_core.specs.Inner.Answering.{Answered, AnsweredBy, KeepsStored};
-ghost use Rattle.hub_core.specs.Sharing.{state_of};
+ghost use Rattle.hub_core.specs.Book.{Backing, Ordered};
+ghost use Rattle.hub_core.specs.Inner as inner;
+ghost use Rattle.hub_core.specs.Inner.{OrderedBy};
+ghost use Rattle.hub_core.specs.Sharing.{book_of, sharing_of, state_of};
 
 use crate::held::{Held, Holding};
 use crate::history::History;
 use desk_base::Draft;
-use desk_orders::{Decision, Order, OrderFault, Reply, decide, found_of, secret_text, shown_text};
-use host_base::{Bytes, Digest, Memory, Secrets, digest_of};
+use desk_orders::{
+    Decision, Order, OrderFault, Reply, decide, found_of, list_options, lists, secret_text,
+    shown_text,
+};
+use host_base::{Bytes, Digest, DrawFailed, Memory, Secrets, digest_of};
+use share_graph::{DeskFault, Made};
 use share_tokens::Secret;
 use site_caps::{Registry, SiteDriver};
 use std::alloc::Global;
@@ -29,6 +36,31 @@ fn text_of(alloc: Global, order: &Order, secret: [u8; 32]) -> Result<(Bytes, Dig
     let text = secret_text(alloc, order, &Secret(secret))?;
     let digest = digest_of(text.as_slice());
     Ok((text, digest))
+}
+
+// Draws a secret. A failure is counted, and what is to come is unchanged.
+fn draw<H: Holding>(held: &mut Held<H>) -> Result<[u8; 32], DrawFailed>
+    ensures drawn { IfOk result (Draws held.old.drawer.coming held.new.drawer.coming) }
+    ensures kept { OnErr result (held.new.drawer.coming ≡ held.old.drawer.coming) }
+    ensures counts { held.old.drawer.faults ≤ held.new.drawer.faults }
+    ensures cause { OnErr result (Rose held.old.drawer.faults held.new.drawer.faults) }
+    ensures others { held.new ≡ record held.old { drawer = held.new.drawer } }
+{
+    held.secrets.draw()
+}
+
+// The reply to a change, once it was added.
+fn replied(
+    made: Made,
+    text: Option<Bytes>,
+    added: Result<(), OrderFault>,
+) -> Result<Reply, OrderFault>
+    ensures { result ≡ inner.replied made text added }
+{
+    match added {
+        Ok(()) => Ok(Reply::Made(made, text)),
+        Err(fault) => Err(fault),
+    }
 }
 
 // Answers an order with a draft: draws the secret whose digest completes it.
@@ -45,11 +77,10 @@ fn answer_drawn<H: Holding>(
         (draft_step draft) }
     requires fits { (d : Digest) → IsUnused (state_of history.old) d
         → EventFits (state_of history.old) (with_digest draft.event d) }
-    ensures stored { KeepsStored history.old history.new held.old held.new }
-    ensures answered { (law : Law) → Answered law found history.old history.new held.old held.new order.now
-        result }
+    ensures { (law : Law) → OrderedBy law found (sharing_of history.old held.old)
+        (sharing_of history.new held.new) order.now result }
 {
-    let Ok(secret) = held.secrets.draw() else {
+    let Ok(secret) = draw(held) else {
         return Err(OrderFault::Secrets);
     };
     let Ok((text, digest)) = text_of(alloc, order, secret) else {
@@ -58,18 +89,14 @@ fn answer_drawn<H: Holding>(
     match draft.complete(history.state(), digest) {
         Err(refusal) => Ok(Reply::Refused(refusal)),
         Ok((event, made)) => {
-            let token = text.as_slice();
-            match history.add(alloc, &mut held.keeper, &mut held.spawner, event, token) {
-                Ok(()) => {}
-                Err(fault) => return Err(fault),
-            }
-            Ok(Reply::Made(made, shown_text(order, text)))
+            let added = history.add(alloc, held, event, text.as_slice());
+            replied(made, shown_text(order, text), added)
         }
     }
 }
 
-// Answers an order at the end of a history, with what the sites have of what it chooses. It asks for no list.
-fn answer<H: Holding>(
+// Answers an order that asks for no list, with what the sites have of what it chooses.
+fn answer_found<H: Holding>(
     alloc: Global,
     history: &mut History,
     held: &mut Held<H>,
@@ -77,9 +104,8 @@ fn answer<H: Holding>(
     order: &Order,
 ) -> Result<Reply, OrderFault>
     requires asks { commands.lists order.now.command ≡ false }
-    ensures stored { KeepsStored history.old history.new held.old held.new }
-    ensures answered { (law : Law) → Answered law found history.old history.new held.old held.new order.now
-        result }
+    ensures { (law : Law) → OrderedBy law found (sharing_of history.old held.old)
+        (sharing_of history.new held.new) order.now result }
 {
     let count = history.count();
     match decide(
@@ -94,31 +120,47 @@ fn answer<H: Holding>(
         Decision::Same(made) => Ok(Reply::Made(made, None)),
         Decision::Draft(draft) => answer_drawn(alloc, history, held, found, order, draft),
         Decision::Change(event, made) => {
-            match history.add(alloc, &mut held.keeper, &mut held.spawner, event, &[]) {
-                Ok(()) => {}
-                Err(fault) => return Err(fault),
-            }
-            Ok(Reply::Made(made, None))
+            let added = history.add(alloc, held, event, &[]);
+            replied(made, None, added)
         }
         Decision::Memory => Err(OrderFault::Memory),
     }
 }
 
-/// Answers an order that asks for no list, with what the drivers of the sites have of what it chooses.
-pub fn answer_with_sites<H: Holding, C: SiteDriver + Drop>(
+// Answers an order that asks for a list, which changes nothing.
+fn list<C: SiteDriver + Drop>(
+    alloc: Global,
+    history: &History,
+    sites: &Registry<C>,
+    order: &Order,
+) -> Result<Reply, OrderFault>
+    requires { commands.lists order.now.command ≡ true }
+    ensures { (holds : Backing) → Ordered (book_of C.Law.law (sharing_of history.now holds))
+        (book_of C.Law.law (sharing_of history.now holds)) order.now (length history.now.entries) result }
+{
+    match list_options(alloc, history.state(), history.solved(), sites, order) {
+        Ok(list) => Ok(Reply::Options(list)),
+        Err(DeskFault::Refused(refusal)) => Ok(Reply::Refused(refusal)),
+        Err(DeskFault::Memory) => Err(OrderFault::Memory),
+    }
+}
+
+/// Answers an order, with what the drivers of the sites have of what it chooses or asks for.
+pub fn answer<H: Holding, C: SiteDriver + Drop>(
     alloc: Global,
     history: &mut History,
     held: &mut Held<H>,
     sites: &Registry<C>,
     order: &Order,
 ) -> Result<Reply, OrderFault>
-    requires asks { commands.lists order.now.command ≡ false }
-    ensures formed { IsWellFormed (state_of history.old) }
-    ensures stored { KeepsStored history.old history.new held.old held.new }
-    ensures answered { AnsweredBy C.Law.law history.old history.new held.old held.new order.now result }
+    ensures { Ordered (book_of C.Law.law (sharing_of history.old held.old))
+        (book_of C.Law.law (sharing_of history.new held.new)) order.now (length history.old.entries) result }
 {
+    if lists(order) {
+        return list(alloc, history, sites, order);
+    }
     let Ok(found) = found_of(alloc, history.state(), sites, order) else {
         return Err(OrderFault::Memory);
     };
-    answer(alloc, history, held, found, order)
+    answer_found(alloc, history, held, found, order)
 }

@@ -1,20 +1,24 @@
-//! A history, with what stands at its end.
+//! A history, with what stands at its end, and how an entry is added to it.
 
-ghost use Rattle.std.specs.Prelude.{◌≡◌, ◌+◌, ◌<◌, ◌≤◌, [], length, IfOk};
-ghost use Rattle.desk_base.specs.Terms.{EventFits, IsSolutionOf, IsWellFormed};
+ghost use Rattle.std.specs.Prelude.{◌≡◌, ◌+◌, ◌<◌, ◌≤◌, ◌++◌, ◌∷◌, [], length, vec_len, vec_capacity, IfOk, OnOk, OnErr};
+ghost use Rattle.desk_base.specs.Terms.{after, EventFits, IsSolutionOf, IsWellFormed};
 ghost use Rattle.live_access.specs.Kept.{IsSolvedFor};
-ghost use Rattle.hub_core.specs.Inner.Adding.{AddsEntry};
-ghost use Rattle.hub_core.specs.Sharing.{state_of};
+ghost use Rattle.live_access.specs.Ready.{IsReadyFor};
 ghost use Rattle.row_tables.specs.Kept.{IsStored};
+ghost use Rattle.state_step.specs.Staging.{event_of, HasRoomFor};
+ghost use Rattle.hub_core.specs.Inner.{HasItsRow, KeepsRows, Told, entry_of};
+ghost use Rattle.hub_core.specs.Sharing.{state_of};
 
-use crate::adding::add_entry;
-use cloud_keeper::Keeper;
+use crate::held::{Held, Holding};
+use crate::telling::tell;
+use cloud_keeper::Row;
 use desk_orders::OrderFault;
-use grain_supervise::Spawner;
 use host_base::Memory;
 use least_access::Solved;
-use live_access::{Solution, solve};
+use live_access::{Region, Solution, solve};
+use row_tables::row_after;
 use share_graph::{Event, State, copy_of};
+use state_step::{Staged, apply, copy_of_event, prepare};
 use std::alloc::Global;
 use std::marker::Model;
 
@@ -63,6 +67,84 @@ fn open(alloc: Global, state: &State) -> Result<(State, Solution), Memory>
     Ok((start, solution))
 }
 
+// Takes room for one entry more.
+fn make_room(entries: &mut Vec<Event>) -> Result<(), Memory>
+    ensures same { entries.new.items ≡ entries.old.items }
+    ensures room { OnOk result (vec_len entries.new < vec_capacity entries.new) }
+{
+    match entries.reserve(1) {
+        Ok(()) => Ok(()),
+        Err(_) => Err(Memory),
+    }
+}
+
+// All that was made ready for an event: its room in the state, the row that it adds or changes, if there is one, and its region.
+#[derive(Drop)]
+struct Ready {
+    staged: Staged,
+    row: Option<Row>,
+    region: Region,
+}
+
+// Makes all ready for an event but its room as an entry; what is solved is as before where memory runs out.
+fn make_ready(
+    alloc: Global,
+    state: &State,
+    solution: &mut Solution,
+    event: &Event,
+) -> Result<Ready, Memory>
+    requires formed { IsWellFormed state.now }
+    requires fits { EventFits state.now event.now }
+    requires solved { IsSolvedFor state.now.tables solution.old }
+    ensures staged { IfOk result (λ ready. event_of ready.staged ≡ event.now) }
+    ensures staged_room { IfOk result (λ ready. HasRoomFor state.now ready.staged) }
+    ensures has { IfOk result (λ ready. HasItsRow event.now ready.row) }
+    ensures kept { IfOk result (λ ready. KeepsRows state.now.tables event.now ready.row) }
+    ensures region { IfOk result (λ ready. IsReadyFor state.now event.now solution.new ready.region) }
+    ensures same_solved { OnErr result (IsSolvedFor state.now.tables solution.new) }
+{
+    let row = row_after(alloc, &state.tables, event)?;
+    let staged = prepare(state, copy_of_event(event)?)?;
+    let region = solution.prepare(alloc, state, event)?;
+    Ok(Ready {
+        staged,
+        row,
+        region,
+    })
+}
+
+// Takes back what was made ready for an event that doesn't happen, and lets go of what was staged. An event and what is staged for it
+// are each let go in sixteen ways: a call of its own keeps a proof from going through both together.
+fn take_back(solution: &mut Solution, _staged: Staged, region: Region)
+    requires { (s : State) × (e : Event) × IsReadyFor s e solution.old region }
+    ensures { (s : State) (e : Event) → IsReadyFor s e solution.old region
+        → IsSolvedFor s.tables solution.new }
+{
+    solution.take_back(region);
+}
+
+// Lets an event happen for which all room was taken: in the state, in what is solved, and as the next entry.
+fn happen(
+    state: &mut State,
+    solution: &mut Solution,
+    entries: &mut Vec<Event>,
+    staged: Staged,
+    region: Region,
+    event: Event,
+)
+    requires staged { event_of staged ≡ event }
+    requires staged_room { HasRoomFor state.old staged }
+    requires ready { IsReadyFor state.old event solution.old region }
+    requires room { vec_len entries.old < vec_capacity entries.old }
+    ensures state { state.new ≡ after state.old event }
+    ensures solved { IsSolvedFor state.new.tables solution.new }
+    ensures entry { entries.new.items ≡ entries.old.items ++ event ∷ [] }
+{
+    apply(state, staged);
+    solution.settle(state, region);
+    entries.push_reserved(event);
+}
+
 impl History {
     /// The history that begins with a well-formed state of fewer than 2^31 sessions, with no entry.
     pub fn new(alloc: Global, state: State) -> Result<Self, Memory>
@@ -103,34 +185,46 @@ impl History {
         self.entries.len() as u64
     }
 
-    /// Adds an entry, once the keeper or the spawner was told of it. Where they fail or memory runs out, all is as before.
-    pub fn add<K: Keeper, P: Spawner>(
+    /// Adds an entry: first all room is taken, in the history, in the state and in what is solved; then the spawner or the keeper is
+    /// told; and then the event happens and its region is solved again. Where one of them fails or memory runs out, all is as before.
+    pub fn add<H: Holding>(
         &mut self,
         alloc: Global,
-        keeper: &mut K,
-        spawner: &mut P,
+        held: &mut Held<H>,
         event: Event,
         token: &[u8],
     ) -> Result<(), OrderFault>
         requires fits { EventFits (state_of self.old) event }
         requires room { length self.old.entries < 1000000 }
         ensures start { self.new.start ≡ self.old.start }
-        ensures stored { IsStored (K.keeping keeper.old) (state_of self.old).tables
-            → IsStored (K.keeping keeper.new) (state_of self.new).tables }
-        ensures adds { AddsEntry self.old.entries self.new.entries
-            (record { spawns = P.spawns spawner.old; keeping = K.keeping keeper.old })
-            (record { spawns = P.spawns spawner.new; keeping = K.keeping keeper.new })
-            event token.now result }
+        ensures entries { self.new.entries ≡ self.old.entries ++ entry_of event result }
+        ensures told { Told held.old held.new event token.now result }
+        ensures stored { IsStored held.old.keeping (state_of self.old).tables
+            → IsStored held.new.keeping (state_of self.new).tables }
     {
-        add_entry(
-            alloc,
-            &mut self.state,
-            &mut self.solution,
-            &mut self.entries,
-            keeper,
-            spawner,
-            event,
-            token,
-        )
+        make_room(&mut self.entries)?;
+        let Ready {
+            staged,
+            row,
+            region,
+        } = make_ready(alloc, &self.state, &mut self.solution, &event)?;
+        match tell(alloc, held, &event, row, token) {
+            Ok(()) => {
+                happen(
+                    &mut self.state,
+                    &mut self.solution,
+                    &mut self.entries,
+                    staged,
+                    region,
+                    event,
+                );
+                Ok(())
+            }
+            Err(fault) => {
+                take_back(&mut self.solution, staged, region);
+                drop(event);
+                Err(fault)
+            }
+        }
     }
 }

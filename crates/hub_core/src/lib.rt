@@ -1,7 +1,6 @@
 //! The hub: one value that holds a history and what each node holds at its end, and answers keys and orders by that.
 #![tactic(auto)]
 
-mod adding;
 mod answering;
 mod desk;
 mod held;

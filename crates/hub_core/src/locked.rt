@@ -1,27 +1,24 @@
 //! One value that holds a history, the objects beside it, and the sites.
 
-ghost use Rattle.std.specs.Prelude.{◌≡◌, ◌<◌, ◌≤◌, [], length, true, false, IfOk, IfErr};
+ghost use Rattle.std.specs.Prelude.{◌≡◌, ◌<◌, ◌≤◌, [], length, IfOk, IfErr};
 ghost use Rattle.desk_base.specs.Terms.{IsSolutionOf, IsWellFormed, replay};
 ghost use Rattle.session_table.specs.Verdict.{IsVerdict};
-ghost use Rattle.desk_orders.specs.Commands as commands;
-ghost use Rattle.desk_orders.specs.Listing.{IsListed};
 ghost use Rattle.hub_core.specs.Book.{Ordered};
 ghost use Rattle.site_caps.specs.Answering.{GivesText};
-ghost use Rattle.hub_core.specs.Inner.Answering.{AnsweredBy, reply_of};
 ghost use Rattle.hub_core.specs.Opening.{IsOpenedOn, IsClosedOn};
 ghost use Rattle.hub_core.specs.Revoking.{TakesAway, Spares};
 ghost use Rattle.hub_core.specs.Sharing.{book_of};
 ghost use Rattle.row_tables.specs.Kept.{IsStored};
 
-use crate::answering::answer_with_sites;
+use crate::answering::answer;
 use crate::held::{Held, Holding};
 use crate::history::History;
 use crate::opening::{NotOpened, OpenFault, load_tables};
-use desk_orders::{Order, OrderFault, Reply, list_options, lists};
+use desk_orders::{Order, OrderFault, Reply};
 use host_base::{Key, Memory, Verdict};
 use least_access::Solved;
 use session_table::verdict;
-use share_graph::{DeskFault, Rows, State, Tables};
+use share_graph::{Rows, State, Tables};
 use site_caps::{Registry, SiteDriver, SiteFault, SiteText};
 use std::alloc::Global;
 use std::marker::Model;
@@ -170,55 +167,22 @@ impl<H: Holding, C: SiteDriver + Drop> Locked<H, C> {
         }
     }
 
-    // Answers an order that asks for a list.
-    fn list(&self, alloc: Global, order: &Order) -> Result<Reply, OrderFault>
-        requires { commands.lists order.now.command ≡ true }
-        ensures formed { IsWellFormed (replay self.now.start self.now.history) }
-        ensures listed { (outcome : _) × IsListed C.Law.law (replay self.now.start self.now.history) order.now
-            outcome × (result ≡ reply_of outcome) }
-        ensures stored { IsStored self.now.holds.keeping (replay self.now.start self.now.history).tables }
-    {
-        match list_options(
-            alloc,
-            self.history.state(),
-            self.history.solved(),
-            &self.sites,
-            order,
-        ) {
-            Ok(list) => Ok(Reply::Options(list)),
-            Err(fault) => match fault {
-                DeskFault::Refused(refusal) => Ok(Reply::Refused(refusal)),
-                DeskFault::Memory => Err(OrderFault::Memory),
-            },
-        }
-    }
-
-    // Answers an order that asks for no list.
-    fn carry_out(&mut self, alloc: Global, order: &Order) -> Result<Reply, OrderFault>
-        requires { commands.lists order.now.command ≡ false }
-        ensures formed { IsWellFormed (replay self.old.start self.old.history) }
-        ensures answered { AnsweredBy C.Law.law
-            (record { start = self.old.start; entries = self.old.history })
-            (record { start = self.new.start; entries = self.new.history })
-            self.old.holds self.new.holds order.now result }
-        ensures stored { IsStored self.new.holds.keeping (replay self.new.start self.new.history).tables }
-    {
-        answer_with_sites(alloc, &mut self.history, &mut self.held, &self.sites, order)
-    }
-
     /// Answers an order at the end of the history. Where it changes something, its event is the next entry, and the keeper has
     /// the row that it adds or changes; a refusal, a fault and want of memory leave the history and the rows as they were. Where
     /// the entry revokes a grant, a fact is held from there on exactly where it had a derivation that doesn't use the grant.
+    #[tactic(auto, using(crate::proofs::Revoking::takes_away))]
     pub fn order(&mut self, alloc: Global, order: Order) -> Result<Reply, OrderFault>
         ensures ordered { Ordered (book_of C.Law.law self.old) (book_of C.Law.law self.new) order
             (length self.old.history) result }
         ensures revoked { TakesAway self.old.start self.old.history self.new.history }
         ensures stored { IsStored self.new.holds.keeping (replay self.new.start self.new.history).tables }
     {
-        if lists(&order) {
-            self.list(alloc, &order)
-        } else {
-            self.carry_out(alloc, &order)
-        }
+        answer(
+            alloc,
+            &mut self.history,
+            &mut self.held,
+            &self.sites,
+            &order,
+        )
     }
 }

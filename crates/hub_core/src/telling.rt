@@ -1,12 +1,11 @@
 //! What is told outwards of an event.
 
-ghost use Rattle.std.specs.Prelude.{◌≡◌, ◌≤◌, ℕ, List, IfErr, OnOk, OnErr};
-ghost use Rattle.desk_base.specs.Terms.{Rose};
-ghost use Rattle.cloud_keeper.specs.Keeping.{RowsFollow, put};
+ghost use Rattle.std.specs.Prelude.{ℕ, List, Some};
+ghost use Rattle.cloud_keeper.specs.Keeping.{RowsFollow};
 ghost use Rattle.share_graph.specs.declared.event.Event.TheVariants as event;
-ghost use Rattle.desk_orders.specs.declared.reply.OrderFault.TheVariants as fault;
-ghost use Rattle.hub_core.specs.Inner.Adding.{HasItsRow, IsStoreOrMemory, Starts, StoresRow, TellsOuter};
+ghost use Rattle.hub_core.specs.Inner.{HasItsRow, Told, ToldKeeper, ToldSpawner, kept_by};
 
+use crate::held::{Held, Holding};
 use cloud_keeper::{KeepFault, Keeper, Row};
 use desk_orders::OrderFault;
 use grain_supervise::{Spawner, StartFault};
@@ -21,7 +20,7 @@ fn start<P: Spawner>(
     run: &Run,
     token: &[u8],
 ) -> Result<(), OrderFault>
-    ensures { Starts (P.spawns spawner.old) (P.spawns spawner.new) (event.RunStarted run.now) token.now
+    ensures { ToldSpawner (P.spawns spawner.old) (P.spawns spawner.new) (event.RunStarted run.now) token.now
         result }
 {
     match spawner.start(alloc, run.num, run.grain, token) {
@@ -33,7 +32,7 @@ fn start<P: Spawner>(
 
 // Stops a run.
 fn stop<P: Spawner>(alloc: Global, spawner: &mut P, run: RunId) -> Result<(), OrderFault>
-    ensures { (token : List ℕ) → Starts (P.spawns spawner.old) (P.spawns spawner.new)
+    ensures { (token : List ℕ) → ToldSpawner (P.spawns spawner.old) (P.spawns spawner.new)
         (event.RunStopped run) token result }
 {
     match spawner.stop(alloc, run) {
@@ -51,7 +50,7 @@ fn tell_spawner<P: Spawner>(
     event: &Event,
     token: &[u8],
 ) -> Result<(), OrderFault>
-    ensures { Starts (P.spawns spawner.old) (P.spawns spawner.new) event.now token.now result }
+    ensures { ToldSpawner (P.spawns spawner.old) (P.spawns spawner.new) event.now token.now result }
 {
     match event {
         Event::RunStarted(run) => start(alloc, spawner, run, token),
@@ -64,14 +63,10 @@ fn tell_spawner<P: Spawner>(
     }
 }
 
-// Has the keeper keep a row. Where that fails its rows are as before.
+// Has the keeper keep the row of an event. Where that fails its rows are as before.
 fn keep<K: Keeper>(alloc: Global, keeper: &mut K, row: &Row) -> Result<(), OrderFault>
-    ensures kept { OnOk result (RowsFollow (K.keeping keeper.old) (K.keeping keeper.new) (put row.now)) }
-    ensures same { OnErr result (RowsFollow (K.keeping keeper.old) (K.keeping keeper.new) (λ rows. rows)) }
-    ensures counts { (K.keeping keeper.old).faults ≤ (K.keeping keeper.new).faults }
-    ensures cause { IfErr result (λ why. why ≡ fault.Store
-        → Rose (K.keeping keeper.old).faults (K.keeping keeper.new).faults) }
-    ensures fault_is { IfErr result IsStoreOrMemory }
+    ensures told { ToldKeeper (K.keeping keeper.old) (K.keeping keeper.new) result }
+    ensures rows { RowsFollow (K.keeping keeper.old) (K.keeping keeper.new) (kept_by (Some row.now) result) }
 {
     match keeper.commit(alloc, row) {
         Ok(()) => Ok(()),
@@ -82,22 +77,19 @@ fn keep<K: Keeper>(alloc: Global, keeper: &mut K, row: &Row) -> Result<(), Order
 
 /// Tells the outside of an event: the keeper its row, where it has one, and else the spawner what it wants of it. Where that fails
 /// nothing was kept, started or stopped.
-pub fn tell<K: Keeper, P: Spawner>(
+pub fn tell<H: Holding>(
     alloc: Global,
-    keeper: &mut K,
-    spawner: &mut P,
+    held: &mut Held<H>,
     event: &Event,
-    row: &Option<Row>,
+    row: Option<Row>,
     token: &[u8],
 ) -> Result<(), OrderFault>
-    requires { HasItsRow event.now row.now }
-    ensures tells { TellsOuter (record { spawns = P.spawns spawner.old; keeping = K.keeping keeper.old })
-        (record { spawns = P.spawns spawner.new; keeping = K.keeping keeper.new }) event.now
-        token.now result }
-    ensures stores { StoresRow (K.keeping keeper.old) (K.keeping keeper.new) row.now result }
+    requires { HasItsRow event.now row }
+    ensures told { Told held.old held.new event.now token.now result }
+    ensures rows { RowsFollow held.old.keeping held.new.keeping (kept_by row result) }
 {
     match row {
-        Some(row) => keep(alloc, keeper, row),
-        None => tell_spawner(alloc, spawner, event, token),
+        Some(row) => keep(alloc, &mut held.keeper, &row),
+        None => tell_spawner(alloc, &mut held.spawner, event, token),
     }
 }

@@ -1,30 +1,29 @@
-use Rattle.std.proofs.Common.{◌<◌, length, subst, sym}
-use Rattle.desk_base.specs.Terms.{EventFits, State}
-use Rattle.hub_core.specs.Sharing.{Past, state_of}
-use Rattle.row_tables.specs.Kept.{IsStored}
-use Rattle.hub_core.proofs.Keeping.{holds_by, entry_of, same_of}
+use Rattle.std.proofs.Common.{◌++◌, [], ◌∷◌, ◌∙◌, ap, append-nil, List, Ok, Err, sym}
+use Rattle.desk_base.specs.Terms.{Event}
+use Rattle.hub_core.proofs.Adding.{keeps_added, stored_told}
 use Rattle.hub_core.proofs.history.History.add.Goals as goal
 
-pub invariant_of-self : goal.invariant_of-self
-invariant_of-self g c =
+pub invariant_of-self-in-Ok : goal.invariant_of-self-in-Ok
+invariant_of-self-in-Ok g c =
     let old = c.self.inside in
-    let is = c.self.invariant in
-    let fits = subst (λ (p : Past). EventFits (state_of p) c.args.event) (sym c.self.view_is) c.requires.fits in
-    let room = subst (λ (p : Past). length p.entries < 1000000) (sym c.self.view_is) c.requires.room in
-    holds_by old.start old.state old.entries.items is.replayed is.sessions c.add_entry.new.state c.add_entry.new.entries.items c.add_entry.new.solution c.args.event c.add_entry.result
-    is.formed (subst (λ (s : State). EventFits s c.args.event) (sym is.replayed) fits) room c.add_entry.ensures.state (entry_of _ _ _ _ _ _ c.add_entry.result c.add_entry.ensures.adds) c.add_entry.ensures.solved
-    c.add_entry.ensures.same_state (same_of _ _ _ _ _ _ c.add_entry.result c.add_entry.ensures.adds) c.add_entry.ensures.same_solved
+    keeps_added old.start old.state old.entries.items old.solution c.self.invariant c.happen.new.state
+    c.happen.new.entries.items c.happen.new.solution c.args.event
+    (rw c.self.invariant.replayed (rw (← c.self.view_is) at c.requires.fits)) (rw (← c.self.view_is) at c.requires.room)
+    c.happen.ensures.state
+    (c.happen.ensures.entry ∙ ap (λ (xs : List Event). xs ++ c.args.event ∷ []) c.make_room.ensures.same) c.happen.ensures.solved
 
-pub returns-clause-stored : goal.returns-clause-stored
-returns-clause-stored g c has =
+pub returns-in-Ok-clause-stored : goal.returns-in-Ok-clause-stored
+returns-in-Ok-clause-stored g c =
     let old = c.self.inside in
-    let is = c.self.invariant in
-    let fits = subst (λ (p : Past). EventFits (state_of p) c.args.event) (sym c.self.view_is) c.requires.fits in
-    let room = subst (λ (p : Past). length p.entries < 1000000) (sym c.self.view_is) c.requires.room in
-    let kept = holds_by old.start old.state old.entries.items is.replayed is.sessions c.add_entry.new.state c.add_entry.new.entries.items c.add_entry.new.solution c.args.event c.add_entry.result
-    is.formed (subst (λ (s : State). EventFits s c.args.event) (sym is.replayed) fits) room c.add_entry.ensures.state (entry_of _ _ _ _ _ _ c.add_entry.result c.add_entry.ensures.adds) c.add_entry.ensures.solved
-    c.add_entry.ensures.same_state (same_of _ _ _ _ _ _ c.add_entry.result c.add_entry.ensures.adds) c.add_entry.ensures.same_solved in
-    subst (λ (s : State). IsStored (g.K.Keeper.keeping c.add_entry.new.keeper) s.tables) kept.replayed
-    (c.add_entry.ensures.stored
-    (subst (λ (s : State). IsStored (g.K.Keeper.keeping c.args.keeper.now) s.tables) (sym is.replayed)
-    (subst (λ (p : Past). IsStored (g.K.Keeper.keeping c.args.keeper.now) (state_of p).tables) (sym c.self.view_is) has)))
+    rw (← c.self.view_is) (stored_told c.args.held.now.keeping c.tell.new.held.keeping old.start old.state old.entries.items
+    c.happen.new.entries.items c.args.event c.in_ok-staged.field-0.row (Ok c.in-Ok.field-0) c.self.invariant.replayed
+    (c.happen.ensures.entry ∙ ap (λ (xs : List Event). xs ++ c.args.event ∷ []) c.make_room.ensures.same) c.self.invariant.formed
+    (rw c.self.invariant.replayed (rw (← c.self.view_is) at c.requires.fits)) c.in_ok-staged.ensures.kept c.in-Ok.ensures.rows)
+
+pub returns-in-Err-clause-stored : goal.returns-in-Err-clause-stored
+returns-in-Err-clause-stored g c =
+    let old = c.self.inside in
+    rw (← c.self.view_is) (stored_told c.args.held.now.keeping c.tell.new.held.keeping old.start old.state old.entries.items
+    c.make_room.new.entries.items c.args.event c.in_ok-staged.field-0.row (Err c.in-Err.fault) c.self.invariant.replayed
+    (c.make_room.ensures.same ∙ sym (append-nil old.entries.items)) c.self.invariant.formed
+    (rw c.self.invariant.replayed (rw (← c.self.view_is) at c.requires.fits)) c.in_ok-staged.ensures.kept c.in-Err.ensures.rows)
