@@ -3,7 +3,7 @@
 ghost use Rattle.std.specs.Prelude.{◌≡◌};
 ghost use Rattle.app_manifest.specs.declared.fault.ManifestError.TheVariants.{Fault, Memory};
 
-use std::alloc::{AllocError, AllocFailed};
+use std::alloc::AllocError;
 use thiserror::Error;
 
 /// Why bytes state no manifest, or why a manifest may not take the place of another.
@@ -99,14 +99,6 @@ impl From<AllocError> for ManifestError {
     ghost from_gives = { λ _ error. error ≡ Memory };
 
     fn from(_error: AllocError) -> ManifestError {
-        ManifestError::Memory
-    }
-}
-
-impl<T: Drop> From<AllocFailed<T>> for ManifestError {
-    ghost from_gives = { λ _ error. error ≡ Memory };
-
-    fn from(_error: AllocFailed<T>) -> ManifestError {
         ManifestError::Memory
     }
 }

@@ -1,6 +1,6 @@
 //! Roles, when their lists of booleans become sets.
 
-ghost use Rattle.std.specs.Prelude.{◌≡◌, ◌<◌, ◌≤◌, length, map, Some, None, MatchOption, IfSome, IfOk, IfErr, option_map};
+ghost use Rattle.std.specs.Prelude.{◌≡◌, ◌<◌, ◌≤◌, ◌++◌, ◌∷◌, [], length, map, Some, None, MatchOption, IfSome, IfOk, OnOk, IfErr, option_map};
 ghost use Rattle.app_manifest.specs.Fault.{OnFault};
 ghost use Rattle.app_manifest.specs.Checks.{long_set};
 ghost use Rattle.app_manifest.specs.Manifest.{role_of_draft};
@@ -9,7 +9,7 @@ ghost use Rattle.app_manifest.specs.ReadParts.{role_draft};
 use crate::fault::{ManifestError, ManifestFault};
 use crate::read::ReadRole;
 use perm_roles::{PermSet, Role};
-use std::alloc::Global;
+use std::alloc::{AllocError, Global};
 
 // The role with its set, unless its list is longer than a number of permissions.
 fn role_with_set(role: ReadRole, count: u8) -> Option<Role>
@@ -34,6 +34,14 @@ fn role_with_set(role: ReadRole, count: u8) -> Option<Role>
     })
 }
 
+// Appends a role.
+fn push_role(roles: &mut Vec<Role>, role: Role) -> Result<(), AllocError>
+    ensures { OnOk result (roles.new.items ≡ roles.old.items ++ role ∷ []) }
+{
+    roles.push(role)?;
+    Ok(())
+}
+
 /// The roles with their sets, or the first whose list is longer than a number of permissions.
 pub(crate) fn roles_from(
     alloc: Global,
@@ -51,7 +59,7 @@ pub(crate) fn roles_from(
         let Some(role) = role_with_set(read_role, count) else {
             return Err(ManifestError::Fault(ManifestFault::LongSet(roles.len())));
         };
-        roles.push(role)?;
+        push_role(&mut roles, role)?;
     }
     Ok(roles)
 }

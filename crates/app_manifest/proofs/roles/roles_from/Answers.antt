@@ -20,8 +20,8 @@ returns-in_default-clause-fault c =
 pub loop-read_role-preserved : goal.loop-read_role-preserved
 loop-read_role-preserved c = record {
   short = first_long_more _ c.loop-read_role.yielded c.in-Some.read_role c.loop-read_role.invariant.short c.in-Some-role_with_set.ensures.long;
-  roles = rw c.in_ok-push.ensures.items (roles_more c.loop-read_role.yielded c.loop-read_role.roles.items c.in-Some.read_role c.in-Some-role_with_set.role c.loop-read_role.invariant.roles c.in-Some-role_with_set.ensures.role);
-  count = rw c.in_ok-push.ensures.items (omega (arith, length-append c.loop-read_role.roles.items (c.in-Some-role_with_set.role ∷ []), length-append c.loop-read_role.yielded (c.in-Some.read_role ∷ []), c.loop-read_role.invariant.count));
+  roles = rw c.in_ok-push_role.ensures (roles_more c.loop-read_role.yielded c.loop-read_role.roles.items c.in-Some.read_role c.in-Some-role_with_set.role c.loop-read_role.invariant.roles c.in-Some-role_with_set.ensures.role);
+  count = rw c.in_ok-push_role.ensures (omega (arith, length-append c.loop-read_role.roles.items (c.in-Some-role_with_set.role ∷ []), length-append c.loop-read_role.yielded (c.in-Some.read_role ∷ []), c.loop-read_role.invariant.count));
 }
 
 pub returns-clause-ok : goal.returns-clause-ok
