@@ -7,18 +7,20 @@ use Rattle.share_graph.specs.Setting.{with_admin, with_enabled}
 use Rattle.share_graph.proofs.Contained.{contains_at, listed_row, place_of, row_listed}
 use Rattle.share_graph.proofs.Marked.{change_row_other}
 use Rattle.state_step.proofs.Touched.{change_row_touches, each_touched, numbered_touched, touched_listed}
-use Rattle.account_desk.specs.Rows.{IsEnabledAdmin, IsOnlyAdmin}
+use Rattle.account_desk.specs.Rows.{IsEnabledAdmin, IsOnlyAdmin, LeavesNoAdmin, mark_set}
+use Rattle.account_desk.specs.declared.admins.Mark.{Mark}
+use Rattle.account_desk.specs.declared.admins.Mark.TheVariants as mark
 
 -- f sets a mark, with which an enabled admin stays one, and without which there is none
-pub record Marks (f : Bool → Account → Account) : Type 0 where
+record Marks (f : Bool → Account → Account) : Type 0 where
   num : (on : Bool) (x : Account) → (f on x).num ≡ x.num
   on : (x : Account) → IsEnabledAdmin x → IsEnabledAdmin (f true x)
   off : (x : Account) → IsEnabledAdmin (f false x) → ⊥
 
-pub admin_mark : Marks with_admin
+admin_mark : Marks with_admin
 admin_mark = record { num = λ on x. refl; on = λ x (enabled, admin). (enabled, refl); off = λ x (enabled, admin). cc }
 
-pub enabled_mark : Marks with_enabled
+enabled_mark : Marks with_enabled
 enabled_mark = record { num = λ on x. refl; on = λ x (enabled, admin). (refl, admin); off = λ x (enabled, admin). cc }
 
 -- the row of the changed number was changed
@@ -33,8 +35,8 @@ account_id x y same = ap (λ (n : ℕ). let i : AccountId = record { 0 = n } in 
 
 module _ (s : State) (a : AccountId) (f : Bool → Account → Account) (mark : Marks f) where
   -- with the mark an admin is left
-  pub some_left : (IsNoneOf s.tables.accounts IsEnabledAdmin → ⊥) → IsNoneOf (change_row (f true) s.tables.accounts a.0) IsEnabledAdmin → ⊥
-  some_left some none = some λ x listed is.
+  some_marked : (IsNoneOf s.tables.accounts IsEnabledAdmin → ⊥) → IsNoneOf (change_row (f true) s.tables.accounts a.0) IsEnabledAdmin → ⊥
+  some_marked some none = some λ x listed is.
       let (y, there, same) = touched_listed (f true) s.tables.accounts (change_row (f true) s.tables.accounts a.0) (change_row_touches (f true) s.tables.accounts a.0) x listed in
       none y there (elim same [
         | inl e ↦ subst (λ (z : Account). IsEnabledAdmin z) e is
@@ -67,5 +69,17 @@ module _ (s : State) (formed : IsWellFormed s) (a : AccountId) (f : Bool → Acc
       ]
 
   -- without it none is where no other account is an enabled admin
-  pub only_left : (test : Bool) → IsTrue test ↔ All (IsOnlyAdmin a) s.tables.accounts → IsTrue test ↔ IsNoneOf (change_row (f false) s.tables.accounts a.0) IsEnabledAdmin
-  only_left test tells = (λ yes. none_left (tells.0 yes), λ none. tells.1 (only_admin none))
+  only_marked : (test : Bool) → IsTrue test ↔ All (IsOnlyAdmin a) s.tables.accounts → IsTrue test ↔ IsNoneOf (change_row (f false) s.tables.accounts a.0) IsEnabledAdmin
+  only_marked test tells = (λ yes. none_left (tells.0 yes), λ none. tells.1 (only_admin none))
+
+-- and so it is after the event of either mark
+module _ (s : State) (a : AccountId) where
+  pub some_left : (m : Mark) → (IsNoneOf s.tables.accounts IsEnabledAdmin → ⊥) → LeavesNoAdmin s.tables (mark_set m a true) → ⊥
+  unfolding LeavesNoAdmin
+  some_left mark.Admin = some_marked s a with_admin admin_mark
+  some_left mark.Enabled = some_marked s a with_enabled enabled_mark
+
+  pub only_left : (m : Mark) → IsWellFormed s → (test : Bool) → IsTrue test ↔ All (IsOnlyAdmin a) s.tables.accounts → IsTrue test ↔ LeavesNoAdmin s.tables (mark_set m a false)
+  unfolding LeavesNoAdmin
+  only_left mark.Admin formed = only_marked s formed a with_admin admin_mark
+  only_left mark.Enabled formed = only_marked s formed a with_enabled enabled_mark

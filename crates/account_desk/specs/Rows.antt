@@ -1,9 +1,12 @@
--- The rows that the commands add, and the tests of this desk alone.
-use Rattle.std.specs.Prelude.{◌≡◌, ℕ, List, true, false}
+-- The rows that the commands add, the marks that they set, and the tests of this desk alone.
+use Rattle.std.specs.Prelude.{◌≡◌, ℕ, Bool, List, true, false}
 use Rattle.desk_base.specs.Terms.{Account, AccountId, App, AppId, Digest, Event, Grain, HasHandle, IsNoneOf, IsOneOf}
 use Rattle.desk_base.specs.Terms.{Manifest, Refusal, Tables, tables_after}
+use Rattle.share_graph.specs.declared.event.Event.TheVariants.{AdminSet, EnabledSet}
 use Rattle.share_graph.specs.declared.refusal.Refusal.TheVariants.{HandleTaken}
 use Rattle.desk_base.specs.Made.{next}
+use Rattle.account_desk.specs.declared.admins.Mark.{Mark}
+use Rattle.account_desk.specs.declared.admins.Mark.TheVariants as mark
 
 -- a new account is enabled, and no admin
 abbrev pub new_account : Tables → List ℕ → List ℕ → Digest → Account
@@ -30,3 +33,12 @@ IsOnlyAdmin a account = IsEnabledAdmin account → account.num ≡ a
 -- after the event no account is an enabled admin
 unfoldable pub LeavesNoAdmin : Tables → Event → Type 0
 LeavesNoAdmin t e = IsNoneOf (tables_after t e).accounts IsEnabledAdmin
+
+-- whether the account has the mark, and the event that sets it
+abbrev pub has_mark : Mark → Account → Bool
+has_mark mark.Admin account = account.admin
+has_mark mark.Enabled account = account.enabled
+
+abbrev pub mark_set : Mark → AccountId → Bool → Event
+mark_set mark.Admin a on = AdminSet a on
+mark_set mark.Enabled a on = EnabledSet a on
