@@ -7,11 +7,11 @@ use Rattle.share_graph.specs.declared.fault.Kind.TheVariants as kind
 use Rattle.state_step.proofs.AccountLaws.{account_added_fits, admin_set_fits, enabled_set_fits}
 use Rattle.state_step.proofs.AppLaws.{app_added_fits}
 use Rattle.state_step.proofs.GrainLaws.{grain_added_fits, trashed_set_fits}
-use Rattle.desk_base.specs.Fitting.{RowFits}
+use Rattle.desk_base.specs.Fitting.{RowFits, StartsNoRun}
 use Rattle.desk_base.specs.Made.{nothing_made, made_account, made_app, made_grain}
-use Rattle.desk_base.specs.Steps.{Step, Plain, Drawn}
+use Rattle.desk_base.specs.Steps.{Step, Drawn}
 use Rattle.desk_base.specs.Wording.{by_admin}
-use Rattle.desk_base.proofs.FitForms.{when_fits, unless_fits, must_fits, found_fits, some_fits, adds_fits}
+use Rattle.desk_base.proofs.FitForms.{when_fits, unless_fits, must_fits, found_fits, some_fits, adds_fits, plain_adds}
 use Rattle.desk_base.proofs.Room.{room_of}
 use Rattle.desk_base.proofs.Words.{listed_account}
 use Rattle.account_desk.specs.Commands.{AddAccount, SetMark, SetAdmin, SetEnabled, AddApp, NewGrain, Trash}
@@ -29,24 +29,25 @@ module _ (s : State) (formed : IsWellFormed s) (who : Caller) where
       account_added_fits s formed (new_account s.tables handle name d)
       (record { num = refl; room = room_of kind.Account 4096 _ room; formed = named; free = free; unused = unused })
 
-  mark_fits : (mark : Account → Bool) (event : AccountId → Bool → Event) (a : AccountId) (on : Bool) → (HasAccount s.tables a → EventFits s (event a on)) → RowFits s false (SetMark mark event s who a on)
-  mark_fits mark event a on fits =
+  mark_fits : (mark : Account → Bool) (event : AccountId → Bool → Event) (a : AccountId) (on : Bool) → StartsNoRun (event a on) → (HasAccount s.tables a → EventFits s (event a on))
+      → RowFits s false (SetMark mark event s who a on)
+  mark_fits mark event a on quiet fits =
       admin_fits λ admin.
       found_fits s tt λ account there.
       when_fits s tt λ differs.
       when_fits s tt λ some_left.
-      adds_fits s (Plain (event a on)) nothing_made λ room. fits (account, there)
+      plain_adds s (event a on) quiet nothing_made λ room. fits (account, there)
 
   pub set_admin_fits : (a : AccountId) (on : Bool) → RowFits s false (SetAdmin s who a on)
-  set_admin_fits a on = mark_fits _ AdminSet a on (admin_set_fits s formed a on)
+  set_admin_fits a on = mark_fits _ AdminSet a on tt (admin_set_fits s formed a on)
 
   pub set_enabled_fits : (a : AccountId) (on : Bool) → RowFits s false (SetEnabled s who a on)
-  set_enabled_fits a on = mark_fits _ EnabledSet a on (enabled_set_fits s formed a on)
+  set_enabled_fits a on = mark_fits _ EnabledSet a on tt (enabled_set_fits s formed a on)
 
   pub add_app_fits : (manifest : Manifest) → IsSoundManifest manifest → RowFits s false (AddApp s who manifest)
   add_app_fits manifest sound =
       admin_fits λ admin.
-      adds_fits s (Plain (AppAdded (new_app s.tables manifest))) (made_app s.tables) λ room.
+      plain_adds s (AppAdded (new_app s.tables manifest)) tt (made_app s.tables) λ room.
       app_added_fits s formed (new_app s.tables manifest) (record { num = refl; room = room_of kind.App 256 _ room; sound = sound })
 
   pub new_grain_fits : (app : AppId) (title : List ℕ) → RowFits s false (NewGrain s who app title)
@@ -54,7 +55,7 @@ module _ (s : State) (formed : IsWellFormed s) (who : Caller) where
       some_fits s tt λ owner is.
       unless_fits s tt λ enabled.
       found_fits s tt λ row is_app.
-      adds_fits s (Plain (GrainAdded (new_grain s.tables app owner.num title))) (made_grain s.tables) λ room.
+      plain_adds s (GrainAdded (new_grain s.tables app owner.num title)) tt (made_grain s.tables) λ room.
       grain_added_fits s formed (new_grain s.tables app owner.num title) (record {
         num = refl;
         room = room_of kind.Grain 16384 _ room;
@@ -68,5 +69,5 @@ module _ (s : State) (formed : IsWellFormed s) (who : Caller) where
       found_fits s tt λ grain there.
       unless_fits s tt λ owned.
       when_fits s tt λ differs.
-      adds_fits s (Plain (TrashedSet n on)) nothing_made λ room.
+      plain_adds s (TrashedSet n on) tt nothing_made λ room.
       trashed_set_fits s formed n on (grain, there)

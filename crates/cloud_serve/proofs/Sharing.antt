@@ -135,6 +135,7 @@ module _ (law : Law) (start : State) (old new : Passing Event Verdict) where
     accepted = orders;
     draws = draws_unknown lawful.drawn;
     spawned = record { starts = λ told is. absurd (cc is); stops = λ told is. absurd (cc is) };
+    tokens = lawful.tokens;
     counted = counted_by answer faults lawful.faults_are counts;
   }
 

@@ -11,8 +11,7 @@ ghost use Rattle.cloud_serve.specs.Sharing.{book_by};
 use desk_orders::{Order, OrderFault, Reply};
 use epoch_gate::{Hub, Named, Pass};
 use host_base::{Key, Memory, Verdict};
-use hub_core::{Desk, Holding, Locked, Told, Wanted};
-use share_graph::State;
+use hub_core::{Desk, Holding, Locked, SharedHistory, Told, Wanted};
 use site_caps::{SiteDriver, SiteFault, SiteText};
 use std::alloc::Global;
 use std::marker::Model;
@@ -30,14 +29,14 @@ fn verdict_copy(verdict: &Verdict) -> Result<Verdict, Memory>
 }
 
 /// A desk that shares its history with others, by a pass of their hub.
-pub struct PassDesk<'a, H: Holding, C: SiteDriver + Drop, N: Named<State>, L: Ledger, R> {
+pub struct PassDesk<'a, H: Holding, C: SiteDriver + Drop, N: Named<Locked<H, C>>, L: Ledger, R> {
     rt: &'a R,
-    hub: &'a Hub<Locked<H, C>, N, L>,
-    pass: Pass<Locked<H, C>, N, L>,
+    hub: &'a Hub<SharedHistory<H, C>, N, L>,
+    pass: Pass<SharedHistory<H, C>, N, L>,
 }
 
 // Written by hand, as that of `State` is.
-impl<'a, H: Holding, C: SiteDriver + Drop, N: Named<State>, L: Ledger, R> Drop
+impl<'a, H: Holding, C: SiteDriver + Drop, N: Named<Locked<H, C>>, L: Ledger, R> Drop
     for PassDesk<'a, H, C, N, L, R> {
     fn drop(self) {
         let PassDesk {
@@ -48,7 +47,7 @@ impl<'a, H: Holding, C: SiteDriver + Drop, N: Named<State>, L: Ledger, R> Drop
     }
 }
 
-impl<'a, H: Holding, C: SiteDriver + Drop, N: Named<State>, L: Ledger, R> Model
+impl<'a, H: Holding, C: SiteDriver + Drop, N: Named<Locked<H, C>>, L: Ledger, R> Model
     for PassDesk<'a, H, C, N, L, R> {
     ghost use Rattle.std.specs.Coded.{codes};
     ghost use Rattle.share_graph.specs.contracts.event.Event as event_type;
@@ -63,7 +62,7 @@ impl<'a, H: Holding, C: SiteDriver + Drop, N: Named<State>, L: Ledger, R> Model
     ghost view = { λ desk. desk.pass };
 }
 
-impl<'a, H: Holding, C: SiteDriver + Drop, N: Named<State>, L: Ledger, R> PassDesk<
+impl<'a, H: Holding, C: SiteDriver + Drop, N: Named<Locked<H, C>>, L: Ledger, R> PassDesk<
     'a,
     H,
     C,
@@ -72,14 +71,18 @@ impl<'a, H: Holding, C: SiteDriver + Drop, N: Named<State>, L: Ledger, R> PassDe
     R,
 > {
     /// A desk of a pass. It waits by a handle for the hub's lock.
-    pub fn new(rt: &'a R, hub: &'a Hub<Locked<H, C>, N, L>, pass: Pass<Locked<H, C>, N, L>) -> Self
+    pub fn new(
+        rt: &'a R,
+        hub: &'a Hub<SharedHistory<H, C>, N, L>,
+        pass: Pass<SharedHistory<H, C>, N, L>,
+    ) -> Self
         ensures { result ≡ pass }
     {
         PassDesk { rt, hub, pass }
     }
 
     /// The pass, handed back.
-    pub fn into_pass(self) -> Pass<Locked<H, C>, N, L>
+    pub fn into_pass(self) -> Pass<SharedHistory<H, C>, N, L>
         ensures { result ≡ self.entry }
     {
         let PassDesk {
@@ -91,9 +94,9 @@ impl<'a, H: Holding, C: SiteDriver + Drop, N: Named<State>, L: Ledger, R> PassDe
     }
 }
 
-impl<'a, H: Holding, C: SiteDriver + Drop, N: Named<State>, L: Ledger, R: Wait> Desk
+impl<'a, H: Holding, C: SiteDriver + Drop, N: Named<Locked<H, C>>, L: Ledger, R: Wait> Desk
     for PassDesk<'a, H, C, N, L, R> {
-    ghost book = { λ pass. book_by C.Law.law (start_of blank N.start) pass };
+    ghost book = { λ pass. book_by C.Law.law (start_of blank N.start).start pass };
 
     fn place(&self) -> u64 {
         self.pass.seen()
@@ -101,10 +104,10 @@ impl<'a, H: Holding, C: SiteDriver + Drop, N: Named<State>, L: Ledger, R: Wait> 
 
     /// It makes one load, and waits for nobody where the cache has a verdict on the key with the loaded length as its number.
     fn verdict(&mut self, alloc: Global, key: &Key) -> Result<(u64, Verdict), Memory>
-        ensures none { TakesNone (book_by C.Law.law (start_of blank N.start) self.old)
-            (book_by C.Law.law (start_of blank N.start) self.new) }
+        ensures none { TakesNone (book_by C.Law.law (start_of blank N.start).start self.old)
+            (book_by C.Law.law (start_of blank N.start).start self.new) }
         ensures judged { IfOk result (λ r. Judged (length self.old.seen)
-            (book_by C.Law.law (start_of blank N.start) self.new) key.now r.0 r.1) }
+            (book_by C.Law.law (start_of blank N.start).start self.new) key.now r.0 r.1) }
         ensures load { self.new.loads ≡ self.old.loads + 1 }
         ensures low { IfOk result (λ r. self.new.last ≤ r.0) }
         ensures cached { (kept : _) → lookup (same_key key.now) self.old.cache.entries ≡ Some kept

@@ -4,7 +4,7 @@ use Rattle.desk_base.specs.Terms.{Caller, Event, EventFits, found◌or◌then◌
 use Rattle.desk_base.specs.Terms.{must◌or◌then◌, Node, none, Refusal, some◌of◌or◌then◌, State, unless◌then◌else◌}
 use Rattle.desk_base.specs.Terms.{when◌then◌else◌}
 use Rattle.share_graph.specs.declared.refusal.Refusal.TheVariants.{Denied}
-use Rattle.desk_base.specs.Fitting.{ChangeFits, RowFits}
+use Rattle.desk_base.specs.Fitting.{ChangeFits, RowFits, StartsNoRun}
 use Rattle.desk_base.specs.Limits.{limit_at, adds}
 use Rattle.desk_base.specs.Steps.{Step, Refuses, Keeps, Makes, Change, Plain, refusing}
 use Rattle.desk_base.specs.Wording.{secret_of, by_bearer, access◌of◌then◌, keeps◌of◌showing◌else◌}
@@ -96,7 +96,15 @@ module _ (s : State) {draws : Bool} where
   pub none_fits : RowFits s draws (λ step. ⊥)
   none_fits = record { fits = λ change made never. absurd never }
 
+-- a change without a secret
+pub plain_adds : (s : State) (e : Event) → StartsNoRun e → (made : Made) → (limit_at s (Makes (Plain e) made) ≡ None → EventFits s e) → RowFits s false (adds s (Makes (Plain e) made))
+plain_adds s e quiet made fits = adds_fits s (Plain e) made λ room. (fits room, quiet)
+
 -- which changes fit, by whether the command draws
 pub plain_fits : (s : State) (draws : Bool) (e : Event) → ChangeFits s draws (Plain e) → EventFits s e
-plain_fits s false e is = is
+plain_fits s false e is = is.0
 plain_fits s true e is = absurd is
+
+pub plain_starts_none : (s : State) (draws : Bool) (e : Event) → ChangeFits s draws (Plain e) → StartsNoRun e
+plain_starts_none s false e is = is.1
+plain_starts_none s true e is = absurd is

@@ -2,6 +2,7 @@
 use Rattle.std.specs.Prelude.{ℕ}
 use Rattle.desk_base.specs.Terms.{Digest, EventFits, IsUnused, State}
 use Rattle.desk_base.specs.Accepting.{Ready}
+use Rattle.desk_base.specs.Fitting.{StartsNoRun}
 use Rattle.desk_base.specs.Outcomes.{with_digest, draft_step}
 use Rattle.desk_base.specs.Steps.{Step, Refuses, Keeps, Makes, Plain}
 use Rattle.desk_orders.specs.declared.deciding.Decision.{Decision}
@@ -20,8 +21,8 @@ abbrev pub IsDraft : Decision → Type 0
 IsDraft (decision.Draft draft) = Unit {0}
 IsDraft _ = ⊥
 
--- a change that is decided fits, and a draft with each digest that no row has
+-- a change that is decided fits and starts no run, and a draft fits with each digest that no row has
 abbrev pub FitsIfDecided : State → Decision → Type 0
-FitsIfDecided s (decision.Change e made) = EventFits s e
+FitsIfDecided s (decision.Change e made) = EventFits s e × StartsNoRun e
 FitsIfDecided s (decision.Draft draft) = (d : Digest) → IsUnused s d → EventFits s (with_digest draft.event d)
 FitsIfDecided s _ = Unit {0}

@@ -1,6 +1,7 @@
 //! The book that many threads share.
 
-ghost use Rattle.std.specs.Prelude.{◌≡◌, ◌+◌, ◌<◌, ◌≤◌, [], length, vec_len, IfOk, IfErr, OnOk, OnErr};
+ghost use Rattle.std.specs.Prelude.{◌≡◌, ◌+◌, ◌<◌, ◌≤◌, [], All, length, vec_len, IfOk, IfErr, OnOk, OnErr};
+ghost use mathlib.Core.List.{IsPrefix};
 ghost use Rattle.std.specs.NonZero.{non_zero_usize_get};
 ghost use Rattle.lru.specs.LruCache.{lru_cache};
 ghost use Rattle.epoch_gate.specs.Books.{start_of};
@@ -143,8 +144,8 @@ where
         Note { part }
     }
 
-    /// Hands the book back, where all passes are given. The orders that they count together are as many as the history has
-    /// entries. Where fewer are given than were made, all is handed back.
+    /// Hands the book back, where all passes are given. What each has seen begins the history, and the orders that they count
+    /// together are as many as it has entries. Where fewer are given than were made, all is handed back.
     pub fn close(
         self,
         maker: Maker<T, N, L>,
@@ -154,19 +155,23 @@ where
         ensures few { OnErr result (vec_len passes < maker) }
         ensures start { IfOk result (λ book. T.start book ≡ start_of T.blank N.start) }
         ensures counted { IfOk result (λ book. accepted passes.items ≡ length (T.history book)) }
+        ensures seen { IfOk result (λ book. All (λ pass. IsPrefix pass.seen (T.history book)) passes.items) }
         ensures back { IfErr result (λ back. (back.1 ≡ maker) × (back.2.items ≡ passes.items)) }
     {
         if passes.len() < maker.made() as usize {
             return Err((self, maker, passes));
         }
-        let (known, mut all) = gather(maker, passes);
-        let Hub { word: _, vault } = self;
-        Ok(vault.into_inner().into_book(&known, &mut all))
+        let Hub { word, vault } = self;
+        let mut vault = vault.into_inner();
+        let (known, mut all) = gather(&word, &mut vault, maker, passes);
+        Ok(vault.into_book(&known, &mut all))
     }
 }
 
-// All parts of the ledger together.
+// All parts of the ledger together, of passes that have each seen a beginning of the history.
 fn gather<T: Book, N: Named<T::Start>, L: Ledger>(
+    word: &Word<T::Entry, N>,
+    vault: &mut Vault<T, N, L>,
     maker: Maker<T, N, L>,
     passes: Vec<Pass<T, N, L>>,
 ) -> (Known<L>, Share<L>)
@@ -176,6 +181,8 @@ where
     ensures all { vec_len passes ≡ maker }
     ensures parts { result.1.parts ≡ 65537 }
     ensures counted { result.1.amount ≡ accepted passes.items }
+    ensures same { vault.new ≡ vault.old }
+    ensures seen { All (λ pass. IsPrefix pass.seen vault.old) passes.items }
 {
     let Maker {
         made: _,
@@ -186,12 +193,13 @@ where
     let mut all = share;
     for pass in passes {
         let Pass {
-            part: _,
+            mut part,
             cache: _,
             waits: _,
             share,
             faults: _,
         } = pass;
+        vault.tell(word, &mut part);
         all.merge(share);
     }
     (known, all)

@@ -92,6 +92,14 @@ impl<T: Book, N: Named<T::Start>, L: Ledger> Vault<T, N, L> {
         (faults, answer)
     }
 
+    /// What a part knows begins the history.
+    pub fn tell(&mut self, word: &Word<T::Entry, N>, part: &mut Part<T::Entry, N>)
+        ensures same { self.new ≡ self.old }
+        ensures begins { IsPrefix part.old.seen self.old }
+    {
+        word.tell(&mut self.whole, part);
+    }
+
     /// A part learns the whole history, and how long it is.
     pub fn show(&mut self, word: &Word<T::Entry, N>, part: &mut Part<T::Entry, N>) -> u64
         ensures same { self.new ≡ self.old }

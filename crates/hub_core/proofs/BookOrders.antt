@@ -33,6 +33,16 @@ count_is true added few some none = let not = some refl in omega (arith, few, no
 count_is false added few some none = none refl
 
 module _ (law : Law) (old new : Sharing) (order : Asked) (answer : Result Reply OrderFault) where
+  -- what an order that was answered at the end of a history adds to it
+  pub adds_to : (o : Ordered (book_of law old) (book_of law new) order (length old.history) answer) → new.history ≡ old.history ++ o.added
+  adds_to o =
+      let p = o.placed in
+      let same : old.history ≡ p.before = same_front old.history o.later.more p.before (o.added ++ p.rest) (sym o.later.seen ∙ p.seen ∙ append_assoc p.before o.added p.rest) p.place_is in
+      let long : length new.history ≡ (length p.before + length o.added) + length p.rest =
+      ap length p.seen ∙ length-append (p.before ++ o.added) p.rest ∙ ap (λ (n : ℕ). n + length p.rest) (length-append p.before o.added) in
+      let none : p.rest ≡ [] = nil_from_length p.rest (omega (arith, long, o.accepted, p.place_is)) in
+      rw (p.seen, none, append-nil, same) refl
+
   abbrev Answers : List Event → Type 0
   Answers added = AnswersOrder law (replay old.start old.history) (length old.history) order answer added (faults_of answer)
 
@@ -42,12 +52,9 @@ module _ (law : Law) (old new : Sharing) (order : Asked) (answer : Result Reply 
   acts_by more grew stood o =
       let p = o.placed in
       let same : old.history ≡ p.before = same_front old.history o.later.more p.before (o.added ++ p.rest) (sym o.later.seen ∙ p.seen ∙ append_assoc p.before o.added p.rest) p.place_is in
-      let long : length new.history ≡ (length p.before + length o.added) + length p.rest =
-      ap length p.seen ∙ length-append (p.before ++ o.added) p.rest ∙ ap (λ (n : ℕ). n + length p.rest) (length-append p.before o.added) in
-      let none : p.rest ≡ [] = nil_from_length p.rest (omega (arith, long, o.accepted, p.place_is)) in
       let few : length o.added ≤ 1 = at_most_one law (replay new.start p.before) (length old.history) p.found order answer o.drawn o.added p.lawful in (
         o.added,
-        rw (p.seen, none, append-nil, same) refl,
+        adds_to o,
         count_is more o.added few (λ is none. grew is (omega (arith, o.accepted, none))) (λ is. (let stands = stood is in omega (arith, o.accepted, stands))),
         record {
           formed = rw (same, ← o.later.start) p.formed;
@@ -56,5 +63,6 @@ module _ (law : Law) (old new : Sharing) (order : Asked) (answer : Result Reply 
           found_is = rw (same, ← o.later.start) p.found_is;
           lawful = rw (same, ← o.later.start, ← p.place_is) p.lawful;
           faults_are = refl;
+          tokens = o.tokens;
         },
       )

@@ -4,3 +4,8 @@ pub mod Placing
 pub mod Opened
 pub mod Revoking
 pub mod BookOrders
+pub mod Manifests
+pub mod States
+pub mod Events
+pub mod Histories
+pub mod Since

@@ -3,11 +3,13 @@ use Rattle.std.proofs.Common.{◌≡◌, ℕ, ◌≤◌, ◌++◌, Bool, false, 
 use Rattle.std.specs.Prelude.{⊤, IfErr}
 use Rattle.host_base.specs.Drawing.{Drawer}
 use Rattle.desk_base.specs.Accepting.{Ready}
+use Rattle.desk_base.specs.Fitting.{StartsNoRun}
 use Rattle.desk_base.specs.Outcomes.{Completes, HasClash, draft_step, with_digest}
 use Rattle.desk_base.specs.Steps.{Makes, Drawn}
 use Rattle.desk_base.specs.Terms.{Digest, Event, HasDigest, IsUnused, Made, Refusal, replay}
 use Rattle.desk_base.specs.Terms.{State}
 use Rattle.desk_base.specs.declared.outcome.Draft.{Draft}
+use Rattle.share_graph.specs.declared.event.Event.TheVariants as event
 use Rattle.desk_orders.specs.Answers.{AcceptsWith, RefusesWith, MayHaveDrawn, shown_text, IsAnswer}
 use Rattle.desk_orders.specs.Commands.{Asked, lists}
 use Rattle.desk_orders.specs.Orders.{RowOf}
@@ -16,14 +18,28 @@ use Rattle.desk_orders.specs.Sites.{IsFoundBy}
 use Rattle.desk_orders.specs.declared.reply.OrderFault.{OrderFault}
 use Rattle.desk_orders.specs.declared.reply.OrderFault.TheVariants as fault
 use Rattle.desk_orders.specs.declared.reply.Reply.{Reply}
-use Rattle.desk_orders.specs.declared.reply.Reply.TheVariants as reply
 use Rattle.row_tables.specs.Kept.{IsStored}
 use Rattle.site_caps.specs.Law.{Law}
 use Rattle.hub_core.specs.Book.{Backing, CountsOn, IsCounted, IsFoundFor}
 use Rattle.hub_core.specs.Inner.{CanMeet, OrderedBy, Told, entry_of, replied}
 use Rattle.hub_core.specs.Sharing.{Sharing}
-use Rattle.hub_core.specs.Spawning.{Spawned, token_of}
+use Rattle.hub_core.specs.Spawning.{HasToken, HaveToken, Spawned, token_of}
 use Rattle.hub_core.proofs.Adding.{told_nothing}
+
+-- the entry that an event is has its token
+entry_token : (token : List ℕ) (e : Event) → HasToken token e → (result : Result ⊤ OrderFault) → HaveToken token (entry_of e result)
+entry_token token e has (Ok done) = (has, tt)
+entry_token token e has (Err why) = tt
+
+-- an event that starts no run has any token
+pub no_start : (token : List ℕ) (e : Event) → StartsNoRun e → HasToken token e
+no_start token (event.RunStarted run) none = absurd none
+no_start token e none = tt
+
+-- and one that got the digest of a token has that one
+pub drafted : (token : List ℕ) (e : Event) (d : Digest) → d ≡ text_digest token → HasToken token (with_digest e d)
+drafted token (event.RunStarted run) d is = is
+drafted token e d is = tt
 
 -- a draft that the digest of a secret completes is accepted
 pub completed : (s : State) (n : ℕ) (found : Option Bool) (order : Asked) (secret : List ℕ) (draft : Draft) (d : Digest)
@@ -89,9 +105,9 @@ module _ (law : Law) (found : Option Bool) (old : Sharing) (order : Asked) where
   ordered : (new : Sharing) (answer : Result Reply OrderFault) (drawn : List (List ℕ)) (added : List Event)
       → new.start ≡ old.start → new.history ≡ old.history ++ added → Stores old.holds new
       → CountsOn old.holds new.holds → DrawsAll old.holds.drawer.coming new.holds.drawer.coming drawn
-      → Spawned old.holds.spawns new.holds.spawns (token_of order drawn) added → Lawful answer drawn added
-      → IsCounted old.holds new.holds answer → OrderedBy law found old new order answer
-  ordered new answer drawn added start entries stored counts draws spawned lawful counted formed found_is = record {
+      → Spawned old.holds.spawns new.holds.spawns (token_of order drawn) added → HaveToken (token_of order drawn) added
+      → Lawful answer drawn added → IsCounted old.holds new.holds answer → OrderedBy law found old new order answer
+  ordered new answer drawn added start entries stored counts draws spawned tokens lawful counted formed found_is = record {
     drawn = drawn;
     added = added;
     later = record { law = refl; start = start; more = added; seen = entries; counts = counts; stored = stored };
@@ -109,6 +125,7 @@ module _ (law : Law) (found : Option Bool) (old : Sharing) (order : Asked) where
     accepted = ap length entries ∙ length-append old.history added;
     draws = draws;
     spawned = spawned;
+    tokens = tokens;
     counted = counted;
   }
 
@@ -119,7 +136,7 @@ module _ (law : Law) (found : Option Bool) (old : Sharing) (order : Asked) where
   unchanged holds drawn (others, counts, draws) answer lawful counted =
       ordered (record old { holds = holds }) answer drawn [] refl (sym (append-nil old.history)) (λ has. rw others has)
       (record { store = rw others (omega arith); secrets = counts; starts = rw others (omega arith) }) draws
-      (told_nothing old.holds.spawns holds.spawns (token_of order drawn) (rw others refl) (rw others refl)) lawful counted
+      (told_nothing old.holds.spawns holds.spawns (token_of order drawn) (rw others refl) (rw others refl)) tt lawful counted
 
   -- nothing was drawn either
   pub unmoved : (answer : Result Reply OrderFault) → Lawful answer [] [] → IsCounted old.holds old.holds answer
@@ -130,15 +147,15 @@ module _ (law : Law) (found : Option Bool) (old : Sharing) (order : Asked) where
   pub changed : (holds : Backing) (drawn : List (List ℕ)) → Drew holds drawn → lists order.command ≡ false
       → (new : Sharing) (e : Event) (made : Made) (result : Result ⊤ OrderFault) → new.start ≡ old.start
       → new.history ≡ old.history ++ entry_of e result → Told holds new.holds e (token_of order drawn) result
-      → Stores holds new → AcceptsWith (replay old.start old.history) (length old.history) found order drawn e made
+      → HasToken (token_of order drawn) e → Stores holds new → AcceptsWith (replay old.start old.history) (length old.history) found order drawn e made
       → OrderedBy law found old new order (replied made (shown_text order.command drawn) result)
-  changed holds drawn (others, counts, draws) asks new e made result start entries told stored is =
+  changed holds drawn (others, counts, draws) asks new e made result start entries told token stored is =
       let tells : Told (record old.holds { drawer = holds.drawer }) new.holds e (token_of order drawn) result = rw others at told in
       let text = shown_text order.command drawn in
       ordered new (replied made text result) drawn (entry_of e result) start entries
       (subst (λ (h : Backing). Stores h new) others stored)
       (record { store = tells.counts.store; secrets = omega arith; starts = tells.counts.starts })
-      (rw tells.undrawn draws) tells.spawned
+      (rw tells.undrawn draws) tells.spawned (entry_token (token_of order drawn) e token result)
       (carried law (replay old.start old.history) (length old.history) found order drawn e made asks is result tells.meets)
       (counted_so old.holds new.holds holds.drawer e made text result tells.meets tells.counted)
 

@@ -13,7 +13,7 @@ use Rattle.desk_orders.specs.Answers.{IsAnswer}
 use Rattle.desk_orders.specs.Secrets.{DrawsAll}
 use Rattle.site_caps.specs.Law.{Law}
 use Rattle.desk_orders.specs.Sites.{IsFoundBy}
-use Rattle.hub_core.specs.Spawning.{Spawned, Untold, token_of}
+use Rattle.hub_core.specs.Spawning.{HaveToken, Spawned, Untold, token_of}
 use Rattle.row_tables.specs.Kept.{IsStored}
 
 -- What the objects that a desk works with tell: the keeper of its rows, the secrets that are drawn for it, and the
@@ -96,7 +96,8 @@ IsCounted old new (Err fault.Start) = Rose old.spawns.faults new.spawns.faults
 IsCounted old new _ = Unit {0}
 
 -- An order was answered: at a place that isn't before what was seen, with the secrets that were drawn for it and the
--- entries that it added, which are the commands that were accepted; the spawner was told what these want and no more.
+-- entries that it added, which are the commands that were accepted; the spawner was told what these want and no more, and
+-- a run that they start has the digest of the token that it was told.
 pub record Ordered (old new : Book) (order : Asked) (place : ℕ) (answer : Result Reply OrderFault) : Type 0 where
   pub drawn : List (List ℕ)
   pub added : List Event
@@ -105,4 +106,5 @@ pub record Ordered (old new : Book) (order : Asked) (place : ℕ) (answer : Resu
   pub accepted : new.accepted ≡ old.accepted + length added
   pub draws : DrawsAll old.holds.drawer.coming new.holds.drawer.coming drawn
   pub spawned : Spawned old.holds.spawns new.holds.spawns (token_of order drawn) added
+  pub tokens : HaveToken (token_of order drawn) added
   pub counted : IsCounted old.holds new.holds answer

@@ -1,12 +1,12 @@
 -- What a spawner is told of what happens to the runs of grains.
 use Rattle.std.specs.Prelude.{◌≡◌, ◌++◌, ℕ, List, [], ◌∷◌, Some}
 use Rattle.std.specs.List.{flat_map}
-use Rattle.desk_base.specs.Terms.{Event, RunId}
+use Rattle.desk_base.specs.Terms.{Event, Run, RunId}
 use Rattle.share_graph.specs.declared.event.Event.TheVariants as event
 use Rattle.grain_supervise.specs.declared.start.Start.{Start}
 use Rattle.grain_supervise.specs.Spawning.{Spawns}
 use Rattle.desk_orders.specs.Commands.{Asked}
-use Rattle.desk_orders.specs.Secrets.{secret_text}
+use Rattle.desk_orders.specs.Secrets.{secret_text, text_digest}
 
 -- the starts that an event wants: of the run that it starts, with its token
 abbrev pub starts_of : Event → List ℕ → List Start
@@ -43,3 +43,35 @@ pub record Untold (old new : Spawns) : Type 0 where
 abbrev pub token_of : Asked → List (List ℕ) → List ℕ
 token_of order [] = []
 token_of order (secret ∷ rest) = secret_text order.command secret
+
+-- a run that an event starts has the digest of the token
+abbrev pub HasToken : List ℕ → Event → Type 0
+HasToken token (event.RunStarted run) = run.digest ≡ text_digest token
+HasToken token _ = Unit {0}
+
+-- each run that entries start has it
+abbrev pub HaveToken : List ℕ → List Event → Type 0
+HaveToken token [] = Unit {0}
+HaveToken token (e ∷ more) = HasToken token e × HaveToken token more
+
+-- the runs that entries start, in their order
+abbrev pub started_by : Event → List Run
+started_by (event.RunStarted run) = run ∷ []
+started_by _ = []
+
+abbrev pub runs_started : List Event → List Run
+runs_started entries = flat_map started_by entries
+
+-- the starts of runs, one for each, in order: each with the token whose digest the run has
+abbrev pub AreStartsOf : List Run → List Start → Type 0
+AreStartsOf [] [] = Unit {0}
+AreStartsOf (run ∷ runs) (start ∷ starts) =
+    (start.run ≡ run.num) × (start.grain ≡ run.grain) × (run.digest ≡ text_digest start.token) × AreStartsOf runs starts
+AreStartsOf _ _ = ⊥
+
+-- SINCE A HISTORY BEGAN the spawner was told one start for each run that its entries start, with the run's token, and one
+-- stop for each run that they stop, in order, and nothing else.
+pub record SpawnedSince (old new : Spawns) (entries : List Event) : Type 0 where
+  pub starts : (told : List Start) → old.starts ≡ Some told
+      → (starts : List Start) × (new.starts ≡ Some (told ++ starts)) × AreStartsOf (runs_started entries) starts
+  pub stops : (told : List RunId) → old.stops ≡ Some told → new.stops ≡ Some (told ++ stops_by entries)

@@ -1,5 +1,5 @@
 -- What is wanted of a history that many threads share, and what is told of it.
-use Rattle.std.specs.Prelude.{◌≡◌, Bool, true, false, ℕ, List, [], Option, Result, Err, length}
+use Rattle.std.specs.Prelude.{◌≡◌, Bool, true, false, ℕ, List, [], Option, None, Result, Err, length}
 use Rattle.desk_base.specs.Terms.{Event, IsWellFormed, Key, replay, State, Verdict}
 use Rattle.session_table.specs.Verdict.{IsVerdict}
 use Rattle.site_caps.specs.Answering.{GivesText}
@@ -11,14 +11,24 @@ use Rattle.desk_orders.specs.declared.reply.OrderFault.TheVariants as fault
 use Rattle.desk_orders.specs.declared.reply.Reply.{Reply}
 use Rattle.epoch_gate.specs.declared.book.Faults.{Faults}
 use Rattle.hub_core.specs.Book.{IsFoundFor}
+use Rattle.hub_core.specs.Sharing.{Sharing}
+use Rattle.hub_core.specs.Spawning.{HaveToken, token_of}
 use Rattle.hub_core.specs.declared.shared.Told.{Told}
 use Rattle.hub_core.specs.declared.shared.Told.TheVariants as told
 use Rattle.hub_core.specs.declared.shared.Wanted.{Wanted}
 use Rattle.hub_core.specs.declared.shared.Wanted.TheVariants as wanted
 
--- a state without rows
-abbrev pub blank : State
-blank = record { tables = record { accounts = []; apps = []; grains = []; grants = []; saved = [] }; sessions = []; runs = []; handles = [] }
+-- a history without an entry on a state without rows, beside objects that tell nothing
+abbrev pub blank : Sharing
+blank = record {
+  start = record { tables = record { accounts = []; apps = []; grains = []; grants = []; saved = [] }; sessions = []; runs = []; handles = [] };
+  history = [];
+  holds = record {
+    keeping = record { faults = 0; rows = None };
+    drawer = record { faults = 0; coming = None };
+    spawns = record { faults = 0; starts = None; stops = None };
+  };
+}
 
 abbrev pub no_faults : Faults
 no_faults = record { store = false; secrets = false; starts = false }
@@ -36,7 +46,7 @@ ShowsVerdict start history key verdict = IsWellFormed (replay start history) × 
 
 -- An order is answered lawfully at a state with n entries, with what the sites have of what it chooses and with secrets
 -- that were drawn for it; it adds these entries, and met the fault that its answer
--- tells. The state is well formed.
+-- tells. The state is well formed. A run that is started has the digest of the secret's text.
 pub record AnswersOrder (law : Law) (s : State) (n : ℕ) (order : Asked) (answer : Result Reply OrderFault)
     (added : List Event) (faults : Faults) : Type 0 where
   pub formed : IsWellFormed s
@@ -45,6 +55,7 @@ pub record AnswersOrder (law : Law) (s : State) (n : ℕ) (order : Asked) (answe
   pub found_is : IsFoundFor law s order answer found
   pub lawful : IsAnswer law s n found order answer drawn added
   pub faults_are : faults ≡ faults_of answer
+  pub tokens : HaveToken (token_of order drawn) added
 
 -- WHAT IS TOLD of what is wanted, by what a history began with and its entries before: an order's answer, or what a site
 -- gives, which adds nothing.

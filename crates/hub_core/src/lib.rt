@@ -16,5 +16,5 @@ pub use desk_orders::{Command, Listing, Order, OrderFault, Reply};
 pub use held::{Held, Holding};
 pub use locked::Locked;
 pub use opening::{NotOpened, OpenFault};
-pub use shared::{Told, Wanted};
+pub use shared::{SharedHistory, Told, Wanted};
 pub use solo::SoloDesk;

@@ -1,8 +1,10 @@
 //! A history that many threads share, as the book of a hub.
 
-ghost use Rattle.std.specs.Prelude.{◌≡◌, ◌≤◌, length};
+ghost use Rattle.std.specs.Prelude.{◌≡◌, ◌≤◌, [], length};
 ghost use Rattle.desk_base.specs.Terms.{replay};
 ghost use Rattle.epoch_gate.specs.Books.{Acts};
+ghost use Rattle.hub_core.specs.Book.{Backing};
+ghost use Rattle.hub_core.specs.Sharing.{HasKept};
 ghost use Rattle.hub_core.specs.Wanting.{AnswersOrder, faults_of};
 
 use crate::held::Holding;
@@ -10,9 +12,11 @@ use crate::locked::Locked;
 use desk_orders::{Order, OrderFault, Reply};
 use epoch_gate::{Book, Faults};
 use host_base::{Key, Memory, Verdict};
-use share_graph::{Event, State};
+use share_graph::Event;
 use site_caps::{SiteDriver, SiteFault, SiteText};
 use std::alloc::Global;
+use std::marker::Model;
+use std::snapshot::Snapshot;
 
 /// What is wanted of a history: that an order is answered, or what the site of a tag gives for an item.
 #[derive(Drop)]
@@ -52,13 +56,68 @@ fn answer<H: Holding, C: SiteDriver + Drop>(
         AnswersOrder C.Law.law (replay locked.old.start locked.old.history) (length locked.old.history)
         order result.1 added (faults_of result.1)) }
     ensures short { length locked.new.history ≤ 1000000 }
+    ensures kept { (began : Backing) → HasKept began locked.old.holds locked.old.history
+        → HasKept began locked.new.holds locked.new.history }
 {
     let answer = locked.order(alloc, order);
     (locked.entries() != before, answer)
 }
 
-impl<H: Holding, C: SiteDriver + Drop> Book for Locked<H, C> {
-    type Start = State;
+/// A history that many threads share, with what it was when they began to: since then its objects were told what its entries
+/// want, and nothing else.
+pub struct SharedHistory<H: Holding, C: SiteDriver> {
+    locked: Locked<H, C>,
+    began: Snapshot<Locked<H, C>>,
+}
+
+// Written by hand, as that of `State` is.
+impl<H: Holding, C: SiteDriver + Drop> Drop for SharedHistory<H, C> {
+    fn drop(self) {
+        let SharedHistory {
+            locked: _,
+            began: _,
+        } = self;
+    }
+}
+
+impl<H: Holding, C: SiteDriver> Model for SharedHistory<H, C> {
+    ghost use Rattle.std.specs.Prelude.{◌≡◌};
+    ghost use Rattle.std.specs.Coded.{codes};
+    ghost use Rattle.share_graph.specs.contracts.event.Event as event_type;
+    ghost use Rattle.share_graph.specs.contracts.state.State as state_type;
+    ghost use Rattle.hub_core.specs.Sharing.{Common, HasKept};
+
+    ghost Value = { Common };
+
+    ghost coded = { Prim.hlevel (codes, state_type.the_row.coded, event_type.the_row.coded) };
+
+    ghost view = { λ shared. record { began = shared.began.value; history = shared.locked.history; holds = shared.locked.holds } };
+
+    ghost invariant = { λ shared. (shared.locked.start ≡ shared.began.value.start) × HasKept shared.began.value.holds shared.locked.holds shared.locked.history };
+}
+
+impl<H: Holding, C: SiteDriver + Drop> SharedHistory<H, C> {
+    /// The history, to be shared from now on. It has no entry yet.
+    pub fn new(locked: Locked<H, C>) -> Self
+        requires { locked.history ≡ [] }
+        ensures { result ≡ record { began = locked; history = []; holds = locked.holds } }
+    {
+        let began = Snapshot::of(&locked);
+        SharedHistory { locked, began }
+    }
+
+    /// The history, shared no more.
+    pub fn into_locked(self) -> Locked<H, C>
+        ensures locked { result ≡ record { start = self.began.start; history = self.history; holds = self.holds } }
+        ensures kept { HasKept self.began.holds result.holds result.history }
+    {
+        let SharedHistory { locked, began: _ } = self;
+        locked
+    }
+}
+
+impl<H: Holding, C: SiteDriver + Drop> Book for SharedHistory<H, C> {
+    type Start = Locked<H, C>;
 
     type Entry = Event;
 
@@ -70,21 +129,21 @@ impl<H: Holding, C: SiteDriver + Drop> Book for Locked<H, C> {
 
     ghost use Rattle.hub_core.specs.Wanting as wanting;
 
-    ghost start = { λ sharing. sharing.start };
+    ghost start = { λ shared. shared.began };
 
-    ghost history = { λ sharing. sharing.history };
+    ghost history = { λ shared. shared.history };
 
-    ghost shows = { λ start history key verdict. wanting.ShowsVerdict start history key verdict };
+    ghost shows = { λ began history key verdict. wanting.ShowsVerdict began.start history key verdict };
 
-    ghost answers = { λ start before wanted told added faults. wanting.AnswersWanted C.Law.law start before wanted told added faults };
+    ghost answers = { λ began before wanted told added faults. wanting.AnswersWanted C.Law.law began.start before wanted told added faults };
 
     ghost blank = { wanting.blank };
 
     fn act(&mut self, alloc: Global, wanted: Wanted) -> (bool, Faults, Told) {
-        let before = self.entries();
+        let before = self.locked.entries();
         match wanted {
             Wanted::Order(order) => {
-                let (more, answer) = answer(self, alloc, before, order);
+                let (more, answer) = answer(&mut self.locked, alloc, before, order);
                 (more, faults_in(&answer), Told::Reply(answer))
             }
             Wanted::Site { tag, item } => {
@@ -93,12 +152,12 @@ impl<H: Holding, C: SiteDriver + Drop> Book for Locked<H, C> {
                     secrets: false,
                     starts: false,
                 };
-                (false, none, Told::Site(self.site(alloc, tag, item)))
+                (false, none, Told::Site(self.locked.site(alloc, tag, item)))
             }
         }
     }
 
     fn look(&self, alloc: Global, key: &Key) -> Result<Verdict, Memory> {
-        self.verdict(alloc, key)
+        self.locked.verdict(alloc, key)
     }
 }

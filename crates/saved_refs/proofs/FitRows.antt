@@ -27,10 +27,10 @@ use Rattle.state_step.proofs.SavedLaws.{saved_added_fits, saved_dropped_fits}
 use Rattle.desk_base.specs.Fitting.{RowFits}
 use Rattle.desk_base.specs.Limits.{adds, first_of}
 use Rattle.desk_base.specs.Made.{nothing_made, made_grant}
-use Rattle.desk_base.specs.Steps.{Step, Plain, Drawn}
+use Rattle.desk_base.specs.Steps.{Step, Drawn}
 use Rattle.desk_base.specs.Wording.{secret_of}
 use Rattle.desk_base.specs.Granting.{new_grant, token_step}
-use Rattle.desk_base.proofs.FitForms.{when_fits, unless_fits, must_fits, found_fits, some_fits, adds_fits, access_fits, keeps_fits}
+use Rattle.desk_base.proofs.FitForms.{when_fits, unless_fits, must_fits, found_fits, some_fits, adds_fits, plain_adds, access_fits, keeps_fits}
 use Rattle.desk_base.proofs.Room.{room_of}
 use Rattle.desk_base.proofs.GivenRoles.{assignment_for, none_within}
 use Rattle.desk_base.proofs.Words.{listed_account}
@@ -130,7 +130,7 @@ claim_fits s formed who token set =
     let there = run_grain s formed run is.listed in
     let added = claimed_grant s.tables run.grain chosen set maker in
     let holds : Need = need.PermissionsHeld (node.User run.grain maker) set in
-    adds_fits s (Plain (Claimed added (claimed_handle s run.num))) (made_claim s.tables (claimed_handle s run.num)) λ room.
+    plain_adds s (Claimed added (claimed_handle s run.num)) tt (made_claim s.tables (claimed_handle s run.num)) λ room.
     claimed_fits s formed added (claimed_handle s run.num) (record {
       new_grant = record {
         num = refl;
@@ -175,7 +175,7 @@ restore_fits s formed who token =
     access_fits s (
     keeps_fits s (
     let (grant, there, claimed) = reference_grant s formed saved one.listed in
-    adds_fits s (Plain (HandleMade (new_handle s run.num saved.grant))) (shown_handle (new_handle s run.num saved.grant).num) λ room.
+    plain_adds s (HandleMade (new_handle s run.num saved.grant)) tt (shown_handle (new_handle s run.num saved.grant).num) λ room.
     handle_made_fits s formed (new_handle s run.num saved.grant) (record {
       num = refl;
       rooted = record {
@@ -193,5 +193,5 @@ drop_saved_fits s formed who token =
     some_fits s tt λ saved one.
     unless_fits s tt λ own.
     when_fits s tt λ kept.
-    adds_fits s (Plain (SavedDropped saved.num)) nothing_made λ room.
+    plain_adds s (SavedDropped saved.num) tt nothing_made λ room.
     saved_dropped_fits s formed saved.num (saved, listed_row (λ (x : Saved). x.num.0) s.tables.saved saved formed.numbered.saved one.listed)

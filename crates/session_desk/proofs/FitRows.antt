@@ -10,9 +10,9 @@ use Rattle.state_step.proofs.RunLaws.{run_started_fits, run_stopped_fits}
 use Rattle.state_step.proofs.SessionLaws.{session_opened_fits, session_closed_fits}
 use Rattle.desk_base.specs.Fitting.{ChangeFits, RowFits}
 use Rattle.desk_base.specs.Made.{nothing_made}
-use Rattle.desk_base.specs.Steps.{Step, Makes, Change, Plain, Drawn}
+use Rattle.desk_base.specs.Steps.{Step, Makes, Change, Drawn}
 use Rattle.desk_base.specs.Wording.{by_account, by_bearer}
-use Rattle.desk_base.proofs.FitForms.{when_fits, unless_fits, found_fits, some_fits, adds_fits, access_fits, bearer_fits}
+use Rattle.desk_base.proofs.FitForms.{when_fits, unless_fits, found_fits, some_fits, adds_fits, plain_adds, access_fits, bearer_fits}
 use Rattle.desk_base.proofs.Words.{listed_account}
 use Rattle.session_desk.specs.declared.callers.Actor.{Actor}
 use Rattle.session_desk.specs.Calling.{by_root, with_access, on_grain, account_on, bearer_of}
@@ -64,7 +64,7 @@ module _ (s : State) (formed : IsWellFormed s) (who : Caller) where
       found_fits s tt λ grain there.
       unless_fits s tt λ may.
       some_fits s tt λ run live.
-      adds_fits s (Plain (RunStopped run.num)) nothing_made λ room.
+      plain_adds s (RunStopped run.num) tt nothing_made λ room.
       run_stopped_fits s formed run.num (run, listed_row (λ (x : Run). x.num.0) s.runs run formed.numbered.runs live.listed)
 
   pub open_session_fits : (n : Option GrainId) (tab : Option ℕ) → RowFits s true (OpenSession s who n tab)
@@ -79,7 +79,7 @@ module _ (s : State) (formed : IsWellFormed s) (who : Caller) where
       found_fits s tt λ session there.
       unless_fits s tt λ its_root.
       when_fits s tt λ open_still.
-      adds_fits s (Plain (SessionClosed n)) nothing_made λ room.
+      plain_adds s (SessionClosed n) tt nothing_made λ room.
       session_closed_fits s formed n (session, there)
 
   pub close_session_fits : (n : SessionId) → RowFits s false (CloseSession s who n)

@@ -17,11 +17,11 @@ use Rattle.state_step.proofs.GrantLaws.{grant_added_fits, grant_revoked_fits}
 use Rattle.desk_base.specs.Fitting.{RowFits}
 use Rattle.desk_base.specs.Limits.{too_many}
 use Rattle.desk_base.specs.Made.{nothing_made, made_grant}
-use Rattle.desk_base.specs.Steps.{Plain, Drawn}
+use Rattle.desk_base.specs.Steps.{Drawn}
 use Rattle.desk_base.specs.Needs.{AreGood}
 use Rattle.desk_base.specs.Roles.{MayGiveOn}
 use Rattle.desk_base.specs.Granting.{new_grant, all_access}
-use Rattle.desk_base.proofs.FitForms.{when_fits, unless_fits, must_fits, found_fits, some_fits, adds_fits, access_fits, keeps_fits, bearer_fits}
+use Rattle.desk_base.proofs.FitForms.{when_fits, unless_fits, must_fits, found_fits, some_fits, adds_fits, plain_adds, access_fits, keeps_fits, bearer_fits}
 use Rattle.desk_base.proofs.Room.{room_of}
 use Rattle.desk_base.proofs.GivenRoles.{assignment_for, none_within}
 use Rattle.desk_base.proofs.GoodNeeds.{known_needs, fitting_needs, fitting_sets, few_needs}
@@ -88,7 +88,7 @@ module _ (s : State) (formed : IsWellFormed s) (who : Caller) where
       must_fits s λ good.
       let may : MayGiveTo s n (giver.Account from.num) (target.User to) =
       record { grain = (grain, there); giver = listed_account s formed from is.listed; target = (account, known); parent = λ any some digest. tt } in
-      adds_fits s (Plain (GrantAdded (new_grant s.tables n (giver.Account from.num) (target.User to) assignment wanted None))) (made_grant s.tables)
+      plain_adds s (GrantAdded (new_grant s.tables n (giver.Account from.num) (target.User to) assignment wanted None)) tt (made_grant s.tables)
       (given_fits s formed n (giver.Account from.num) (target.User to) may None refl tt assignment wanted given good))
 
   pub make_token_fits : (n : GrainId) (for_sharing : Bool) (assignment : Assignment) (wanted : List Need) → RowFits s true (MakeToken s who n for_sharing assignment wanted)
@@ -118,7 +118,7 @@ module _ (s : State) (formed : IsWellFormed s) (who : Caller) where
       let may = bearer_gives s formed link one.listed one.is.bearer (target.User account.num) (listed_account s formed account is.listed) tt in
       let (app, its, fits) = ((coherent s.tables formed.tables).grants link.num link (listed_row (λ (x : Grant). x.num.0) s.tables.grants link formed.numbered.grants one.listed)).sets.assignment in
       let given : MayGiveOn s.tables link.grain all_access = (app, its, record { given = tt; sets = record { add = none_within _; remove = none_within _ } }) in
-      adds_fits s (Plain (GrantAdded (new_grant s.tables link.grain (giver.Grant link.num) (target.User account.num) all_access [] None))) (made_grant s.tables)
+      plain_adds s (GrantAdded (new_grant s.tables link.grain (giver.Grant link.num) (target.User account.num) all_access [] None)) tt (made_grant s.tables)
       (given_fits s formed link.grain (giver.Grant link.num) (target.User account.num) may None refl tt all_access [] given (λ i q odd. cc))))
 
   pub revoke_fits : (g : GrantId) → RowFits s false (Revoke s who g)
@@ -128,5 +128,5 @@ module _ (s : State) (formed : IsWellFormed s) (who : Caller) where
       found_fits s tt λ grant there.
       unless_fits s tt λ may.
       when_fits s tt λ live.
-      adds_fits s (Plain (GrantRevoked g)) nothing_made λ room.
+      plain_adds s (GrantRevoked g) tt nothing_made λ room.
       grant_revoked_fits s formed g (grant, there)

@@ -2,7 +2,7 @@ use Rattle.std.proofs.Common.{Ok, subst, inr}
 use Rattle.desk_base.specs.declared.outcome.Outcome.{Outcome}
 use Rattle.desk_base.specs.Outcomes.{IsCarried}
 use Rattle.desk_base.specs.Steps.{Plain}
-use Rattle.desk_base.proofs.FitForms.{plain_fits}
+use Rattle.desk_base.proofs.FitForms.{plain_fits, plain_starts_none}
 use Rattle.desk_orders.specs.Commands.{draws}
 use Rattle.desk_orders.specs.Orders.{RowBy, RowOf}
 use Rattle.desk_orders.proofs.Drafts.{changes_of, draft_fits, when_full}
@@ -19,8 +19,8 @@ pub returns-in-Change-clause-fits : goal.returns-in-Change-clause-fits
 returns-in-Change-clause-fits c =
     let Row = RowBy c.args.state.now c.args.found c.order.inside.caller c.order.inside.command in
     let fits = fits_by c.args.state.now c.requires.formed c.args.found c.order.inside.caller c.order.inside.command c.order.invariant in
-    plain_fits c.args.state.now (draws c.order.inside.command) c.in-Change.event (fits.fits (Plain c.in-Change.event) c.in-Change.made
-    (subst (λ (o : Outcome). IsCarried Row (Ok o)) c.in-Change.is c.in-Ok.ensures))
+    let change = fits.fits (Plain c.in-Change.event) c.in-Change.made (subst (λ (o : Outcome). IsCarried Row (Ok o)) c.in-Change.is c.in-Ok.ensures) in
+    (plain_fits c.args.state.now (draws c.order.inside.command) c.in-Change.event change, plain_starts_none c.args.state.now (draws c.order.inside.command) c.in-Change.event change)
 
 pub returns-in-Draft-clause-fits : goal.returns-in-Draft-clause-fits
 returns-in-Draft-clause-fits c =

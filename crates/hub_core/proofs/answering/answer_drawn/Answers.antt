@@ -1,7 +1,7 @@
 use Rattle.std.proofs.Common.{◌∙◌, [], ◌∷◌, refl, rules}
 use Rattle.desk_base.specs.Outcomes.{with_digest}
 use Rattle.hub_core.specs.Sharing.{sharing_of}
-use Rattle.hub_core.proofs.Replies.{changed, clashed, completed, unchanged}
+use Rattle.hub_core.proofs.Replies.{changed, clashed, completed, drafted, unchanged}
 use Rattle.hub_core.proofs.answering.answer_drawn.Goals as goal
 
 pub add-added-requires-clause-fits : goal.add-added-requires-clause-fits
@@ -36,6 +36,7 @@ returns-in-Ok-complete g c = rw (c.replied.ensures, c.shown_text.ensures, c.in-O
     (c.in-Ok.secret ∷ []) (c.draw.ensures.others, c.draw.ensures.counts, (_, c.in-Ok.ensures.drawn, refl)) c.requires.asks
     (sharing_of c.add-added.new.self c.add-added.new.held) c.in-Ok-complete.event c.in-Ok-complete.made c.add-added.result
     c.add-added.ensures.start c.add-added.ensures.entries
-    (rw (← (c.as_slice.ensures.value ∙ c.in-Ok-text_of.ensures.0)) c.add-added.ensures.told) c.add-added.ensures.stored
+    (rw (← (c.as_slice.ensures.value ∙ c.in-Ok-text_of.ensures.0)) c.add-added.ensures.told)
+    (rw c.in-Ok-complete.ensures.0 (drafted _ c.args.draft.event c.in-Ok-text_of.digest c.in-Ok-text_of.ensures.1)) c.add-added.ensures.stored
     (completed _ _ c.args.found c.args.order.now c.in-Ok.secret c.args.draft c.in-Ok-text_of.digest c.in-Ok-complete.event
     c.in-Ok-complete.made c.in-Ok-text_of.ensures.1 c.requires.ready (rw (← c.state.ensures.value) c.in-Ok-complete.ensures)))

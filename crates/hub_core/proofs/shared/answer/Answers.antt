@@ -1,6 +1,7 @@
 use Rattle.std.proofs.Common.{arith}
 use Rattle.std.proofs.lemmas.Bool.Decides.{nat_tests}
 use Rattle.hub_core.proofs.BookOrders.{acts_by}
+use Rattle.hub_core.proofs.Since.{kept_more}
 use Rattle.hub_core.proofs.shared.answer.Goals as goal
 
 pub returns-clause-acts : goal.returns-clause-acts
@@ -9,3 +10,7 @@ returns-clause-acts g c =
     (λ is same. grind (arith, nat_tests, is, same, c.requires, c.entries.ensures.value))
     (λ is. grind (arith, nat_tests, is, c.requires, c.entries.ensures.value))
     c.order-answer.ensures.ordered
+
+pub returns-clause-kept : goal.returns-clause-kept
+returns-clause-kept g c = λ began kept.
+    kept_more g.C.Law.SiteLaw.law began c.args.locked.now c.order-answer.new.self c.args.order c.order-answer.result c.order-answer.ensures.ordered kept

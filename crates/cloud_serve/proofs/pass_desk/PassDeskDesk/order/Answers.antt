@@ -6,5 +6,5 @@ use Rattle.cloud_serve.proofs.pass_desk.PassDeskDesk.order.Goals as goal
 pub returns : goal.returns
 returns g c =
     rw (← c.self.view_is) (
-    ordered_from g.C.Law.SiteLaw.law (start_of blank g.N.Named.start) c.self.inside.pass c.order-place.new.pass
+    ordered_from g.C.Law.SiteLaw.law (start_of blank g.N.Named.start).start c.self.inside.pass c.order-place.new.pass
     c.order-place.result.0 c.args.order c.in-Reply.answer c.order-place.result.1 c.in-Reply.is c.order-place.ensures.answered)

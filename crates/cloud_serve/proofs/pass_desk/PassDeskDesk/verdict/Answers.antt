@@ -6,7 +6,7 @@ use Rattle.cloud_serve.proofs.pass_desk.PassDeskDesk.verdict.Goals as goal
 
 pub returns-clause-judged : goal.returns-clause-judged
 returns-clause-judged g c =
-    let start = start_of blank g.N.Named.start in
+    let start = (start_of blank g.N.Named.start).start in
     let new = c.find.new.self in
     let key = c.args.key.now in
     let shown = c.in_ok-place.ensures.shown in

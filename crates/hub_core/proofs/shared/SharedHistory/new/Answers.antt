@@ -1,0 +1,13 @@
+use Rattle.std.proofs.Common.{List, ap, subst, sym}
+use Rattle.desk_base.specs.Terms.{Event}
+use Rattle.hub_core.specs.Book.{Backing}
+use Rattle.hub_core.specs.Sharing.{HasKept, Sharing}
+use Rattle.hub_core.proofs.Since.{kept_none}
+use Rattle.hub_core.proofs.shared.SharedHistory.new.Goals as goal
+
+pub invariant_of-result : goal.invariant_of-result
+invariant_of-result g c = (
+  ap (λ (sharing : Sharing). sharing.start) (sym c.of-began.ensures),
+  subst (λ (began : Backing). HasKept began c.args.locked.holds c.args.locked.history) (ap (λ (sharing : Sharing). sharing.holds) (sym c.of-began.ensures))
+      (subst (λ (history : List Event). HasKept c.args.locked.holds c.args.locked.holds history) (sym c.requires) (kept_none c.args.locked.holds)),
+)
