@@ -2,29 +2,28 @@
 // requests that it makes itself, judges a file of rows, or is a grain on a socket.
 #![tactic(auto)]
 
-ghost use Rattle.std.specs.Prelude.{◌≡◌, ◌⊎◌, Some, map};
-ghost use Rattle.share_graph.specs.declared.state.State.{State};
+ghost use Rattle.std.specs.Prelude.{◌⊎◌, map};
 ghost use Rattle.site_caps.specs.Registered.{IsRegistered};
 ghost use Rattle.admin_run.specs.Connection.{HasBook};
 ghost use Rattle.admin_run.specs.Program.{BeginWithBook, ServeAtDoor};
-ghost use Rattle.admin_run.specs.Serving.{BeginsAt};
+ghost use Rattle.serve_door.specs.Doors.{IsInOrder};
 
 use admin_run::{Setting, World, book_keeper, run, world_of};
 use cloud_keeper::Keeper;
 use club_site::{ClubDriver, club_offers, club_sites, club_text};
 use command_line::{Line, line_of};
-use conn_door::MemDoor;
-use grain_supervise::{EchoLink, FakeSpawner, Link, Spawner};
+use grain_supervise::{EchoLink, FakeSpawner, Spawner};
 use host_base::{Fails, Memory, Secrets, SeqSecrets, StdSink, StdSource};
 use host_clock::StillClock;
 use powerbox_match::Query;
 use rand::rngs::SysRng;
-use serve_door::ServeDoor;
+use serve_door::{Door, MemDoor};
 use site_caps::SiteDriver;
 use sql_keeper::SqlKeeper;
 use sqlite::Connection;
 use std::alloc::Global;
 use std::process::ExitCode;
+use std::sync::Wait;
 use std::{env, fs, io};
 use system_edges::{ProcSpawner, RngSecrets, TcpDoor, UnixDoor, UnixLink};
 
@@ -46,8 +45,10 @@ fn words_of(rt: &HostRuntime) -> Result<Vec<String>, Memory> {
     }
 }
 
-// The status of the program in a world, which goes with it.
-fn status_in<W: Setting, C: SiteDriver + Drop>(
+// The status of the program in a world, which goes with it. Outside of `main` the host runtime is no handle to wait by, so there
+// is a second one.
+fn status_in<R: Wait, W: Setting, C: SiteDriver + Drop>(
+    wait: &R,
     alloc: Global,
     words: &[String],
     world: World<W>,
@@ -56,16 +57,16 @@ fn status_in<W: Setting, C: SiteDriver + Drop>(
     requires book { BeginWithBook words.now → HasBook world.holds.keeping }
     requires registered { BeginWithBook words.now ⊎ ServeAtDoor words.now
         → IsRegistered C.Law.law.tags (map C.tag_of sites.items) }
-    requires fresh { ServeAtDoor words.now → world.doorway.back ≡ 0 }
-    requires start { ServeAtDoor words.now → BeginsAt W.Door.start world.holds }
+    requires order { ServeAtDoor words.now → IsInOrder world.doorway }
 {
-    run(alloc, words, world, sites).status
+    run(wait, alloc, words, world, sites).status
 }
 
 // Runs a line that serves no connections at a door, with a keeper, a door and the drivers of its sites, over standard input and
 // output. The link, the secrets and the spawner are those in memory, so that the same words and input give the same output.
-fn run_with<K: Keeper + Drop, E: ServeDoor + Drop, C: SiteDriver + Drop>(
+fn run_with<R: Wait, K: Keeper + Drop, E: Door<Link = EchoLink> + Drop, C: SiteDriver + Drop>(
     rt: &HostRuntime,
+    wait: &R,
     words: &[String],
     keeper: K,
     door: E,
@@ -86,12 +87,13 @@ fn run_with<K: Keeper + Drop, E: ServeDoor + Drop, C: SiteDriver + Drop>(
         StillClock::new(0),
         door,
     );
-    status_in(alloc, words, world, sites)
+    status_in(wait, rt.alloc(), words, world, sites)
 }
 
 // Runs such a line with the rows of the small book.
-fn run_with_book<E: ServeDoor + Drop, C: SiteDriver + Drop>(
+fn run_with_book<R: Wait, E: Door<Link = EchoLink> + Drop, C: SiteDriver + Drop>(
     rt: &HostRuntime,
+    wait: &R,
     words: &[String],
     door: E,
     sites: Vec<C>,
@@ -100,36 +102,44 @@ fn run_with_book<E: ServeDoor + Drop, C: SiteDriver + Drop>(
     requires elsewhere { ServeAtDoor words.now → ⊥ }
 {
     match book_keeper(rt.alloc(), Fails::empty(rt.alloc())) {
-        Ok(keeper) => run_with(rt, words, keeper, door, sites),
+        Ok(keeper) => run_with(rt, wait, words, keeper, door, sites),
         Err(Memory) => NO_MEMORY,
     }
 }
 
 // Serves connections at a door from the rows of a keeper, with these objects and standard output.
 fn serve_with<
-    L: Link + Drop,
+    R: Wait,
     K: Keeper + Drop,
     S: Secrets + Drop,
     P: Spawner + Drop,
-    E: ServeDoor + Drop,
+    E: Door + Drop,
     C: SiteDriver + Drop,
->(rt: &HostRuntime, words: &[String], link: L, held: (K, S, P), door: E, sites: Vec<C>) -> u8
+>(
+    rt: &HostRuntime,
+    wait: &R,
+    words: &[String],
+    link: E::Link,
+    held: (K, S, P),
+    door: E,
+    sites: Vec<C>,
+) -> u8
     requires registered { IsRegistered C.Law.law.tags (map C.tag_of sites.items) }
     requires elsewhere { BeginWithBook words.now → ⊥ }
-    requires fresh { (E.doorway door).back ≡ 0 }
-    requires start { (state : State) → E.start ≡ Some state → ⊥ }
+    requires order { IsInOrder (E.doorway door) }
 {
     let (keeper, secrets, spawner) = held;
     let input = StdSource::new(rt.reader());
     let out = StdSink::new(io::writer(rt));
     let clock = StillClock::new(0);
     let world = world_of(input, out, link, keeper, secrets, spawner, clock, door);
-    status_in(rt.alloc(), words, world, sites)
+    status_in(wait, rt.alloc(), words, world, sites)
 }
 
 // Serves connections on a port from a file of rows. The runs of its grains have their sockets in a folder beside the file.
-fn run_serve<C: SiteDriver + Drop>(
+fn run_serve<R: Wait, C: SiteDriver + Drop>(
     rt: &HostRuntime,
+    wait: &R,
     words: &[String],
     file: &str,
     port: u16,
@@ -146,8 +156,9 @@ fn run_serve<C: SiteDriver + Drop>(
     let keeper = SqlKeeper::of(Connection::open(rt, file));
     let secrets = RngSecrets::new(SysRng::new(rt));
     let spawner = ProcSpawner::new(alloc, rt, runs);
-    let door = TcpDoor::bind(rt, port);
-    Ok(serve_with(rt, words, link, (keeper, secrets, spawner), door, sites))
+    let door = TcpDoor::bind(rt, alloc, port)?;
+    let held = (keeper, secrets, spawner);
+    Ok(serve_with(rt, wait, words, link, held, door, sites))
 }
 
 // The path of a line that has one: its second word.
@@ -159,8 +170,9 @@ fn path_of(words: &[String]) -> &str {
 }
 
 // Runs a line that needs neither a file nor a door.
-fn run_alone<C: SiteDriver + Drop>(
+fn run_alone<R: Wait, C: SiteDriver + Drop>(
     rt: &HostRuntime,
+    wait: &R,
     words: &[String],
     sites: Vec<C>,
 ) -> Result<u8, Memory>
@@ -168,32 +180,33 @@ fn run_alone<C: SiteDriver + Drop>(
     requires elsewhere { ServeAtDoor words.now → ⊥ }
 {
     let door = MemDoor::new(rt.alloc(), Vec::new(rt.alloc()))?;
-    Ok(run_with_book(rt, words, door, sites))
+    Ok(run_with_book(rt, wait, words, door, sites))
 }
 
 // Runs the program's line with what it needs.
 #[tactic(auto, using(admin_run::proofs::Begins::begins_otherwise, admin_run::proofs::Begins::serves_otherwise))]
-fn run_line<C: SiteDriver + Drop>(
+fn run_line<R: Wait, C: SiteDriver + Drop>(
     rt: &HostRuntime,
+    wait: &R,
     words: &[String],
     sites: Vec<C>,
 ) -> Result<u8, Memory>
     requires { IsRegistered C.Law.law.tags (map C.tag_of sites.items) }
 {
     match line_of(rt.alloc(), words)? {
-        Line::Serve { port, .. } => run_serve(rt, words, path_of(words), port, sites),
+        Line::Serve { port, .. } => run_serve(rt, wait, words, path_of(words), port, sites),
         Line::Check => {
             let door = MemDoor::new(rt.alloc(), Vec::new(rt.alloc()))?;
             let keeper = SqlKeeper::of(Connection::open(rt, path_of(words)));
-            Ok(run_with(rt, words, keeper, door, sites))
+            Ok(run_with(rt, wait, words, keeper, door, sites))
         }
         Line::Grain { .. } => {
             let door = UnixDoor::bind(rt, path_of(words));
-            Ok(run_with_book(rt, words, door, sites))
+            Ok(run_with_book(rt, wait, words, door, sites))
         }
-        Line::Play => run_alone(rt, words, sites),
-        Line::Gen { .. } => run_alone(rt, words, sites),
-        Line::Unknown => run_alone(rt, words, sites),
+        Line::Play => run_alone(rt, wait, words, sites),
+        Line::Gen { .. } => run_alone(rt, wait, words, sites),
+        Line::Unknown => run_alone(rt, wait, words, sites),
     }
 }
 
@@ -214,7 +227,7 @@ fn main(rt: HostRuntime) -> ExitCode {
     let Ok(sites) = club_sites(alloc, ClubDriver::new(answering, giving)) else {
         return ExitCode::from(NO_MEMORY);
     };
-    match run_line(&rt, words.as_slice(), sites) {
+    match run_line(&rt, &rt, words.as_slice(), sites) {
         Ok(status) => ExitCode::from(status),
         Err(Memory) => ExitCode::from(NO_MEMORY),
     }

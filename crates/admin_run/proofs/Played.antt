@@ -2,7 +2,7 @@
 use Rattle.std.proofs.Common.{◌≡◌, ℕ, List, [], Option, length, sym, refl, subst, arith}
 use Rattle.host_base.specs.Outside.{Inlet, Outlet}
 use Rattle.grain_supervise.specs.Line.{Line}
-use Rattle.conn_door.specs.Doors.{Doorway}
+use Rattle.serve_door.specs.Doors.{Doorway}
 use Rattle.share_graph.specs.declared.state.State.{State}
 use Rattle.share_graph.specs.History.{replay}
 use Rattle.cloud_serve.specs.declared.serve.End.{End}

@@ -2,7 +2,7 @@
 use Rattle.std.specs.Prelude.{◌≡◌, ℕ, ◌⊎◌, ◌++◌, List, Option, Some, take, codes}
 use Rattle.host_base.specs.Outside.{Inlet, Outlet, Rose}
 use Rattle.grain_supervise.specs.Line.{Line}
-use Rattle.conn_door.specs.Doors.{Doorway}
+use Rattle.serve_door.specs.Doors.{Doorway}
 use Rattle.hub_core.specs.Book.{Backing}
 use Rattle.cloud_serve.specs.Served.{Wired}
 

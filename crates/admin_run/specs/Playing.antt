@@ -1,10 +1,11 @@
 -- What `play` and `grain` do.
-use Rattle.std.specs.Prelude.{◌≡◌, ℕ, ◌+◌, ◌<◌, ◌⊎◌, List, Some, length}
+use Rattle.std.specs.Prelude.{◌≡◌, ◌≢◌, ℕ, ◌<◌, ◌⊎◌, List, Some, length}
 use Rattle.host_base.specs.Outside.{Inlet, Outlet, CountStands}
 use Rattle.front_http.specs.Stream.{Requests, IsStream}
 use Rattle.grain_program.specs.declared.grain.GrainEnd.{GrainEnd}
 use Rattle.grain_program.specs.declared.grain.GrainEnd.TheVariants as grain_end
 use Rattle.grain_program.specs.Answering.{Prints}
+use Rattle.grain_program.specs.Taking.{Takes}
 use Rattle.cloud_serve.specs.declared.serve.End.{End}
 use Rattle.cloud_serve.specs.Served.{limit}
 use Rattle.site_caps.specs.Law.{Law}
@@ -29,10 +30,10 @@ pub record Plays (law : Law) (old new : Outside) (status : ℕ) : Type 0 where
   pub complete : EndsAsStream old.inlet new.inlet old.outlet new.outlet status
   pub others : new ≡ record old { inlet = new.inlet; outlet = new.outlet; line = new.line; holds = new.holds }
 
--- `grain`: the line `ready` was printed, and connections were taken at the door: at status 0 so many. Nothing else is asked.
+-- `grain`: the line `ready` was printed, and connections were taken at the door: all at status 0. Nothing else is asked.
 pub record ServesGrain (count : ℕ) (old new : Outside) (status : ℕ) : Type 0 where
   pub end : GrainEnd
   pub status_is : status ≡ status_of_grain end
   pub printed : (text : List ℕ) → old.outlet.written ≡ Some text → Prints text end new.outlet.written
-  pub given : end ≡ grain_end.Done → new.doorway.given ≡ old.doorway.given + count
+  pub taken : end ≢ grain_end.WriteFailed → Takes count old.doorway new.doorway end
   pub others : new ≡ record old { outlet = new.outlet; doorway = new.doorway }

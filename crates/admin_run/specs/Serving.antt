@@ -7,7 +7,6 @@ use Rattle.cloud_keeper.specs.Keeping.{Keeping, RowsFollow}
 use Rattle.cloud_keeper.specs.declared.row.Row.{Row}
 use Rattle.row_tables.specs.declared.stored.BadRow.{BadRow}
 use Rattle.share_graph.specs.declared.event.Event.{Event}
-use Rattle.share_graph.specs.declared.state.State.{State}
 use Rattle.share_graph.specs.declared.state.Tables.{Tables}
 use Rattle.share_graph.specs.History.{replay}
 use Rattle.first_account.specs.Drawn.{DrewOneAtMost, IsTokenOfNext}
@@ -18,6 +17,7 @@ use Rattle.hub_core.specs.Book.{Book, Backing}
 use Rattle.hub_core.specs.Sharing.{book_of}
 use Rattle.row_tables.specs.Kept.{IsStored}
 use Rattle.serve_door.specs.Connections.{ServesMany}
+use Rattle.serve_door.specs.Doors.{HasGivenAll, expecting}
 use Rattle.serve_door.specs.declared.serving.Stop.{Stop}
 use Rattle.serve_door.specs.declared.serving.Stop.TheVariants as stop
 use Rattle.admin_run.specs.Outside.{Outside, Tells}
@@ -30,11 +30,6 @@ HasSomeRows keeping = (rows : List Row) → keeping.rows ≡ Some rows → rows 
 abbrev pub Begins : Keeping → Keeping → Drawer → Drawer → Option (List ℕ) → Type 0
 Begins keeping keeping' drawer drawer' None = HasSomeRows keeping × RowsFollow keeping keeping' (λ rows. rows) × (drawer' ≡ drawer)
 Begins keeping keeping' drawer drawer' (Some token) = HasNoRows keeping × HasJust (first_row token) keeping' × IsTokenOfNext drawer.coming drawer'.coming token
-
--- Where the history has to begin with a state, it is that of the tables that are loaded from what it begins with.
-abbrev pub BeginsAt : Option State → Backing → Type 0
-BeginsAt start holds = (state : State) → start ≡ Some state → (keeping : Keeping) (drawer : Drawer) (login : Option (List ℕ))
-    → Begins holds.keeping keeping holds.drawer drawer login → (tables : Tables) → AreLoaded keeping tables → opened tables ≡ state
 
 -- the line of the first account's login
 abbrev pub login_line : Option (List ℕ) → List ℕ
@@ -70,11 +65,12 @@ TellsStop stop.All answered old new status = Tells old new (served_line answered
 TellsStop stop.DoorFailed answered old new status = (status ≡ 4) × (new ≡ old)
 TellsStop stop.Memory answered old new status = (status ≡ 7) × (new ≡ old)
 
--- How it ends once connections are served: so many were; or the door failed, which was counted; or memory ran out.
-pub record EndsServing (count answered : ℕ) (old new : Outside) (status : ℕ) : Type 0 where
+-- How it ends once connections are served: all that the door was to give were; or the door failed, which was counted; or
+-- memory ran out.
+pub record EndsServing (answered : ℕ) (old new : Outside) (status : ℕ) : Type 0 where
   pub why : Stop
   pub told : TellsStop why answered old.outlet new.outlet status
-  pub all : why ≡ stop.All → new.doorway.back ≡ old.doorway.back + count
+  pub all : why ≡ stop.All → HasGivenAll new.doorway
   pub failed : why ≡ stop.DoorFailed → Rose old.doorway.faults new.doorway.faults
 
 -- the logins of the accounts, in order
@@ -85,16 +81,17 @@ logins t = map (λ account. account.login) t.accounts
 abbrev pub tables_with : Law → Tables → List Event → Backing → Book
 tables_with law tables history holds = book_of law (record { start = opened tables; history = history; holds = holds })
 
--- THE HEADLINE of `serve`: connections are served one after another in one history, which begins with the tables, and the
--- keeper has the tables after it. The accounts keep their logins. Neither the input, the link nor the clock is asked.
+-- THE HEADLINE of `serve`: the door is to give so many connections, which are served one after another in one history; that begins
+-- with the tables, and the keeper has the tables after it. The accounts keep their logins. Neither the input, the link nor the clock is asked.
 pub record ServesFrom (law : Law) (tables : Tables) (count : ℕ) (holds : Backing) (old new : Outside) (status : ℕ) : Type 0 where
   pub history : List Event
   pub answered : ℕ
-  pub connections : ServesMany (tables_with law tables [] holds) (tables_with law tables history new.holds) old.doorway new.doorway answered
+  pub connections : ServesMany (tables_with law tables [] holds) (tables_with law tables history new.holds)
+      (expecting old.doorway count) new.doorway answered
   pub stored : IsStored new.holds.keeping (replay (opened tables) history).tables
   pub added : List Digest
   pub logins_stay : logins (replay (opened tables) history).tables ≡ logins tables ++ added
-  pub ends : EndsServing count answered old new status
+  pub ends : EndsServing answered old new status
   pub others : new ≡ record old { outlet = new.outlet; holds = new.holds; doorway = new.doorway }
 
 -- The rows are opened, which leaves them as they were, and connections are served from the tables that they state.

@@ -8,7 +8,7 @@ ghost use Rattle.admin_run.specs.Outside.{DoesNothing, HasStatusCause, TellsUsag
 ghost use Rattle.admin_run.specs.Judging.{ChecksRows};
 ghost use Rattle.admin_run.specs.Playing.{ServesGrain};
 ghost use Rattle.admin_run.specs.Program.{AtDoor, BeginWithBook, Does, FromBook, ServeAtDoor};
-ghost use Rattle.admin_run.specs.Serving.{BeginsAt};
+ghost use Rattle.serve_door.specs.Doors.{IsInOrder};
 
 use crate::judging::judge;
 use crate::making::make;
@@ -22,6 +22,7 @@ use grain_program::run_grain;
 use host_base::Memory;
 use site_caps::SiteDriver;
 use std::alloc::Global;
+use std::sync::Wait;
 
 // Judges the rows of the keeper.
 fn check<W: Setting>(alloc: Global, world: World<W>) -> Ran<W>
@@ -57,7 +58,8 @@ fn usage<W: Setting>(world: World<W>) -> Ran<W>
 }
 
 // Does what a line says.
-fn perform<W: Setting, C: SiteDriver + Drop>(
+fn perform<R: Wait, W: Setting, C: SiteDriver + Drop>(
+    rt: &R,
     alloc: Global,
     line: Line,
     world: World<W>,
@@ -66,9 +68,7 @@ fn perform<W: Setting, C: SiteDriver + Drop>(
     requires book { FromBook line → HasBook world.holds.keeping }
     requires registered { FromBook line ⊎ AtDoor line
         → IsRegistered C.Law.law.tags (map C.tag_of sites.items) }
-    requires fresh { AtDoor line → world.doorway.back ≡ 0 }
-    requires few { (port count : ℕ) → line ≡ Line.Serve port count → count ≤ 1000000 }
-    requires start { AtDoor line → BeginsAt W.Door.start world.holds }
+    requires order { AtDoor line → IsInOrder world.doorway }
     ensures does { Does C.Law.law line world result.world result.status }
     ensures cause { HasStatusCause world result.world result.status }
 {
@@ -77,7 +77,7 @@ fn perform<W: Setting, C: SiteDriver + Drop>(
         Line::Gen { count, seed } => make(alloc, world, count, seed, sites),
         Line::Check => check(alloc, world),
         Line::Grain { count } => grain(alloc, world, count),
-        Line::Serve { count, .. } => serve(alloc, world, count, sites),
+        Line::Serve { count, .. } => serve(rt, alloc, world, count, sites),
         Line::Unknown => usage(world),
     }
 }
@@ -87,7 +87,8 @@ fn perform<W: Setting, C: SiteDriver + Drop>(
 /// summary; `serve FILE PORT COUNT` serves so many connections at its door from the rows of the keeper, with a driver for each
 /// site; `check FILE` says what the rows of the keeper state; `grain SOCKET COUNT` prints `ready` and answers so many
 /// connections at its door with what they were asked; any other words get the usage line.
-pub fn run<W: Setting, C: SiteDriver + Drop>(
+pub fn run<R: Wait, W: Setting, C: SiteDriver + Drop>(
+    rt: &R,
     alloc: Global,
     words: &[String],
     world: World<W>,
@@ -96,8 +97,7 @@ pub fn run<W: Setting, C: SiteDriver + Drop>(
     requires book { BeginWithBook words.now → HasBook world.holds.keeping }
     requires registered { BeginWithBook words.now ⊎ ServeAtDoor words.now
         → IsRegistered C.Law.law.tags (map C.tag_of sites.items) }
-    requires fresh { ServeAtDoor words.now → world.doorway.back ≡ 0 }
-    requires start { ServeAtDoor words.now → BeginsAt W.Door.start world.holds }
+    requires order { ServeAtDoor words.now → IsInOrder world.doorway }
 
     // What its words' line does, or nothing for want of memory.
     ensures does { (line : TheLine) → IsLine words.now line →
@@ -105,7 +105,7 @@ pub fn run<W: Setting, C: SiteDriver + Drop>(
     ensures cause { HasStatusCause world result.world result.status }
 {
     match line_of(alloc, words) {
-        Ok(line) => perform(alloc, line, world, sites),
+        Ok(line) => perform(rt, alloc, line, world, sites),
         Err(Memory) => Ran { status: 7, world },
     }
 }

@@ -1,13 +1,12 @@
 //! `serve`: connections at the door, one after another, from the rows of a keeper.
-ghost use Rattle.std.specs.Prelude.{◌≡◌, ◌≢◌, ◌+◌, ◌≤◌, ◌⊎◌, Some, map, IfOk, IfErr};
+ghost use Rattle.std.specs.Prelude.{◌≡◌, ◌≢◌, ◌≤◌, ◌⊎◌, map, IfOk, IfErr};
 ghost use Rattle.host_base.specs.Outside.{Rose};
-ghost use Rattle.share_graph.specs.declared.state.State.{State};
-ghost use Rattle.share_graph.specs.declared.state.Tables.{Tables};
 ghost use Rattle.site_caps.specs.Registered.{IsRegistered};
-ghost use Rattle.hub_core.specs.Opening.{AreLoaded, IsClosedOn, IsOpenedOn, opened};
+ghost use Rattle.hub_core.specs.Opening.{IsClosedOn, IsOpenedOn};
 ghost use Rattle.admin_run.specs.Outside.{HasStatusCause, Tells};
-ghost use Rattle.admin_run.specs.Serving.{BeginsAt, OpensRows, Serves, TellsStop, served_line};
+ghost use Rattle.admin_run.specs.Serving.{OpensRows, Serves, TellsStop, served_line};
 ghost use Rattle.admin_run.specs.Statuses.{status_of_closed};
+ghost use Rattle.serve_door.specs.Doors.{IsInOrder};
 
 use crate::beginning::{announce, begin};
 use crate::telling::tell_value;
@@ -17,9 +16,10 @@ use front_http::Routes;
 use host_base::Sink;
 use hub_core::{Held, Holding, Locked, NotOpened, OpenFault, SoloDesk};
 use itoa::Buffer;
-use serve_door::{Stop, Stopped, serve_all};
+use serve_door::{Door, Stop, Stopped, serve_all};
 use site_caps::{Registry, SiteDriver};
 use std::alloc::Global;
+use std::sync::Wait;
 
 // The desk of a history on the rows of a keeper, with a driver for each site.
 #[tactic(auto, using(crate::proofs::Registered::never_two))]
@@ -81,7 +81,8 @@ fn tell_stop<O: Sink>(out: &mut O, stopped: Stopped) -> u8
 
 // Opens the rows of the keeper, and serves so many connections on them; prints how many requests were answered where all
 // were served.
-fn serve_rows<W: Setting, C: SiteDriver + Drop>(
+fn serve_rows<R: Wait, W: Setting, C: SiteDriver + Drop>(
+    rt: &R,
     alloc: Global,
     routes: &Routes,
     world: World<W>,
@@ -89,9 +90,7 @@ fn serve_rows<W: Setting, C: SiteDriver + Drop>(
     sites: Vec<C>,
 ) -> Ran<W>
     requires registered { IsRegistered C.Law.law.tags (map C.tag_of sites.items) }
-    requires room { world.doorway.back + count ≤ 4294967296 }
-    requires start { (state : State) → W.Door.start ≡ Some state → (tables : Tables)
-        → AreLoaded world.holds.keeping tables → opened tables ≡ state }
+    requires order { IsInOrder world.doorway }
     ensures opens { OpensRows C.Law.law count world result.world result.status }
     ensures counts { world.outlet.faults ≤ result.world.outlet.faults }
     ensures taken { result.status ≡ 4 → Rose world.doorway.faults result.world.doorway.faults }
@@ -116,7 +115,8 @@ fn serve_rows<W: Setting, C: SiteDriver + Drop>(
             return Ran { status, world };
         }
     };
-    let stopped = serve_all(alloc, routes, &mut door, &mut desk, &link, count);
+    door.expect(count);
+    let stopped = serve_all(rt, alloc, routes, &mut door, &mut desk, &link);
     let status = tell_stop(&mut out, stopped);
     let held = desk.into_locked().into_held();
     let world = joined(Wire { input, out, link }, held, clock, door);
@@ -125,15 +125,15 @@ fn serve_rows<W: Setting, C: SiteDriver + Drop>(
 
 /// Serves so many connections, one after another, from the rows of the keeper. Where it has none it begins with the first
 /// account, and prints its login.
-pub(crate) fn serve<W: Setting, C: SiteDriver + Drop>(
+pub(crate) fn serve<R: Wait, W: Setting, C: SiteDriver + Drop>(
+    rt: &R,
     alloc: Global,
     world: World<W>,
     count: u32,
     sites: Vec<C>,
 ) -> Ran<W>
     requires registered { IsRegistered C.Law.law.tags (map C.tag_of sites.items) }
-    requires room { world.doorway.back + count ≤ 4294967296 }
-    requires start { BeginsAt W.Door.start world.holds }
+    requires order { IsInOrder world.doorway }
     ensures serves { Serves C.Law.law count world result.world result.status }
     ensures cause { HasStatusCause world result.world result.status }
 {
@@ -152,5 +152,5 @@ pub(crate) fn serve<W: Setting, C: SiteDriver + Drop>(
             world,
         };
     }
-    serve_rows(alloc, &routes, world, count, sites)
+    serve_rows(rt, alloc, &routes, world, count, sites)
 }

@@ -4,11 +4,11 @@ ghost use Rattle.std.specs.Prelude.{◌≡◌};
 
 use cloud_keeper::Keeper;
 use cloud_serve::Wire;
-use grain_supervise::{Link, Spawner};
+use grain_supervise::Spawner;
 use host_base::{Secrets, Sink, Source};
 use host_clock::Clock;
 use hub_core::{Held, Holding};
-use serve_door::ServeDoor;
+use serve_door::Door;
 use std::marker::{Model, PhantomData};
 
 /// Of which types the objects are that the program is run with.
@@ -17,20 +17,21 @@ pub trait Setting: Holding {
     type Input: Source + Drop;
     /// What answers and lines are written to.
     type Output: Sink + Drop;
-    /// The link to the grains.
-    type Link: Link + Drop;
     /// What tells the moment. Nothing reads it yet.
     type Clock: Clock + Drop;
-    /// Where connections come in.
-    type Door: ServeDoor + Drop;
+    /// Where connections come in, and the link to the grains.
+    type Door: Door + Drop;
 }
+
+/// The link to the grains.
+pub type LinkOf<W> = <<W as Setting>::Door as Door>::Link;
 
 /// What the program is run with beside its words and the drivers of its sites. It is what these objects tell.
 #[derive(Drop)]
 pub struct World<W: Setting> {
     pub input: W::Input,
     pub out: W::Output,
-    pub link: W::Link,
+    pub link: LinkOf<W>,
     pub held: Held<W>,
     pub clock: W::Clock,
     pub door: W::Door,
@@ -41,7 +42,7 @@ impl<W: Setting> Model for World<W> {
 
     ghost Value = { Outside };
 
-    ghost view = { λ world. record { inlet = W.Input.inlet world.input; outlet = W.Output.outlet world.out; line = W.Link.line world.link; holds = world.held; moments = W.Clock.moments world.clock; doorway = W.Door.doorway world.door } };
+    ghost view = { λ world. record { inlet = W.Input.inlet world.input; outlet = W.Output.outlet world.out; line = W.Door.Link.line world.link; holds = world.held; moments = W.Clock.moments world.clock; doorway = W.Door.doorway world.door } };
 }
 
 /// The status of a run, with its world handed back.
@@ -51,11 +52,11 @@ pub struct Ran<W: Setting> {
     pub world: World<W>,
 }
 
-/// The setting of these types of objects: input, output, link, keeper, secrets, spawner, clock and door.
-pub struct Of<I, O, L, K, S, P, T, E>(PhantomData<(I, O, L, K, S, P, T, E)>);
+/// The setting of these types of objects: input, output, keeper, secrets, spawner, clock and door.
+pub struct Of<I, O, K, S, P, T, E>(PhantomData<(I, O, K, S, P, T, E)>);
 
-impl<I, O, L, K: Keeper + Drop, S: Secrets + Drop, P: Spawner + Drop, T, E> Holding
-    for Of<I, O, L, K, S, P, T, E> {
+impl<I, O, K: Keeper + Drop, S: Secrets + Drop, P: Spawner + Drop, T, E> Holding
+    for Of<I, O, K, S, P, T, E> {
     type Keeper = K;
 
     type Secrets = S;
@@ -66,18 +67,15 @@ impl<I, O, L, K: Keeper + Drop, S: Secrets + Drop, P: Spawner + Drop, T, E> Hold
 impl<
     I: Source + Drop,
     O: Sink + Drop,
-    L: Link + Drop,
     K: Keeper + Drop,
     S: Secrets + Drop,
     P: Spawner + Drop,
     T: Clock + Drop,
-    E: ServeDoor + Drop,
-> Setting for Of<I, O, L, K, S, P, T, E> {
+    E: Door + Drop,
+> Setting for Of<I, O, K, S, P, T, E> {
     type Input = I;
 
     type Output = O;
-
-    type Link = L;
 
     type Clock = T;
 
@@ -88,26 +86,25 @@ impl<
 pub fn world_of<
     I: Source + Drop,
     O: Sink + Drop,
-    L: Link + Drop,
     K: Keeper + Drop,
     S: Secrets + Drop,
     P: Spawner + Drop,
     T: Clock + Drop,
-    E: ServeDoor + Drop,
+    E: Door + Drop,
 >(
     input: I,
     out: O,
-    link: L,
+    link: E::Link,
     keeper: K,
     secrets: S,
     spawner: P,
     clock: T,
     door: E,
-) -> World<Of<I, O, L, K, S, P, T, E>>
+) -> World<Of<I, O, K, S, P, T, E>>
     ensures { result ≡ record {
       inlet = I.inlet input;
       outlet = O.outlet out;
-      line = L.line link;
+      line = E.Link.line link;
       holds = record { keeping = K.keeping keeper; drawer = S.drawer secrets; spawns = P.spawns spawner };
       moments = T.moments clock;
       doorway = E.doorway door;
@@ -129,7 +126,7 @@ pub fn world_of<
 
 // The world of a connection's objects and what stands beside them.
 pub(crate) fn joined<W: Setting>(
-    wire: Wire<W::Input, W::Output, W::Link>,
+    wire: Wire<W::Input, W::Output, LinkOf<W>>,
     held: Held<W>,
     clock: W::Clock,
     door: W::Door,

@@ -1,10 +1,11 @@
 //! The connections at the door.
-ghost use Rattle.std.specs.Prelude.{◌≡◌, All, IfOk};
-ghost use Rattle.conn_door.specs.Doors.{IsFreshPair};
+ghost use Rattle.std.specs.Prelude.{◌≡◌, [], All, IfOk};
+ghost use Rattle.serve_door.specs.Doors.{IsFreshPair};
 
 use crate::conversation::Stream;
-use conn_door::MemDoor;
+use grain_supervise::Link;
 use host_base::{Fails, MemSink, MemSource};
+use serve_door::MemDoor;
 use std::alloc::{AllocError, Global};
 
 // A connection on which this is sent.
@@ -28,8 +29,8 @@ fn connections(alloc: Global, streams: &[Stream]) -> Result<Vec<(MemSource, MemS
 }
 
 /// A door at which these connections come in.
-pub fn door_of(alloc: Global, streams: &[Stream]) -> Result<MemDoor, AllocError>
-    ensures { IfOk result (λ door. door.returns.back ≡ 0) }
+pub fn door_of<L: Link>(alloc: Global, streams: &[Stream]) -> Result<MemDoor<L>, AllocError>
+    ensures { IfOk result (λ door. door.kept ≡ []) }
 {
     match MemDoor::new(alloc, connections(alloc, streams)?) {
         Ok(door) => Ok(door),

@@ -18,17 +18,19 @@ use crate::play::differences;
 use crate::reading::conversations;
 use std::alloc::Global;
 use std::io;
+use std::io::Print;
+use std::sync::Wait;
 use test_words::{Tally, tell};
 
 // Plays a conversation, tells what goes otherwise, and says whether nothing does.
-fn passes(
-    rt: &impl Print,
+fn passes<R: Print + Wait>(
+    rt: &R,
     alloc: Global,
     name: &str,
     conversation: &Conversation,
 ) -> io::Result<bool> {
     let title = conversation.title.as_str();
-    let found = match differences(alloc, conversation) {
+    let found = match differences(rt, alloc, conversation) {
         Ok(found) => found,
         Err(fault) => {
             let came = format!(in alloc; "{fault}")?;
@@ -60,8 +62,8 @@ fn passes(
 }
 
 /// Plays the conversations of a text with a name, and tells what goes otherwise than it is written.
-pub fn play_conversations(
-    rt: &impl Print,
+pub fn play_conversations<R: Print + Wait>(
+    rt: &R,
     alloc: Global,
     name: &str,
     text: &str,

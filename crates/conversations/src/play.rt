@@ -10,6 +10,7 @@ use grain_supervise::{CannedLink, EchoLink, FakeSpawner, Link};
 use host_base::{Answer, ListSecrets, Secrets, SeqSecrets};
 use plain_data::List;
 use std::alloc::Global;
+use std::sync::Wait;
 use test_words::Fault;
 
 // Bytes some times over.
@@ -48,7 +49,8 @@ fn cut_at(
 }
 
 // Plays the runs from one on, and compares what is there at the end. The link is handed back.
-fn play_from<L: Link + Drop, K: Keeper + Drop, S: Secrets + Drop>(
+fn play_from<R: Wait, L: Link + Drop, K: Keeper + Drop, S: Secrets + Drop>(
+    rt: &R,
     alloc: Global,
     conversation: &Conversation,
     first: usize,
@@ -58,7 +60,7 @@ fn play_from<L: Link + Drop, K: Keeper + Drop, S: Secrets + Drop>(
     let mut objects = objects;
     for round in conversation.rounds.iter().skip(first) {
         let part = whole(alloc, conversation, round)?;
-        objects = play_otherwise(alloc, conversation, round, &part, objects, found)?;
+        objects = play_otherwise(rt, alloc, conversation, round, &part, objects, found)?;
     }
     compare_told(alloc, conversation, found, &objects.spawner)?;
     compare_rows(alloc, conversation, found, &mut objects.keeper)?;
@@ -72,7 +74,8 @@ fn spawner_of(alloc: Global, conversation: &Conversation) -> Result<FakeSpawner,
 }
 
 // Plays the runs with the small book, of the first of which a part is played.
-fn over_book<L: Link + Drop, S: Secrets + Drop>(
+fn over_book<R: Wait, L: Link + Drop, S: Secrets + Drop>(
+    rt: &R,
     alloc: Global,
     conversation: &Conversation,
     round: &Round,
@@ -89,12 +92,13 @@ fn over_book<L: Link + Drop, S: Secrets + Drop>(
         secrets,
         spawner,
     };
-    let objects = play_round(alloc, conversation, round, part, objects, found)?;
-    play_from(alloc, conversation, 1, objects, found)
+    let objects = play_round(rt, alloc, conversation, round, part, objects, found)?;
+    play_from(rt, alloc, conversation, 1, objects, found)
 }
 
 // Plays the runs over any keeper.
-fn over_any<L: Link + Drop, K: Keeper + Drop, S: Secrets + Drop>(
+fn over_any<R: Wait, L: Link + Drop, K: Keeper + Drop, S: Secrets + Drop>(
+    rt: &R,
     alloc: Global,
     conversation: &Conversation,
     keeper: K,
@@ -108,11 +112,12 @@ fn over_any<L: Link + Drop, K: Keeper + Drop, S: Secrets + Drop>(
         secrets,
         spawner,
     };
-    play_from(alloc, conversation, 0, objects, found)
+    play_from(rt, alloc, conversation, 0, objects, found)
 }
 
 // Plays the runs over rows in memory.
-fn over_rows<L: Link + Drop, S: Secrets + Drop>(
+fn over_rows<R: Wait, L: Link + Drop, S: Secrets + Drop>(
+    rt: &R,
     alloc: Global,
     conversation: &Conversation,
     objects: (L, S),
@@ -120,11 +125,12 @@ fn over_rows<L: Link + Drop, S: Secrets + Drop>(
 ) -> Result<L, Fault> {
     let fails = List::new(conversation.failing.store.clone()?);
     let keeper = list_of(alloc, first_rows(alloc, conversation)?.as_slice(), fails)?;
-    over_any(alloc, conversation, keeper, objects, found)
+    over_any(rt, alloc, conversation, keeper, objects, found)
 }
 
 // Plays the runs over a database in memory.
-fn over_database<L: Link + Drop, S: Secrets + Drop>(
+fn over_database<R: Wait, L: Link + Drop, S: Secrets + Drop>(
+    rt: &R,
     alloc: Global,
     conversation: &Conversation,
     objects: (L, S),
@@ -133,11 +139,12 @@ fn over_database<L: Link + Drop, S: Secrets + Drop>(
     let rows = first_rows(alloc, conversation)?;
     let mut keeper = database(alloc)?;
     store_rows(alloc, &mut keeper, rows.as_slice())?;
-    over_any(alloc, conversation, keeper, objects, found)
+    over_any(rt, alloc, conversation, keeper, objects, found)
 }
 
 // Plays the runs with a link and secrets.
-fn with_objects<L: Link + Drop, S: Secrets + Drop>(
+fn with_objects<R: Wait, L: Link + Drop, S: Secrets + Drop>(
+    rt: &R,
     alloc: Global,
     conversation: &Conversation,
     part: &Part,
@@ -146,13 +153,13 @@ fn with_objects<L: Link + Drop, S: Secrets + Drop>(
 ) -> Result<L, Fault> {
     let kept = &conversation.kept;
     if kept.database {
-        return over_database(alloc, conversation, objects, found);
+        return over_database(rt, alloc, conversation, objects, found);
     }
     match conversation.rounds.first() {
         Some(round) if !kept.empty && kept.first.is_empty() => {
-            over_book(alloc, conversation, round, part, objects, found)
+            over_book(rt, alloc, conversation, round, part, objects, found)
         }
-        _ => over_rows(alloc, conversation, objects, found),
+        _ => over_rows(rt, alloc, conversation, objects, found),
     }
 }
 
@@ -167,7 +174,8 @@ fn listed(alloc: Global, conversation: &Conversation, of: &[u8]) -> Result<ListS
 }
 
 // Plays the runs with a link, and the secrets that the conversation says.
-fn with_link<L: Link + Drop>(
+fn with_link<R: Wait, L: Link + Drop>(
+    rt: &R,
     alloc: Global,
     conversation: &Conversation,
     part: &Part,
@@ -177,9 +185,16 @@ fn with_link<L: Link + Drop>(
     match &conversation.secrets {
         Some(bytes) => {
             let secrets = listed(alloc, conversation, bytes.as_slice())?;
-            with_objects(alloc, conversation, part, (link, secrets), found)
+            with_objects(rt, alloc, conversation, part, (link, secrets), found)
         }
-        None => with_objects(alloc, conversation, part, (link, SeqSecrets::new()), found),
+        None => with_objects(
+            rt,
+            alloc,
+            conversation,
+            part,
+            (link, SeqSecrets::new()),
+            found,
+        ),
     }
 }
 
@@ -193,7 +208,8 @@ fn grain_answers(alloc: Global, conversation: &Conversation) -> Result<List<Answ
 }
 
 // Plays the runs, of the first of which a part is played.
-fn play_part(
+fn play_part<R: Wait>(
+    rt: &R,
     alloc: Global,
     conversation: &Conversation,
     part: &Part,
@@ -202,17 +218,18 @@ fn play_part(
     let fails = List::new(conversation.failing.link.clone()?);
     if conversation.grains.is_empty() {
         let link = EchoLink::new(alloc, fails);
-        let link = with_link(alloc, conversation, part, link, found)?;
+        let link = with_link(rt, alloc, conversation, part, link, found)?;
         return compare_asked(alloc, conversation, found, link.asked());
     }
     let answers = grain_answers(alloc, conversation)?;
     let link = CannedLink::new(alloc, answers, fails);
-    let link = with_link(alloc, conversation, part, link, found)?;
+    let link = with_link(rt, alloc, conversation, part, link, found)?;
     compare_asked(alloc, conversation, found, link.asked())
 }
 
 // Plays the first run, cut at each of its lengths until something goes otherwise.
-fn play_cuts(
+fn play_cuts<R: Wait>(
+    rt: &R,
     alloc: Global,
     conversation: &Conversation,
     round: &Round,
@@ -222,21 +239,25 @@ fn play_cuts(
     for length in 0..all {
         if found.is_empty() {
             let part = cut_at(alloc, conversation, round, length)?;
-            play_part(alloc, conversation, &part, found)?;
+            play_part(rt, alloc, conversation, &part, found)?;
         }
     }
     Ok(())
 }
 
 /// What goes otherwise than a conversation says.
-pub fn differences(alloc: Global, conversation: &Conversation) -> Result<Vec<Difference>, Fault> {
+pub fn differences<R: Wait>(
+    rt: &R,
+    alloc: Global,
+    conversation: &Conversation,
+) -> Result<Vec<Difference>, Fault> {
     let mut found = Vec::new(alloc);
     if let Some(round) = conversation.rounds.first() {
         if conversation.cuts {
-            play_cuts(alloc, conversation, round, &mut found)?;
+            play_cuts(rt, alloc, conversation, round, &mut found)?;
         }
         let part = whole(alloc, conversation, round)?;
-        play_part(alloc, conversation, &part, &mut found)?;
+        play_part(rt, alloc, conversation, &part, &mut found)?;
     }
     Ok(found)
 }

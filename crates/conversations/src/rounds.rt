@@ -11,13 +11,14 @@ use admin_run::{Ran, World, run, world_of};
 use cloud_keeper::Keeper;
 use club_site::plain_sites;
 use command_line::{Line, line_of};
-use conn_door::MemDoor;
 use grain_supervise::{FakeSpawner, Link};
 use host_base::{MemSink, MemSource, Secrets};
 use host_clock::StillClock;
 use hub_core::Held;
 use plain_data::List;
+use serve_door::MemDoor;
 use std::alloc::Global;
+use std::sync::Wait;
 use test_words::Fault;
 
 /// The objects around the server, which go on from run to run.
@@ -39,37 +40,37 @@ pub struct Part {
 
 /// What came of a run: what was written, the door with its connections, and the status.
 #[derive(Drop)]
-struct Came {
+struct Came<L: Link> {
     out: MemSink,
-    door: MemDoor,
+    door: MemDoor<L>,
     status: u8,
 }
 
 // Compares what came on the connections at the door.
-fn compare_streams(
+fn compare_streams<L: Link>(
     alloc: Global,
     round: &Round,
     found: &mut Vec<Difference>,
-    door: &MemDoor,
+    door: &MemDoor<L>,
 ) -> Result<(), Fault> {
     let (streams, kept) = (round.streams.as_slice(), door.kept());
     let place = (round.own.line, "how many connections were served");
     compare_numbers(alloc, found, place, streams.len(), kept.len())?;
-    for (stream, pair) in streams.iter().zip(kept.iter()) {
+    for (stream, connection) in streams.iter().zip(kept.iter()) {
         let place = (stream.line, "the answer on a connection");
         let wanted = (stream.answered.as_slice(), 1);
-        compare_bytes(alloc, found, place, wanted, pair.1.written())?;
+        compare_bytes(alloc, found, place, wanted, connection.wire.out.written())?;
     }
     Ok(())
 }
 
 // Compares what came of a run.
-fn compare(
+fn compare<L: Link>(
     alloc: Global,
     round: &Round,
     part: &Part,
     found: &mut Vec<Difference>,
-    came: &Came,
+    came: &Came<L>,
 ) -> Result<(), Fault> {
     let place = (round.own.line, "the answer");
     let wanted = (round.own.answered.as_slice(), part.times);
@@ -93,7 +94,8 @@ fn source(alloc: Global, conversation: &Conversation, part: &Part) -> Result<Mem
 }
 
 /// Plays a run, and compares what comes of it. The objects are handed back.
-pub fn play_round<L: Link + Drop, K: Keeper + Drop, S: Secrets + Drop>(
+pub fn play_round<R: Wait, L: Link + Drop, K: Keeper + Drop, S: Secrets + Drop>(
+    rt: &R,
     alloc: Global,
     conversation: &Conversation,
     round: &Round,
@@ -117,7 +119,7 @@ pub fn play_round<L: Link + Drop, K: Keeper + Drop, S: Secrets + Drop>(
         StillClock::new(0),
         door,
     );
-    let Ran { status, world } = run(alloc, round.words.as_slice(), world, sites);
+    let Ran { status, world } = run(rt, alloc, round.words.as_slice(), world, sites);
     let World {
         input: _,
         out,
@@ -142,7 +144,8 @@ pub fn play_round<L: Link + Drop, K: Keeper + Drop, S: Secrets + Drop>(
 
 /// The same of a run over any keeper, of which the words may not be those that begin with the small book.
 #[tactic(auto, using(admin_run::proofs::Begins::begins_otherwise))]
-pub fn play_otherwise<L: Link + Drop, K: Keeper + Drop, S: Secrets + Drop>(
+pub fn play_otherwise<R: Wait, L: Link + Drop, K: Keeper + Drop, S: Secrets + Drop>(
+    rt: &R,
     alloc: Global,
     conversation: &Conversation,
     round: &Round,
@@ -151,8 +154,8 @@ pub fn play_otherwise<L: Link + Drop, K: Keeper + Drop, S: Secrets + Drop>(
     found: &mut Vec<Difference>,
 ) -> Result<Objects<L, K, S>, Fault> {
     match line_of(alloc, round.words.as_slice())? {
-        Line::Serve { .. } => play_round(alloc, conversation, round, part, objects, found),
-        Line::Check => play_round(alloc, conversation, round, part, objects, found),
+        Line::Serve { .. } => play_round(rt, alloc, conversation, round, part, objects, found),
+        Line::Check => play_round(rt, alloc, conversation, round, part, objects, found),
         _ => Err(Fault::Unreadable),
     }
 }

@@ -1,3 +1,4 @@
 pub mod Stated
 pub mod Answering
 pub mod Reading
+pub mod Taking

@@ -1,11 +1,13 @@
 //! All connections.
-ghost use Rattle.std.specs.Prelude.{◌≡◌, ℕ, ◌+◌, ◌<◌, ◌≤◌, List, true, false, Some, Ok, OnErr};
+ghost use Rattle.std.specs.Prelude.{◌≡◌, ◌≢◌, ℕ, ◌≤◌, List, Some, IsErrOf, OnOk};
 ghost use Rattle.host_base.specs.Outside.{Rose};
 ghost use Rattle.grain_program.specs.Answering.{Prints};
+ghost use Rattle.grain_program.specs.Taking.{Takes};
+ghost use Rattle.serve_door.specs.Doors.{HasGivenAll, one_given};
 
 use crate::answer::answer_one;
-use conn_door::Door;
 use host_base::{Memory, Sink};
+use serve_door::{Door, NoneCame};
 use std::alloc::Global;
 
 /// How the program ended.
@@ -21,20 +23,26 @@ pub enum GrainEnd {
     Memory,
 }
 
-// Takes the next connection, answers it and drops it; whether one came.
-fn take_one<E: Door>(alloc: Global, door: &mut E) -> Result<bool, Memory>
+// Takes the next connection, answers it and drops it; else how the program ends.
+fn take_one<E: Door>(alloc: Global, door: &mut E) -> Result<(), GrainEnd>
     ensures counts { (E.doorway door.old).faults ≤ (E.doorway door.new).faults }
-    ensures given { result ≡ Ok true → (E.doorway door.new).given ≡ (E.doorway door.old).given + 1 }
-    ensures failed { result ≡ Ok false → Rose (E.doorway door.old).faults (E.doorway door.new).faults }
-    ensures kept { result ≡ Ok false → (E.doorway door.new).given ≡ (E.doorway door.old).given }
-    ensures memory { OnErr result ((E.doorway door.new).given ≡ (E.doorway door.old).given + 1) }
+    ensures given { OnOk result (E.doorway door.new ≡ one_given (E.doorway door.old)) }
+    ensures memory { IsErrOf result GrainEnd.Memory → E.doorway door.new ≡ one_given (E.doorway door.old) }
+    ensures ended { IsErrOf result GrainEnd.Done → HasGivenAll (E.doorway door.old) }
+    ensures ended_same { IsErrOf result GrainEnd.Done → E.doorway door.new ≡ E.doorway door.old }
+    ensures failed { IsErrOf result GrainEnd.DoorFailed
+        → Rose (E.doorway door.old).faults (E.doorway door.new).faults }
+    ensures failed_same { IsErrOf result GrainEnd.DoorFailed
+        → (E.doorway door.new).traffic ≡ (E.doorway door.old).traffic }
+    ensures printed { IsErrOf result GrainEnd.WriteFailed → ⊥ }
 {
     match door.accept() {
         Ok((mut input, mut output)) => match answer_one(alloc, &mut input, &mut output) {
-            Ok(_) => Ok(true),
-            Err(Memory) => Err(Memory),
+            Ok(_) => Ok(()),
+            Err(Memory) => Err(GrainEnd::Memory),
         },
-        Err(_) => Ok(false),
+        Err(NoneCame::Ended) => Err(GrainEnd::Done),
+        Err(NoneCame::Failed) => Err(GrainEnd::DoorFailed),
     }
 }
 
@@ -47,25 +55,23 @@ pub fn run_grain<E: Door, O: Sink>(alloc: Global, door: &mut E, out: &mut O, cou
         → Prints old result (O.outlet out.new).written }
 
     // All connections were taken, or fewer and the door failed, or none and the output failed, or some and memory ran out.
-    ensures done { result ≡ GrainEnd.Done → (E.doorway door.new).given ≡ (E.doorway door.old).given + count }
+    ensures takes { result ≢ GrainEnd.WriteFailed
+        → Takes count (E.doorway door.old) (E.doorway door.new) result }
     ensures door_failed { result ≡ GrainEnd.DoorFailed
         → Rose (E.doorway door.old).faults (E.doorway door.new).faults }
-    ensures fewer { result ≡ GrainEnd.DoorFailed
-        → (E.doorway door.new).given < (E.doorway door.old).given + count }
     ensures write_failed { result ≡ GrainEnd.WriteFailed
         → Rose (O.outlet out.old).faults (O.outlet out.new).faults }
     ensures untaken { result ≡ GrainEnd.WriteFailed → door.new ≡ door.old }
-    ensures most { (E.doorway door.new).given ≤ (E.doorway door.old).given + count }
 {
     match out.put(b"ready\n") {
         Ok(()) => {}
         Err(_) => return GrainEnd::WriteFailed,
     }
-    for _ in 0..count {
+    door.expect(count);
+    'connections: for _taken in 0..count {
         match take_one(alloc, door) {
-            Ok(true) => {}
-            Ok(false) => return GrainEnd::DoorFailed,
-            Err(Memory) => return GrainEnd::Memory,
+            Ok(()) => {}
+            Err(end) => return end,
         }
     }
     GrainEnd::Done

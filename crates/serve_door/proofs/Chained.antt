@@ -1,68 +1,137 @@
 -- Connections served one after another, and one more.
-use Rattle.std.proofs.Common.{◌≡◌, ◌∙◌, ℕ, ◌+◌, ◌++◌, List, [], ◌∷◌, length, refl, ap, sym, subst, arith}
-use Rattle.std.specs.List.{sum}
+use Rattle.std.proofs.Common.{◌≡◌, ◌∙◌, ℕ, ◌+◌, ◌++◌, ◌<◌, ◌≤◌, min, List, [], ◌∷◌, Option, None, Some, length, refl, ap, sym, subst, arith, append_assoc, append-nil, length-append}
+use Rattle.std.specs.List.{sum_by}
+use Rattle.std.specs.Option.{option_map}
 use Rattle.std.proofs.lemmas.List.Sums.{sum_by-append}
 use Rattle.hub_core.specs.Book.{Book}
-use Rattle.conn_door.specs.Doors.{Doorway}
-use Rattle.serve_door.specs.Connections.{AreServed, ServesMany, ServesOne}
+use Rattle.serve_door.specs.Connections.{AreServed, IsServed, ServesMany, answered_on, door_after, traffic_after}
+use Rattle.serve_door.specs.Doors.{Connection, Doorway, IsDue, IsInOrder, IsOneOut, IsWithinPlan, Traffic, expecting, given_back, one_given}
 
-one_more : (old new newer : Book) (numbers : List ℕ) (served : ℕ) → AreServed old new numbers → ServesOne new newer served → AreServed old newer (numbers ++ served ∷ [])
-one_more old new newer [] served is one = (newer, subst (λ (b : Book). ServesOne b newer served) is one, refl)
-one_more old new newer (n ∷ more) served (between, first, rest) one = (between, first, one_more between new newer more served rest one)
+one_more : (old new newer : Book) (list : List Connection) (one : Connection) → AreServed old new list → IsServed new newer one → AreServed old newer (list ++ one ∷ [])
+one_more old new newer [] one is served = (newer, subst (λ (b : Book). IsServed b newer one) is served, refl)
+one_more old new newer (first ∷ more) one (between, is, rest) served = (between, is, one_more between new newer more one rest served)
 
-sum_more : (numbers : List ℕ) (served : ℕ) → sum (numbers ++ served ∷ []) ≡ sum numbers + served
-sum_more numbers served =
-    let alone : sum (served ∷ []) ≡ served = omega arith in
-    sum_by-append (λ n. n) numbers (served ∷ []) ∙ ap (λ n. sum numbers + n) alone
+abbrev served_on : Connection → ℕ
+served_on one = one.end.served
 
-length_more : (numbers : List ℕ) (served : ℕ) → length (numbers ++ served ∷ []) ≡ length numbers + 1
-length_more [] served = refl
-length_more (n ∷ more) served = omega (arith, length_more more served)
+capped : (sum more : ℕ) → min (min sum 18446744073709551615 + more) 18446744073709551615 ≡ min (sum + more) 18446744073709551615
+capped sum more = omega (arith)
 
-abbrev doorway : ℕ → ℕ → ℕ → ℕ → Doorway
-doorway faults given back answered = record { faults = faults; given = given; back = back; answered = answered }
+answered_more : (list : List Connection) (one : Connection) → min (answered_on list + one.end.served) 18446744073709551615 ≡ answered_on (list ++ one ∷ [])
+answered_more list one =
+    let alone : sum_by served_on (one ∷ []) ≡ served_on one = omega arith in
+    capped (sum_by served_on list) (served_on one)
+    ∙ ap (λ n. min n 18446744073709551615) (sym (sum_by-append served_on list (one ∷ []) ∙ ap (λ n. sum_by served_on list + n) alone))
+
+abbrev traffic : ℕ → ℕ → List Connection → Traffic
+traffic planned given returned = record { planned = planned; given = given; returned = returned }
+
+more_given : (given : ℕ) (list : List Connection) (one : Connection) → given + length list + 1 ≡ given + length (list ++ one ∷ [])
+more_given given list one = let long = length-append list (one ∷ []) in omega (arith, long)
+
+traffic_more : (told : Option Traffic) (list : List Connection) (one : Connection)
+    → option_map (λ (t : Traffic). record t { returned = t.returned ++ one ∷ [] }) (option_map (λ (t : Traffic). record t { given = t.given + 1 }) (option_map (traffic_after list) told))
+    ≡ option_map (traffic_after (list ++ one ∷ [])) told
+traffic_more None list one = refl
+traffic_more (Some t) list one =
+    let same : traffic t.planned (t.given + length list + 1) ((t.returned ++ list) ++ one ∷ []) ≡ traffic t.planned (t.given + length (list ++ one ∷ [])) (t.returned ++ (list ++ one ∷ [])) =
+    cc (more_given t.given list one, append_assoc t.returned list (one ∷ [])) in
+    ap (λ (x : Traffic). Some x) same
 
 plus_none : (a n : ℕ) → n ≡ 0 → a ≡ a + n
 plus_none a n none = omega (arith, none)
 
-same_door : (door : Doorway) (n : ℕ) → n ≡ 0 → door ≡ record { faults = door.faults; given = door.given + n; back = door.back + n; answered = door.answered + 0 }
-same_door door n none =
-    let same : doorway door.faults door.given door.back door.answered ≡ doorway door.faults (door.given + n) (door.back + n) (door.answered + 0) =
-    cc (plus_none door.given n none, plus_none door.back n none, plus_none door.answered 0 refl) in
-    same
+traffic_none : (told : Option Traffic) → told ≡ option_map (traffic_after []) told
+traffic_none None = refl
+traffic_none (Some t) =
+    let same : traffic t.planned t.given t.returned ≡ traffic t.planned (t.given + 0) (t.returned ++ []) = cc (plus_none t.given 0 refl, append-nil t.returned) in
+    ap (λ (x : Traffic). Some x) same
+
+abbrev doorway : ℕ → Option Traffic → Doorway
+doorway faults told = record { faults = faults; traffic = told }
 
 -- no connection yet
 pub none_yet : (book : Book) (door : Doorway) → ServesMany book book door door 0
-none_yet book door = record { numbers = []; connections = refl; answered_is = refl; doorway_is = same_door door 0 refl }
+none_yet book door = record {
+  connections = [];
+  served = refl;
+  doorway_is = (let same : doorway door.faults door.traffic ≡ doorway door.faults (option_map (traffic_after []) door.traffic) = cc (traffic_none door.traffic) in same);
+  answered_is = refl;
+}
 
 -- one connection more
-pub many_more : (old new newer : Book) (door now later : Doorway) (answered served : ℕ) → ServesMany old new door now answered → ServesOne new newer served
-    → later ≡ record { faults = later.faults; given = now.given + 1; back = now.back + 1; answered = now.answered + served } → ServesMany old newer door later (answered + served)
-many_more old new newer door now later answered served many one is = record {
-  numbers = many.numbers ++ served ∷ [];
-  connections = one_more old new newer many.numbers served many.connections one;
-  answered_is = ap (λ n. n + served) many.answered_is ∙ sym (sum_more many.numbers served);
+pub many_more : (old new newer : Book) (door now later : Doorway) (answered : ℕ) (one : Connection) → ServesMany old new door now answered → IsServed new newer one
+    → later ≡ given_back (one_given now) one → ServesMany old newer door later (min (answered + one.end.served) 18446744073709551615)
+many_more old new newer door now later answered one many served is = record {
+  connections = many.connections ++ one ∷ [];
+  served = one_more old new newer many.connections one many.served served;
   doorway_is =
-      let given : later.given ≡ door.given + length (many.numbers ++ served ∷ []) = omega (arith, ap (λ (d : Doorway). d.given) is, ap (λ (d : Doorway). d.given) many.doorway_is, length_more many.numbers served) in
-      let back : later.back ≡ door.back + length (many.numbers ++ served ∷ []) = omega (arith, ap (λ (d : Doorway). d.back) is, ap (λ (d : Doorway). d.back) many.doorway_is, length_more many.numbers served) in
-      let answers : later.answered ≡ door.answered + (answered + served) = omega (arith, ap (λ (d : Doorway). d.answered) is, ap (λ (d : Doorway). d.answered) many.doorway_is) in
-      let same : doorway later.faults later.given later.back later.answered ≡ doorway later.faults (door.given + length (many.numbers ++ served ∷ [])) (door.back + length (many.numbers ++ served ∷ [])) (door.answered + (answered + served)) = cc (given, back, answers) in
-      same;
+      (let told : later.traffic ≡ option_map (traffic_after (many.connections ++ one ∷ [])) door.traffic =
+      ap (λ (d : Doorway). d.traffic) is
+      ∙ ap (λ (d : Doorway). option_map (λ (t : Traffic). record t { returned = t.returned ++ one ∷ [] }) (option_map (λ (t : Traffic). record t { given = t.given + 1 }) d.traffic)) many.doorway_is
+      ∙ traffic_more door.traffic many.connections one in
+      let same : doorway later.faults later.traffic ≡ door_after door later.faults (many.connections ++ one ∷ []) = cc told in
+      same);
+  answered_is = ap (λ (n : ℕ). min (n + one.end.served) 18446744073709551615) many.answered_is ∙ answered_more many.connections one;
 }
-
-pub back_more : (now later : Doorway) (begun taken faults answered : ℕ) → now.back ≡ begun + taken → later ≡ record { faults = faults; given = now.given + 1; back = now.back + 1; answered = answered } → later.back ≡ begun + (taken + 1)
-back_more now later begun taken faults answered before is = omega (arith, before, ap (λ (d : Doorway). d.back) is)
 
 -- none more was given
-pub no_more : (old new : Book) (door now later : Doorway) (answered : ℕ) → ServesMany old new door now answered → later ≡ record now { faults = later.faults } → ServesMany old new door later answered
+pub no_more : (old new : Book) (door now later : Doorway) (answered : ℕ) → ServesMany old new door now answered → later ≡ record now { faults = later.faults }
+    → ServesMany old new door later answered
 no_more old new door now later answered many is = record {
-  numbers = many.numbers;
   connections = many.connections;
-  answered_is = many.answered_is;
+  served = many.served;
   doorway_is =
-      let given : later.given ≡ door.given + length many.numbers = ap (λ (d : Doorway). d.given) is ∙ ap (λ (d : Doorway). d.given) many.doorway_is in
-      let back : later.back ≡ door.back + length many.numbers = ap (λ (d : Doorway). d.back) is ∙ ap (λ (d : Doorway). d.back) many.doorway_is in
-      let answers : later.answered ≡ door.answered + answered = ap (λ (d : Doorway). d.answered) is ∙ ap (λ (d : Doorway). d.answered) many.doorway_is in
-      let same : doorway later.faults later.given later.back later.answered ≡ doorway later.faults (door.given + length many.numbers) (door.back + length many.numbers) (door.answered + answered) = cc (given, back, answers) in
-      same;
+      (let told : later.traffic ≡ option_map (traffic_after many.connections) door.traffic = ap (λ (d : Doorway). d.traffic) is ∙ ap (λ (d : Doorway). d.traffic) many.doorway_is in
+      let same : doorway later.faults later.traffic ≡ door_after door later.faults many.connections = cc told in
+      same);
+  answered_is = many.answered_is;
 }
+
+out_of : (told : Option Traffic) → ((t : Traffic) → told ≡ Some t → length t.returned ≤ t.given)
+    → (t : Traffic) → option_map (λ (t : Traffic). record t { given = t.given + 1 }) told ≡ Some t → length t.returned < t.given
+out_of None order t is = cc is
+out_of (Some x) order t is =
+    let same : record x { given = x.given + 1 } ≡ t = cc is in
+    let few = order x refl in
+    subst (λ (y : Traffic). length y.returned < y.given) same (omega (arith, few))
+
+-- where one more was given, one is out
+pub is_out : (door : Doorway) → IsInOrder door → IsOneOut (one_given door)
+is_out door order = out_of door.traffic order
+
+order_of : (told : Option Traffic) (one : Connection) → ((t : Traffic) → told ≡ Some t → length t.returned ≤ t.given)
+    → (t : Traffic) → option_map (λ (t : Traffic). record t { returned = t.returned ++ one ∷ [] }) (option_map (λ (t : Traffic). record t { given = t.given + 1 }) told) ≡ Some t → length t.returned ≤ t.given
+order_of None one order t is = cc is
+order_of (Some x) one order t is =
+    let same : record x { given = x.given + 1; returned = x.returned ++ one ∷ [] } ≡ t = cc is in
+    let few = order x refl in
+    let long = length-append x.returned (one ∷ []) in
+    subst (λ (y : Traffic). length y.returned ≤ y.given) same (omega (arith, few, long))
+
+-- and once it came back all are in order
+pub in_order : (door later : Doorway) (one : Connection) → IsInOrder door → later ≡ given_back (one_given door) one → IsInOrder later
+in_order door later one order is = subst (λ (d : Doorway). IsInOrder d) (sym is) (order_of door.traffic one order)
+
+due_of : (told : Option Traffic) (one : Connection) → ((t : Traffic) → told ≡ Some t → t.given < t.planned)
+    → (t : Traffic) → option_map (λ (t : Traffic). record t { returned = t.returned ++ one ∷ [] }) (option_map (λ (t : Traffic). record t { given = t.given + 1 }) told) ≡ Some t → t.given ≤ t.planned
+due_of None one due t is = cc is
+due_of (Some x) one due t is =
+    let same : record x { given = x.given + 1; returned = x.returned ++ one ∷ [] } ≡ t = cc is in
+    let less = due x refl in
+    subst (λ (y : Traffic). y.given ≤ y.planned) same (omega (arith, less))
+
+-- one that was due is within the plan
+pub within_plan : (door later : Doorway) (one : Connection) → IsDue door → later ≡ given_back (one_given door) one → IsWithinPlan later
+within_plan door later one due is = subst (λ (d : Doorway). IsWithinPlan d) (sym is) (due_of door.traffic one due)
+
+expected_of : (told : Option Traffic) (count : ℕ) → ((t : Traffic) → told ≡ Some t → length t.returned ≤ t.given)
+    → (t : Traffic) → option_map (λ (t : Traffic). record t { planned = t.given + count }) told ≡ Some t → length t.returned ≤ t.given
+expected_of None count order t is = cc is
+expected_of (Some x) count order t is =
+    let same : record x { planned = x.given + count } ≡ t = cc is in
+    subst (λ (y : Traffic). length y.returned ≤ y.given) same (order x refl)
+
+-- a door is in order too once it is to give some
+pub expected_in_order : (door : Doorway) (count : ℕ) → IsInOrder door → IsInOrder (expecting door count)
+expected_in_order door count order = expected_of door.traffic count order

@@ -1,3 +1,2 @@
 pub mod Chained
 pub mod Fresh
-pub mod Within

@@ -1,39 +1,43 @@
 -- Connections that are served one after another by one desk.
-use Rattle.std.specs.Prelude.{◌≡◌, ℕ, ◌+◌, List, [], ◌∷◌, length, sum}
+use Rattle.std.specs.Prelude.{◌≡◌, ℕ, ◌+◌, ◌++◌, List, [], ◌∷◌, length, min, sum_by, option_map}
 use Rattle.grain_supervise.specs.Line.{fresh_line}
-use Rattle.conn_door.specs.Doors.{Doorway, IsFreshInlet, IsFreshOutlet}
 use Rattle.hub_core.specs.Book.{Book}
-use Rattle.cloud_serve.specs.declared.serve.End.{End}
-use Rattle.cloud_serve.specs.Served.{World, Wired, Served, with_book}
+use Rattle.cloud_serve.specs.Served.{World, Served, with_book}
+use Rattle.serve_door.specs.Doors.{Connection, Doorway, IsFreshInlet, IsFreshOutlet, Traffic}
 
--- A CONNECTION WAS SERVED and stands so now: by the headline, from an input of which nothing was read, to an output to which nothing was written,
--- over a link without a fault of which nothing was asked.
-pub record IsServed (new : World) (end : End) (from : ℕ) (places : List ℕ) (served forwarded : ℕ) : Type 0 where
+-- A CONNECTION WAS SERVED by a desk, and stands so now: by the headline, from an input of which nothing was read, to an
+-- output to which nothing was written, over a link without a fault of which nothing was asked. The desk told the one thing
+-- before it and tells the other behind it.
+pub record IsServed (before after : Book) (one : Connection) : Type 0 where
   pub old : World
+  pub begins : old.book ≡ before
   pub input : IsFreshInlet old.inlet
-  pub whole : new.inlet.whole ≡ old.inlet.whole
+  pub whole : one.wire.inlet.whole ≡ old.inlet.whole
   pub output : IsFreshOutlet old.outlet
   pub link : old.line ≡ fresh_line old.line
-  pub headline : Served old new end from places served forwarded
+  pub headline : Served old (with_book one.wire after)
+      one.end.end one.end.from one.end.places one.end.served one.end.forwarded
 
--- One connection was served by a desk, which told the one thing before it and tells the other behind it, with so many requests answered.
-pub record ServesOne (old new : Book) (served : ℕ) : Type 0 where
-  pub wire : Wired
-  pub end : End
-  pub from : ℕ
-  pub places : List ℕ
-  pub forwarded : ℕ
-  pub connection : IsServed (with_book wire new) end from places served forwarded
-  pub begins : connection.old.book ≡ old
-
--- Connections were served one after another, each where the one before it left the desk, with so many requests answered on each.
-abbrev pub AreServed : Book → Book → List ℕ → Type 0
+-- Connections were served one after another, each where the one before it left the desk.
+abbrev pub AreServed : Book → Book → List Connection → Type 0
 AreServed old new [] = new ≡ old
-AreServed old new (served ∷ more) = (between : Book) × ServesOne old between served × AreServed between new more
+AreServed old new (one ∷ more) = (between : Book) × IsServed old between one × AreServed between new more
 
--- CONNECTIONS WERE TAKEN at a door, served one after another, and given back, with so many requests answered on all of them.
+-- how many requests were answered on connections; a number of 64 bits stays at its last value
+abbrev pub answered_on : List Connection → ℕ
+answered_on list = min (sum_by (λ one. one.end.served) list) 18446744073709551615
+
+-- the traffic of a door once it gave these connections and was given them back
+abbrev pub traffic_after : List Connection → Traffic → Traffic
+traffic_after list t = record t { given = t.given + length list; returned = t.returned ++ list }
+
+-- what the door tells then
+abbrev pub door_after : Doorway → ℕ → List Connection → Doorway
+door_after door faults list = record { faults = faults; traffic = option_map (traffic_after list) door.traffic }
+
+-- CONNECTIONS WERE TAKEN at a door, served one after another, and given back: those that it tells, where it tells them.
 pub record ServesMany (old new : Book) (door door' : Doorway) (answered : ℕ) : Type 0 where
-  pub numbers : List ℕ
-  pub connections : AreServed old new numbers
-  pub answered_is : answered ≡ sum numbers
-  pub doorway_is : door' ≡ record { faults = door'.faults; given = door.given + length numbers; back = door.back + length numbers; answered = door.answered + answered }
+  pub connections : List Connection
+  pub served : AreServed old new connections
+  pub doorway_is : door' ≡ door_after door door'.faults connections
+  pub answered_is : answered ≡ answered_on connections

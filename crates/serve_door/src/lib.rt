@@ -1,9 +1,12 @@
-//! Connections that are taken at a door and served one after another.
+//! Connections that are taken at a door, served one after another, and given back.
 #![tactic(auto)]
 
-mod doors;
-mod serve_door;
+mod connection;
+mod door;
+mod mem_door;
 mod serving;
 
-pub use serve_door::ServeDoor;
+pub use connection::Connection;
+pub use door::{Door, NoneCame};
+pub use mem_door::MemDoor;
 pub use serving::{Stop, Stopped, serve_all};

@@ -1,24 +1,22 @@
 //! Connections are served one after another.
-ghost use Rattle.std.specs.Prelude.{◌≡◌, ◌+◌, ◌<◌, ◌≤◌, Some, IfOk, OnOk, OnErr, IsErrOf};
+ghost use Rattle.std.specs.Prelude.{◌≡◌, ◌≤◌, IfOk, OnErr, IsErrOf};
 ghost use Rattle.host_base.specs.Outside.{Rose};
-ghost use Rattle.share_graph.specs.declared.state.State.{State};
-ghost use Rattle.conn_door.specs.Doors.{Doorway};
 ghost use Rattle.hub_core.specs.Book.{Book};
-ghost use Rattle.serve_door.specs.Connections.{ServesMany, ServesOne};
+ghost use Rattle.serve_door.specs.Connections.{IsServed, ServesMany};
+ghost use Rattle.serve_door.specs.Doors.{Connection as TheConnection, HasGivenAll, IsInOrder, IsWithinPlan, given_back, one_given};
 
-use crate::serve_door::ServeDoor;
+use crate::door::{Door, NoneCame};
 use cloud_serve::{Wire, serve_conn};
-use conn_door::DoorFailed;
 use front_http::Routes;
 use grain_supervise::Link;
-use host_base::Memory;
 use hub_core::Desk;
 use std::alloc::Global;
+use std::sync::Wait;
 
 /// Why no further connection was served.
 #[derive(Clone, Copy, Debug, PartialEq, Eq)]
 pub enum Stop {
-    /// As many were served as were asked for.
+    /// All that the door was to give were served.
     All,
     /// The door failed, which it counted.
     DoorFailed,
@@ -34,74 +32,69 @@ pub struct Stopped {
 }
 
 // Serves the next connection, over a link of its own: how many requests were answered on it.
-fn serve_next<E: ServeDoor, D: Desk, L: Link + Drop>(
+fn serve_next<E: Door, D: Desk>(
     alloc: Global,
     routes: &Routes,
     door: &mut E,
     desk: &mut D,
-    link: &L,
+    link: &E::Link,
 ) -> Result<u64, Stop>
-    requires room { (E.doorway door.old).back < 4294967296 }
-    requires start { (state : State) → E.start ≡ Some state → (D.book desk.old).start ≡ state }
-    ensures serves { IfOk result (λ served. ServesOne (D.book desk.old) (D.book desk.new) served) }
-    ensures few { IfOk result (λ served. served ≤ 1000000) }
+    requires { IsInOrder (E.doorway door.old) }
+    ensures serves { IfOk result (λ served. (one : TheConnection) × IsServed (D.book desk.old) (D.book desk.new) one
+        × (one.end.served ≡ served) × (E.doorway door.new ≡ given_back (one_given (E.doorway door.old)) one)) }
+    ensures within { IsWithinPlan (E.doorway door.old) → IsWithinPlan (E.doorway door.new) }
     ensures begins { (D.book desk.new).start ≡ (D.book desk.old).start }
-    ensures back { IfOk result (λ served. E.doorway door.new
-        ≡ record {
-          faults = (E.doorway door.new).faults;
-          given = (E.doorway door.old).given + 1;
-          back = (E.doorway door.old).back + 1;
-          answered = (E.doorway door.old).answered + served;
-        }) }
-    ensures counts { (E.doorway door.old).faults ≤ (E.doorway door.new).faults }
     ensures unserved { OnErr result (desk.new ≡ desk.old) }
     ensures ungiven { OnErr result (E.doorway door.new
         ≡ record (E.doorway door.old) { faults = (E.doorway door.new).faults }) }
+    ensures counts { (E.doorway door.old).faults ≤ (E.doorway door.new).faults }
+    ensures all { IsErrOf result Stop.All → HasGivenAll (E.doorway door.new) }
     ensures cause { IsErrOf result Stop.DoorFailed
         → Rose (E.doorway door.old).faults (E.doorway door.new).faults }
-    ensures ends { IsErrOf result Stop.All → ⊥ }
 {
     let Ok(link) = link.another(alloc) else {
         return Err(Stop::Memory);
     };
-    let Ok((input, out)) = door.accept() else {
-        return Err(Stop::DoorFailed);
-    };
-    let mut wire = Wire { input, out, link };
-    let end = serve_conn(alloc, routes, &mut wire, desk);
-    let Wire { input, out, link } = wire;
-    door.done(input, out, &end, desk, &link);
-    Ok(end.served)
+    match door.accept() {
+        Ok((input, out)) => {
+            let mut wire = Wire { input, out, link };
+            let end = serve_conn(alloc, routes, &mut wire, desk);
+            let served = end.served;
+            let Wire { input, out, link } = wire;
+            door.done(input, out, link, end, desk);
+            Ok(served)
+        }
+        Err(NoneCame::Ended) => Err(Stop::All),
+        Err(NoneCame::Failed) => Err(Stop::DoorFailed),
+    }
 }
 
-/// Serves so many connections, one after another, each over a link of its own, and gives each back to the door.
-pub fn serve_all<E: ServeDoor, D: Desk, L: Link + Drop>(
+/// Serves the connections that the door is to give, one after another, each over a link of its own, and gives each back to the
+/// door. It waits by a handle as long as one is to come.
+pub fn serve_all<R: Wait, E: Door, D: Desk>(
+    rt: &R,
     alloc: Global,
     routes: &Routes,
     door: &mut E,
     desk: &mut D,
-    link: &L,
-    count: u32,
+    link: &E::Link,
 ) -> Stopped
-    requires room { (E.doorway door.old).back + count ≤ 4294967296 }
-    requires start { (state : State) → E.start ≡ Some state → (D.book desk.old).start ≡ state }
+    requires { IsInOrder (E.doorway door.old) }
     ensures served { ServesMany (D.book desk.old) (D.book desk.new) (E.doorway door.old) (E.doorway door.new)
         result.answered }
+    ensures within { IsWithinPlan (E.doorway door.old) → IsWithinPlan (E.doorway door.new) }
     ensures begins { (D.book desk.new).start ≡ (D.book desk.old).start }
-    ensures all { result.stop ≡ Stop.All → (E.doorway door.new).back ≡ (E.doorway door.old).back + count }
+    ensures all { result.stop ≡ Stop.All → HasGivenAll (E.doorway door.new) }
     ensures counts { (E.doorway door.old).faults ≤ (E.doorway door.new).faults }
     ensures cause { result.stop ≡ Stop.DoorFailed
         → Rose (E.doorway door.old).faults (E.doorway door.new).faults }
 {
-    let mut answered = 0;
-    'connections: for _taken in 0..count {
+    let mut answered: u64 = 0;
+    'connections: for _ in rt.forever() {
         match serve_next(alloc, routes, door, desk, link) {
-            Ok(served) => answered += served,
+            Ok(served) => answered = answered.saturating_add(served),
             Err(stop) => return Stopped { stop, answered },
         }
     }
-    Stopped {
-        stop: Stop::All,
-        answered,
-    }
+    unreachable!()
 }

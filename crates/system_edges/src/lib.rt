@@ -3,6 +3,7 @@
 //! randomness. A run's program listens at a socket `run-N.sock`, N its number, in one folder.
 #![tactic(auto)]
 
+mod plan;
 mod proc_spawner;
 mod rng_secrets;
 mod socket;

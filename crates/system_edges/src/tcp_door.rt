@@ -1,71 +1,78 @@
-ghost use Rattle.std.specs.Prelude.{◌≡◌, ◌+◌, ◌<◌, ◌≤◌, IsSome, IfOk, OnOk, OnErr};
+ghost use Rattle.std.specs.Prelude.{◌≡◌, ◌≤◌, ◌+◌, min, None, IsSome, IfOk, IsErrOf, OnOk};
 ghost use Rattle.host_base.specs.CallCounts.{next_count};
-ghost use Rattle.host_base.specs.Outside.{Rose};
-ghost use Rattle.conn_door.specs.Doors.{IsFreshInlet, IsFreshOutlet};
+ghost use Rattle.serve_door.specs.Doors.{IsFreshInlet, IsFreshOutlet};
 
-use conn_door::{Door, DoorFailed, Returns};
-use host_base::{StdSink, StdSource};
+use crate::plan::Plan;
+use cloud_serve::ConnEnd;
+use grain_supervise::Link;
+use host_base::{Memory, StdSink, StdSource};
+use hub_core::Desk;
+use serve_door::{Door, NoneCame};
+use std::alloc::Global;
 use std::io;
-use std::marker::Model;
+use std::marker::{Model, PhantomData};
 use std::net::{Ipv4Addr, Net, TcpListener, TcpStream};
+use std::sync::Arc;
 
-// A listener, and the port that it is bound to.
+/// A door on a port of this machine, which takes connections from this machine alone, and closes those that come back. Where it
+/// couldn't be bound each call is a fault. Its handles take connections at the same port, as many as it is to give all
+/// together. It tells no connection.
 #[derive(Drop)]
-struct Bound {
-    listener: TcpListener,
+pub struct TcpDoor<L> {
+    listener: Option<Arc<TcpListener, Global>>,
     port: u16,
-}
-
-/// A door on a port of this machine, which takes connections from this machine alone. Where it couldn't be bound each call is a fault.
-#[derive(Drop)]
-pub struct TcpDoor {
-    bound: Option<Bound>,
-    given: u64,
+    plan: Plan,
     faults: u64,
-    returns: Returns,
+    over: PhantomData<L>,
 }
 
-impl Model for TcpDoor {
+impl<L> Model for TcpDoor<L> {
     ghost use Rattle.std.specs.Prelude.{option_map};
     ghost use Rattle.system_edges.specs.Bound.{BoundDoor};
 
     ghost Value = { BoundDoor };
 
-    ghost view = { λ s. record { port = option_map (λ bound. bound.port) s.bound; faults = s.faults; given = s.given; back = s.returns.back; answered = s.returns.answered } };
+    ghost view = { λ s. record { port = option_map (λ _. s.port) s.listener; faults = s.faults } };
 }
 
 // Binds a port of the address 127.0.0.1, or one that is free where it is 0.
 fn bind<R: Net<Listener = TcpListener, Stream = TcpStream>>(
     rt: &R,
     port: u16,
-) -> io::Result<Bound> {
+) -> io::Result<(TcpListener, u16)> {
     let listener = TcpListener::bind(rt, (Ipv4Addr::LOCALHOST, port))?;
     let port = listener.local_addr()?.port();
-    Ok(Bound { listener, port })
+    Ok((listener, port))
 }
 
-impl TcpDoor {
-    /// A door on a port of the address 127.0.0.1, which gave no connection yet. Port 0 stands for one that is free.
-    pub fn bind<R: Net<Listener = TcpListener, Stream = TcpStream>>(rt: &R, port: u16) -> Self
-        ensures faults { result.faults ≡ 0 }
-        ensures given { result.given ≡ 0 }
-        ensures back { result.back ≡ 0 }
-        ensures answered { result.answered ≡ 0 }
+impl<L> TcpDoor<L> {
+    /// A door on a port of the address 127.0.0.1, which is to give no connection yet. Port 0 stands for one that is free.
+    pub fn bind<R: Net<Listener = TcpListener, Stream = TcpStream>>(
+        rt: &R,
+        alloc: Global,
+        port: u16,
+    ) -> Result<Self, Memory>
+        ensures { IfOk result (λ door. door.faults ≡ 0) }
     {
-        TcpDoor {
-            bound: bind(rt, port).ok(),
-            given: 0,
+        let (listener, port) = match bind(rt, port) {
+            Ok((listener, port)) => (Some(Arc::new(alloc, listener)?), port),
+            Err(_) => (None, port),
+        };
+        Ok(TcpDoor {
+            listener,
+            port,
+            plan: Plan::none(alloc)?,
             faults: 0,
-            returns: Returns::none(),
-        }
+            over: PhantomData,
+        })
     }
 
     /// The port that it is bound to, if it could be bound.
     pub fn port(&self) -> Option<u16>
         ensures { result ≡ self.now.port }
     {
-        match &self.bound {
-            Some(bound) => Some(bound.port),
+        match &self.listener {
+            Some(_) => Some(self.port),
             None => None,
         }
     }
@@ -76,23 +83,6 @@ impl TcpDoor {
     {
         self.faults
     }
-
-    /// A connection is given back, with so many requests answered on it, and closed.
-    pub fn give_back(
-        &mut self,
-        _input: StdSource<TcpStream>,
-        _output: StdSink<TcpStream>,
-        served: u64,
-    )
-        requires room { self.old.back < 4294967296 }
-        requires few { served ≤ 1000000 }
-        ensures { self.new ≡ record self.old {
-          back = self.old.back + 1;
-          answered = self.old.answered + served;
-        } }
-    {
-        self.returns.count(served);
-    }
 }
 
 // The next connection, to read from and to write to.
@@ -102,37 +92,78 @@ fn next_streams(listener: &TcpListener) -> io::Result<(TcpStream, TcpStream)> {
     Ok((input, output))
 }
 
-impl Door for TcpDoor {
+impl<L: Link + Drop> Door for TcpDoor<L> {
     type Input = StdSource<TcpStream>;
 
     type Output = StdSink<TcpStream>;
 
-    ghost doorway = { λ s. record { faults = s.faults; given = s.given; back = s.back; answered = s.answered } };
+    type Link = L;
 
-    fn accept(&mut self) -> Result<(StdSource<TcpStream>, StdSink<TcpStream>), DoorFailed>
-        ensures counts { self.old.faults ≤ self.new.faults }
-        ensures steady { OnOk result (self.new.faults ≡ self.old.faults) }
-        ensures cause { OnErr result (Rose self.old.faults self.new.faults) }
-        ensures given { OnOk result (self.new.given ≡ self.old.given + 1) }
-        ensures kept { OnErr result (self.new.given ≡ self.old.given) }
-        ensures back { self.new.back ≡ self.old.back }
-        ensures answered { self.new.answered ≡ self.old.answered }
+    ghost doorway = { λ s. record { faults = s.faults; traffic = None } };
+
+    fn expect(&mut self, count: u32)
+        ensures { self.new ≡ self.old }
+    {
+        self.plan.expect(count);
+    }
+
+    fn another(&self, alloc: Global) -> Result<Self, Memory>
+        ensures { IfOk result (λ door. door ≡ record { port = self.now.port; faults = 0 }) }
+    {
+        let _ = alloc;
+        let listener = match &self.listener {
+            Some(listener) => Some(Arc::try_clone(listener)?),
+            None => None,
+        };
+        Ok(TcpDoor {
+            listener,
+            port: self.port,
+            plan: self.plan.share()?,
+            faults: 0,
+            over: PhantomData,
+        })
+    }
+
+    fn take_back(&mut self, handle: Self)
+        ensures { self.new ≡ record self.old { faults = min (self.old.faults + handle.faults) 18446744073709551615 } }
+    {
+        self.faults = self.faults.saturating_add(handle.faults);
+    }
+
+    fn accept(&mut self) -> Result<(StdSource<TcpStream>, StdSink<TcpStream>), NoneCame>
         ensures input { IfOk result (λ pair. IsFreshInlet pair.0) }
         ensures output { IfOk result (λ pair. IsFreshOutlet pair.1) }
 
         // It gives a connection only where it is bound, and each failure counts one fault.
         ensures bound { OnOk result (IsSome self.old.port) }
-        ensures counted { OnErr result (self.new.faults ≡ next_count self.old.faults) }
-        ensures port { self.new.port ≡ self.old.port }
+        ensures same { OnOk result (self.new ≡ self.old) }
+        ensures ended { IsErrOf result NoneCame.Ended → self.new ≡ self.old }
+        ensures counted { IsErrOf result NoneCame.Failed
+            → self.new ≡ record self.old { faults = next_count self.old.faults } }
+        ensures counts { self.old.faults ≤ self.new.faults }
     {
-        if let Some(bound) = &self.bound
-            && let Some(given) = self.given.checked_add(1)
-            && let Ok((input, output)) = next_streams(&bound.listener)
+        if !self.plan.take() {
+            return Err(NoneCame::Ended);
+        }
+        if let Some(listener) = &self.listener
+            && let Ok((input, output)) = next_streams(listener)
         {
-            self.given = given;
             return Ok((StdSource::new(input), StdSink::new(output)));
         }
         self.faults = self.faults.saturating_add(1);
-        Err(DoorFailed)
+        Err(NoneCame::Failed)
+    }
+
+    fn done<D: Desk>(
+        &mut self,
+        input: StdSource<TcpStream>,
+        output: StdSink<TcpStream>,
+        link: L,
+        end: ConnEnd,
+        desk: &D,
+    )
+        ensures { self.new ≡ self.old }
+    {
+        let _ = (input, output, link, end, desk);
     }
 }

@@ -1,68 +1,57 @@
-ghost use Rattle.std.specs.Prelude.{◌≡◌, ◌+◌, ◌<◌, ◌≤◌};
-ghost use Rattle.conn_door.specs.Doors.{Doorway};
+ghost use Rattle.std.specs.Prelude.{◌≡◌, ◌≤◌, ◌+◌, min, None, IfOk, IsErrOf, OnOk};
+ghost use Rattle.host_base.specs.CallCounts.{next_count};
+ghost use Rattle.serve_door.specs.Doors.{IsFreshInlet, IsFreshOutlet};
 
 use crate::socket::remove_socket;
-use conn_door::{Door, DoorFailed, Returns};
-use host_base::{StdSink, StdSource};
+use cloud_serve::ConnEnd;
+use grain_supervise::Link;
+use host_base::{Memory, StdSink, StdSource};
+use hub_core::Desk;
+use serve_door::{Door, NoneCame};
+use std::alloc::Global;
 use std::io;
-use std::marker::Model;
+use std::marker::{Model, PhantomData};
 use std::net::Net;
 use std::os::unix::net::{UnixListener, UnixStream};
 use std::rt::Files;
 
-/// A door on a socket file. Where it couldn't be bound each call is a fault.
+/// A door on a socket file, which closes the connections that come back. Where it couldn't be bound each call is a fault. It tells
+/// no connection.
 #[derive(Drop)]
-pub struct UnixDoor {
+pub struct UnixDoor<L> {
     listener: Option<UnixListener>,
-    given: u64,
+    due: u32,
     faults: u64,
-    returns: Returns,
+    over: PhantomData<L>,
 }
 
-impl Model for UnixDoor {
-    ghost use Rattle.conn_door.specs.Doors.{Doorway};
+impl<L> Model for UnixDoor<L> {
+    ghost use Rattle.std.specs.Prelude.{ℕ};
 
-    ghost Value = { Doorway };
+    ghost Value = { ℕ };
 
-    ghost view = { λ s. record { faults = s.faults; given = s.given; back = s.returns.back; answered = s.returns.answered } };
+    ghost view = { λ s. s.faults };
 }
 
-impl UnixDoor {
-    /// A door on a socket file at this path, which gave no connection yet. A socket file that stands there is removed first.
+impl<L> UnixDoor<L> {
+    /// A door on a socket file at this path, which is to give no connection yet. A socket file that stands there is removed first.
     pub fn bind<R: Files + Net>(rt: &R, path: &str) -> Self
-        ensures { result ≡ record { faults = 0; given = 0; back = 0; answered = 0 } }
+        ensures { result ≡ 0 }
     {
         remove_socket(rt, path);
         UnixDoor {
             listener: UnixListener::bind(rt, path).ok(),
-            given: 0,
+            due: 0,
             faults: 0,
-            returns: Returns::none(),
+            over: PhantomData,
         }
     }
 
     /// How many faults there were.
     pub fn faults(&self) -> u64
-        ensures { result ≡ self.now.faults }
+        ensures { result ≡ self.now }
     {
         self.faults
-    }
-
-    /// A connection is given back, with so many requests answered on it, and closed.
-    pub fn give_back(
-        &mut self,
-        _input: StdSource<UnixStream>,
-        _output: StdSink<UnixStream>,
-        served: u64,
-    )
-        requires room { self.old.back < 4294967296 }
-        requires few { served ≤ 1000000 }
-        ensures { self.new ≡ record self.old {
-          back = self.old.back + 1;
-          answered = self.old.answered + served;
-        } }
-    {
-        self.returns.count(served);
     }
 }
 
@@ -73,22 +62,71 @@ fn next_streams(listener: &UnixListener) -> io::Result<(UnixStream, UnixStream)>
     Ok((input, output))
 }
 
-impl Door for UnixDoor {
+impl<L: Link + Drop> Door for UnixDoor<L> {
     type Input = StdSource<UnixStream>;
 
     type Output = StdSink<UnixStream>;
 
-    ghost doorway = { λ s. s };
+    type Link = L;
 
-    fn accept(&mut self) -> Result<(StdSource<UnixStream>, StdSink<UnixStream>), DoorFailed> {
+    ghost doorway = { λ faults. record { faults = faults; traffic = None } };
+
+    fn expect(&mut self, count: u32)
+        ensures { self.new ≡ self.old }
+    {
+        self.due = count;
+    }
+
+    fn another(&self, alloc: Global) -> Result<Self, Memory>
+        // It gives none.
+        ensures { IfOk result (λ door. door ≡ 0) }
+    {
+        let _ = alloc;
+        Ok(UnixDoor {
+            listener: None,
+            due: 0,
+            faults: 0,
+            over: PhantomData,
+        })
+    }
+
+    fn take_back(&mut self, handle: Self)
+        ensures { self.new ≡ min (self.old + handle) 18446744073709551615 }
+    {
+        self.faults = self.faults.saturating_add(handle.faults);
+    }
+
+    fn accept(&mut self) -> Result<(StdSource<UnixStream>, StdSink<UnixStream>), NoneCame>
+        ensures input { IfOk result (λ pair. IsFreshInlet pair.0) }
+        ensures output { IfOk result (λ pair. IsFreshOutlet pair.1) }
+        ensures same { OnOk result (self.new ≡ self.old) }
+        ensures ended { IsErrOf result NoneCame.Ended → self.new ≡ self.old }
+        ensures counted { IsErrOf result NoneCame.Failed → self.new ≡ next_count self.old }
+        ensures counts { self.old ≤ self.new }
+    {
+        if self.due == 0 {
+            return Err(NoneCame::Ended);
+        }
         if let Some(listener) = &self.listener
-            && let Some(given) = self.given.checked_add(1)
             && let Ok((input, output)) = next_streams(listener)
         {
-            self.given = given;
+            self.due -= 1;
             return Ok((StdSource::new(input), StdSink::new(output)));
         }
         self.faults = self.faults.saturating_add(1);
-        Err(DoorFailed)
+        Err(NoneCame::Failed)
+    }
+
+    fn done<D: Desk>(
+        &mut self,
+        input: StdSource<UnixStream>,
+        output: StdSink<UnixStream>,
+        link: L,
+        end: ConnEnd,
+        desk: &D,
+    )
+        ensures { self.new ≡ self.old }
+    {
+        let _ = (input, output, link, end, desk);
     }
 }

@@ -14,7 +14,7 @@ returns-in-Err-clause-plays g c = rw (← c.world.view_is)
     inr (record {
       status_is = refl;
       same = c.joined-world.ensures
-          ∙ ap (λ (h : Backing). the_world (g.W.Input.Source.inlet inside.input) (g.W.Output.Sink.outlet inside.out) (g.W.Link.Link.line inside.link) h (g.W.Clock.Clock.moments inside.clock) (g.W.Door.Door.doorway inside.door)) c.in-Err.ensures.err;
+          ∙ ap (λ (h : Backing). the_world (g.W.Input.Source.inlet inside.input) (g.W.Output.Sink.outlet inside.out) (g.W.Door.Link.Link.line inside.link) h (g.W.Clock.Clock.moments inside.clock) (g.W.Door.Door.doorway inside.door)) c.in-Err.ensures.err;
     }))
 
 pub returns-clause-plays : goal.returns-clause-plays

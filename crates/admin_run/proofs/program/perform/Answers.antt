@@ -11,5 +11,5 @@ returns-in-Serve-clause-does g c = rw c.in-Serve.is c.serve.ensures.serves
 pub returns-in-Unknown-clause-does : goal.returns-in-Unknown-clause-does
 returns-in-Unknown-clause-does g c = rw c.in-Unknown.is c.usage.ensures.tells
 
-pub serve-requires-clause-start : goal.serve-requires-clause-start
-serve-requires-clause-start g c = c.requires.start (subst AtDoor (sym c.in-Serve.is) tt)
+pub serve-requires-clause-order : goal.serve-requires-clause-order
+serve-requires-clause-order g c = c.requires.order (subst AtDoor (sym c.in-Serve.is) tt)

@@ -15,5 +15,5 @@ perform-requires-clause-book g c = λ from. c.requires.book (c.in-Ok.line, c.in-
 pub perform-requires-clause-registered : goal.perform-requires-clause-registered
 perform-requires-clause-registered g c = λ which. c.requires.registered (asked _ c.in-Ok.line c.in-Ok.ensures.line which)
 
-pub perform-requires-clause-start : goal.perform-requires-clause-start
-perform-requires-clause-start g c = λ at. c.requires.start (c.in-Ok.line, c.in-Ok.ensures.line, at)
+pub perform-requires-clause-order : goal.perform-requires-clause-order
+perform-requires-clause-order g c = λ at. c.requires.order (c.in-Ok.line, c.in-Ok.ensures.line, at)

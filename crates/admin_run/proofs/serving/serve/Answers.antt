@@ -11,6 +11,3 @@ returns-then-told-ne0-clause-serves g c = rw (← c.world.view_is, ← c.world-i
 pub returns-clause-serves : goal.returns-clause-serves
 returns-clause-serves g c = rw (← c.world.view_is, ← c.world-inside.view_is)
     (inr (goes_on _ _ _ _ _ _ c.in-Ok-begin.login c.announce-told.result c.in-Ok-begin.ensures.begins refl c.announce-told.ensures.tells (inr (c.if-told-ne0.false, c.serve_rows.ensures.opens))))
-
-pub serve_rows-requires-clause-start : goal.serve_rows-requires-clause-start
-serve_rows-requires-clause-start g c = λ state is tables loaded. rw (← c.world.view_is, ← c.world-inside.view_is) at (c.requires.start state is) _ _ c.in-Ok-begin.login c.in-Ok-begin.ensures.begins tables loaded

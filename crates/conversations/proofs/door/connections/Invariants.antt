@@ -1,5 +1,5 @@
 use Rattle.std.proofs.Common.{All}
-use Rattle.conn_door.specs.Doors.{IsFreshPair}
+use Rattle.serve_door.specs.Doors.{IsFreshPair}
 use Rattle.conversations.proofs.door.connections.Given as goal
 
 abbrev pub invariant-streams : goal.invariant-streams

@@ -1,8 +1,10 @@
-use Rattle.std.proofs.Common.{◌≡◌, ◌+◌, ◌≤◌}
+use Rattle.std.proofs.Common.{◌≡◌, ◌≤◌}
+use Rattle.std.specs.Option.{option_map}
+use Rattle.grain_program.specs.Taking.{taken_of}
 use Rattle.grain_program.proofs.grain.run_grain.Given as goal
 
-abbrev pub invariant-loop : goal.invariant-loop
-invariant-loop g l = record {
+abbrev pub invariant-connections : goal.invariant-connections
+invariant-connections g l = record {
   counts : (g.E.Door.doorway l.fn.door).faults ≤ (g.E.Door.doorway l.door).faults;
-  given : (g.E.Door.doorway l.door).given ≡ (g.E.Door.doorway l.fn.door).given + l.counter;
+  taken : (g.E.Door.doorway l.door).traffic ≡ option_map (taken_of l.count l._taken) (g.E.Door.doorway l.fn.door).traffic;
 }

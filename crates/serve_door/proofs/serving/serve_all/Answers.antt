@@ -1,15 +1,16 @@
 use Rattle.std.proofs.Common.{◌∙◌, arith}
-use Rattle.serve_door.proofs.Chained.{back_more, many_more}
+use Rattle.serve_door.proofs.Chained.{in_order, many_more}
 use Rattle.serve_door.proofs.serving.serve_all.Goals as goal
 
 pub connections-preserved : goal.connections-preserved
 connections-preserved g c =
     let so_far = c.connections.invariant in
-    let one = c.in-Ok.ensures in
+    let done = c.in-Ok.ensures in
+    let (one, served, count, back) = done.serves in
     record {
-      many = many_more _ _ _ _ _ _ _ _ so_far.many one.serves one.back;
-      taken = back_more (g.E.Door.doorway c.connections.door) (g.E.Door.doorway c.serve_next.new.door) (g.E.Door.doorway c.args.door.now).back c.connections._taken _ _ so_far.taken one.back;
-      few = omega (arith, so_far.few, one.few);
-      counts = omega (arith, so_far.counts, one.counts);
-      start = one.begins ∙ so_far.start;
+      many = rw (c.saturating_add-answered.ensures, ← count) (many_more _ _ _ _ _ _ _ one so_far.many served back);
+      order = in_order _ _ one so_far.order back;
+      within = λ was. done.within (so_far.within was);
+      counts = omega (arith, so_far.counts, done.counts);
+      start = done.begins ∙ so_far.start;
     }

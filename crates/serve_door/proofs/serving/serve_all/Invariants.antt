@@ -1,12 +1,13 @@
-use Rattle.std.proofs.Common.{◌≡◌, ◌+◌, ◌*◌, ◌≤◌}
+use Rattle.std.proofs.Common.{◌≡◌, ◌≤◌}
 use Rattle.serve_door.specs.Connections.{ServesMany}
+use Rattle.serve_door.specs.Doors.{IsInOrder, IsWithinPlan}
 use Rattle.serve_door.proofs.serving.serve_all.Given as goal
 
 abbrev pub invariant-connections : goal.invariant-connections
 invariant-connections g l = record {
   many : ServesMany (g.D.Desk.book l.fn.desk) (g.D.Desk.book l.desk) (g.E.Door.doorway l.fn.door) (g.E.Door.doorway l.door) l.answered;
-  taken : (g.E.Door.doorway l.door).back ≡ (g.E.Door.doorway l.fn.door).back + l._taken;
-  few : l.answered ≤ 1000000 * l._taken;
+  order : IsInOrder (g.E.Door.doorway l.door);
+  within : IsWithinPlan (g.E.Door.doorway l.fn.door) → IsWithinPlan (g.E.Door.doorway l.door);
   counts : (g.E.Door.doorway l.fn.door).faults ≤ (g.E.Door.doorway l.door).faults;
   start : (g.D.Desk.book l.desk).start ≡ (g.D.Desk.book l.fn.desk).start;
 }
