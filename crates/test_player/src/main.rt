@@ -5,14 +5,34 @@
 
 use call_rows::Calls;
 use conversations::play_conversations;
-use std::alloc::AllocError;
+use hub_threads::{Given, measure_decisions};
+use std::alloc::{AllocError, Global};
+use std::env::Env;
+use std::fs::Files;
+use std::io::Print;
 use std::process::ExitCode;
+use std::sync::Wait;
+use std::thread::Threads;
+use std::time::Clock;
 use std::{env, fs, io};
 use test_words::{Tally, play_rows};
 
+// How many decisions each thread makes where it is measured how long they take.
+const DECISIONS: u32 = 1_000_000;
+
 // Plays a text, of rows of calls or of conversations, and tells what goes otherwise.
-fn play_text(rt: &HostRuntime, name: &str, text: &str) -> io::Result<Tally> {
-    let alloc = rt.alloc();
+fn play_text<R: Print + Threads + Wait + Sync>(
+    rt: &R,
+    alloc: Global,
+    name: &str,
+    text: &str,
+) -> io::Result<Tally> {
+    if name.ends_with("threads.txt") {
+        return match Given::by_threads(rt, alloc, text) {
+            Ok(mut given) => play_rows(rt, alloc, name, text, &mut given),
+            Err(_) => Err(io::Error::from(AllocError)),
+        };
+    }
     if !name.ends_with("calls.txt") {
         return play_conversations(rt, alloc, name, text);
     }
@@ -35,7 +55,7 @@ fn is_noticed(name: &str) -> bool {
 }
 
 // Prints a line for each text, and the sum of them, and says whether all passed.
-fn print_sums(rt: &HostRuntime, played: &[Played]) -> io::Result<bool> {
+fn print_sums(rt: &impl Print, played: &[Played]) -> io::Result<bool> {
     let mut all = Tally::default();
     for text in played {
         let (name, tally) = (text.name.as_str(), text.tally);
@@ -57,12 +77,22 @@ fn print_sums(rt: &HostRuntime, played: &[Played]) -> io::Result<bool> {
     Ok(all.failed == 0)
 }
 
+// What the program asks of the system.
+trait Host: AllocGlobal + Clock + Env + Files + Print + Threads + Wait + Sync {}
+
+impl<R: AllocGlobal + Clock + Env + Files + Print + Threads + Wait + Sync> Host for R {}
+
 // Plays all texts, and says whether all that they have passed.
-fn play_all(rt: &HostRuntime) -> io::Result<bool> {
-    let mut played = Vec::new(rt.alloc());
+fn play_all<R: Host>(rt: &R) -> io::Result<bool> {
+    let alloc = rt.alloc();
+    let mut played = Vec::new(alloc);
     for name in env::args(rt)?.skip(1) {
+        if name.as_str() == "measure" {
+            measure_decisions(rt, alloc, DECISIONS)?;
+            return Ok(true);
+        }
         let text = fs::read_to_string(rt, name.as_str())?;
-        let tally = play_text(rt, name.as_str(), text.as_str())?;
+        let tally = play_text(rt, alloc, name.as_str(), text.as_str())?;
         played.push(Played { name, tally })?;
     }
     print_sums(rt, played.as_slice())
