@@ -4,4 +4,3 @@ pub mod Taking
 pub mod Serving
 pub mod Runs
 pub mod Stated
-pub mod Sharing

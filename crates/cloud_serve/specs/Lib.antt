@@ -5,4 +5,3 @@ pub mod Turns
 pub mod Effects
 pub mod Served
 pub mod Inner
-pub mod Sharing

@@ -4,7 +4,6 @@
 mod asking;
 mod commands;
 mod ending;
-mod pass_desk;
 mod passing;
 mod powerbox;
 mod serve;
@@ -12,6 +11,5 @@ mod showing;
 mod turn;
 mod wire;
 
-pub use pass_desk::PassDesk;
 pub use serve::{ConnEnd, End, Places, REQUEST_LIMIT, serve_conn};
 pub use wire::Wire;

@@ -3,9 +3,3 @@ pub mod Replies
 pub mod Placing
 pub mod Opened
 pub mod Revoking
-pub mod BookOrders
-pub mod Manifests
-pub mod States
-pub mod Events
-pub mod Histories
-pub mod Since

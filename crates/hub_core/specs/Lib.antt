@@ -3,5 +3,4 @@ pub mod Spawning
 pub mod Sharing
 pub mod Opening
 pub mod Revoking
-pub mod Wanting
 pub mod Inner

@@ -3,9 +3,7 @@ use Rattle.std.specs.Prelude.{◌≡◌, ◌+◌, ◌<◌, ◌≤◌, ℕ, List,
 use Rattle.desk_base.specs.Terms.{Event, IsWellFormed, replay, State}
 use Rattle.live_access.specs.Kept.{Kept, IsSolvedFor}
 use Rattle.site_caps.specs.Law.{Law}
-use Rattle.desk_orders.specs.Secrets.{DrawsAll}
-use Rattle.hub_core.specs.Book.{Book, Backing, CountsOn}
-use Rattle.hub_core.specs.Spawning.{SpawnedSince}
+use Rattle.hub_core.specs.Book.{Book, Backing}
 
 -- a history: the state that it began with, and its entries
 pub record Past : Type 0 where
@@ -35,20 +33,6 @@ pub record KeepsPast (start state : State) (entries : List Event) (kept : Kept) 
   pub solved : IsSolvedFor state.tables kept
   pub few : length entries ≤ 1000000
   pub sessions : length state.sessions < 2147483648 + length entries
-
--- SINCE A HISTORY BEGAN no count of faults fell, secrets were drawn in their order, and the spawner was told what the
--- entries want.
-pub record HasKept (began holds : Backing) (history : List Event) : Type 0 where
-  pub counts : CountsOn began holds
-  pub drawn : List (List ℕ)
-  pub draws : DrawsAll began.drawer.coming holds.drawer.coming drawn
-  pub spawned : SpawnedSince began.spawns holds.spawns history
-
--- A history that many share: what it was when it began, its entries since, and what the objects beside it tell.
-pub record Common : Type 0 where
-  pub began : Sharing
-  pub history : List Event
-  pub holds : Backing
 
 -- what a desk tells that has nothing but this
 abbrev pub book_of : Law → Sharing → Book

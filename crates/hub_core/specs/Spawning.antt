@@ -1,7 +1,7 @@
 -- What a spawner is told of what happens to the runs of grains.
 use Rattle.std.specs.Prelude.{◌≡◌, ◌++◌, ℕ, List, [], ◌∷◌, Some}
 use Rattle.std.specs.List.{flat_map}
-use Rattle.desk_base.specs.Terms.{Event, Run, RunId}
+use Rattle.desk_base.specs.Terms.{Event, RunId}
 use Rattle.share_graph.specs.declared.event.Event.TheVariants as event
 use Rattle.grain_supervise.specs.declared.start.Start.{Start}
 use Rattle.grain_supervise.specs.Spawning.{Spawns}
@@ -53,25 +53,3 @@ HasToken token _ = Unit {0}
 abbrev pub HaveToken : List ℕ → List Event → Type 0
 HaveToken token [] = Unit {0}
 HaveToken token (e ∷ more) = HasToken token e × HaveToken token more
-
--- the runs that entries start, in their order
-abbrev pub started_by : Event → List Run
-started_by (event.RunStarted run) = run ∷ []
-started_by _ = []
-
-abbrev pub runs_started : List Event → List Run
-runs_started entries = flat_map started_by entries
-
--- the starts of runs, one for each, in order: each with the token whose digest the run has
-abbrev pub AreStartsOf : List Run → List Start → Type 0
-AreStartsOf [] [] = Unit {0}
-AreStartsOf (run ∷ runs) (start ∷ starts) =
-    (start.run ≡ run.num) × (start.grain ≡ run.grain) × (run.digest ≡ text_digest start.token) × AreStartsOf runs starts
-AreStartsOf _ _ = ⊥
-
--- SINCE A HISTORY BEGAN the spawner was told one start for each run that its entries start, with the run's token, and one
--- stop for each run that they stop, in order, and nothing else.
-pub record SpawnedSince (old new : Spawns) (entries : List Event) : Type 0 where
-  pub starts : (told : List Start) → old.starts ≡ Some told
-      → (starts : List Start) × (new.starts ≡ Some (told ++ starts)) × AreStartsOf (runs_started entries) starts
-  pub stops : (told : List RunId) → old.stops ≡ Some told → new.stops ≡ Some (told ++ stops_by entries)

@@ -7,7 +7,6 @@ mod held;
 mod history;
 mod locked;
 mod opening;
-mod shared;
 mod solo;
 mod telling;
 
@@ -16,5 +15,4 @@ pub use desk_orders::{Command, Listing, Order, OrderFault, Reply};
 pub use held::{Held, Holding};
 pub use locked::Locked;
 pub use opening::{NotOpened, OpenFault};
-pub use shared::{SharedHistory, Told, Wanted};
 pub use solo::SoloDesk;

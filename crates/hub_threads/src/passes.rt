@@ -2,12 +2,12 @@
 
 ghost use Rattle.std.specs.Prelude.{◌≡◌, []};
 ghost use Rattle.epoch_gate.specs.Books.{start_of};
-ghost use Rattle.hub_core.specs.Wanting.{blank};
+ghost use Rattle.shared_hub.specs.Wanting.{blank};
 
-use cloud_serve::PassDesk;
 use epoch_gate::{Hub, Maker, Named, PARTS, PASS_LIMIT, Pass, Unnamed};
-use hub_core::{Desk, Holding, Locked, SharedHistory};
+use hub_core::{Desk, Holding, Locked};
 use share_graph::Event;
+use shared_hub::{PassDesk, SharedHistory};
 use site_caps::SiteDriver;
 use std::alloc::Global;
 use std::marker::Brand;

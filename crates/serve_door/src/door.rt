@@ -57,7 +57,8 @@ pub trait Door {
         ensures counts { (doorway self.old).faults ≤ (doorway self.new).faults }
         ensures ended { IsErrOf result NoneCame.Ended → HasGivenAll (doorway self.old) }
         ensures ended_same { IsErrOf result NoneCame.Ended → doorway self.new ≡ doorway self.old }
-        ensures failed { IsErrOf result NoneCame.Failed → Rose (doorway self.old).faults (doorway self.new).faults }
+        ensures failed { IsErrOf result NoneCame.Failed
+            → Rose (doorway self.old).faults (doorway self.new).faults }
         ensures failed_same { IsErrOf result NoneCame.Failed
             → doorway self.new ≡ record (doorway self.old) { faults = (doorway self.new).faults } };
 

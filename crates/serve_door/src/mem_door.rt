@@ -93,7 +93,9 @@ impl<L: Link + Drop> Door for MemDoor<L> {
     }
 
     fn take_back(&mut self, handle: Self)
-        ensures { self.new ≡ record self.old { faults = min (self.old.faults + handle.faults) 18446744073709551615 } }
+        ensures { self.new ≡ record self.old {
+          faults = min (self.old.faults + handle.faults) 18446744073709551615;
+        } }
     {
         self.faults = self.faults.saturating_add(handle.faults);
     }
@@ -102,7 +104,11 @@ impl<L: Link + Drop> Door for MemDoor<L> {
         // It gives the first connection that is left, ends where it is to give none, and fails where none is left, which counts
         // one fault.
         ensures gives { IfOk result (λ pair. (self.old.left ≡ pair ∷ self.new.left) × (0 < self.old.due)
-            × (self.new ≡ record self.old { left = self.new.left; due = self.old.due - 1; given = self.old.given + 1 })) }
+            × (self.new ≡ record self.old {
+              left = self.new.left;
+              due = self.old.due - 1;
+              given = self.old.given + 1;
+            })) }
         ensures fresh { IfOk result IsFreshPair }
         ensures ends { IsErrOf result NoneCame.Ended → (self.old.due ≡ 0) × (self.new ≡ self.old) }
         ensures past { IsErrOf result NoneCame.Failed → (self.old.left ≡ [])

@@ -40,8 +40,9 @@ fn serve_next<E: Door, D: Desk>(
     link: &E::Link,
 ) -> Result<u64, Stop>
     requires { IsInOrder (E.doorway door.old) }
-    ensures serves { IfOk result (λ served. (one : TheConnection) × IsServed (D.book desk.old) (D.book desk.new) one
-        × (one.end.served ≡ served) × (E.doorway door.new ≡ given_back (one_given (E.doorway door.old)) one)) }
+    ensures serves { IfOk result (λ served. (one : TheConnection)
+        × IsServed (D.book desk.old) (D.book desk.new) one × (one.end.served ≡ served)
+        × (E.doorway door.new ≡ given_back (one_given (E.doorway door.old)) one)) }
     ensures within { IsWithinPlan (E.doorway door.old) → IsWithinPlan (E.doorway door.new) }
     ensures begins { (D.book desk.new).start ≡ (D.book desk.old).start }
     ensures unserved { OnErr result (desk.new ≡ desk.old) }

@@ -1,7 +1,7 @@
 use denote.Param.Send.{sendable}
 use Rattle.std.proofs.Crossing.{crosses}
 use Rattle.epoch_gate.proofs.hub.Hub.TheSendSync as hub
-use Rattle.hub_core.proofs.Histories.{SharedHistory-send}
+use Rattle.shared_hub.proofs.Histories.{SharedHistory-send}
 use Rattle.hub_threads.proofs.passes.work_under.Goals as goal
 
 -- the threads share the hub, so one of them may be handed what lies under its lock

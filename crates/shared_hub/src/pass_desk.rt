@@ -3,15 +3,16 @@
 ghost use Rattle.std.specs.Prelude.{◌≡◌, ◌+◌, ◌≤◌, Some, length, IfOk};
 ghost use Rattle.std.specs.Map.{lookup};
 ghost use Rattle.hub_core.specs.Book.{TakesNone, Judged, Ordered};
-ghost use Rattle.hub_core.specs.Wanting.{blank};
+ghost use Rattle.shared_hub.specs.Wanting.{blank};
 ghost use Rattle.epoch_gate.specs.Books.{start_of};
 ghost use Rattle.epoch_gate.specs.Passes.{same_key};
-ghost use Rattle.cloud_serve.specs.Sharing.{book_by};
+ghost use Rattle.shared_hub.specs.Passing.{book_by};
 
+use crate::history::{SharedHistory, Told, Wanted};
 use desk_orders::{Order, OrderFault, Reply};
 use epoch_gate::{Hub, Named, Pass};
 use host_base::{Key, Memory, Verdict};
-use hub_core::{Desk, Holding, Locked, SharedHistory, Told, Wanted};
+use hub_core::{Desk, Holding, Locked};
 use site_caps::{SiteDriver, SiteFault, SiteText};
 use std::alloc::Global;
 use std::marker::Model;

@@ -4,14 +4,13 @@ ghost use Rattle.std.specs.Prelude.{◌≡◌, ◌≤◌, [], length};
 ghost use Rattle.desk_base.specs.Terms.{replay};
 ghost use Rattle.epoch_gate.specs.Books.{Acts};
 ghost use Rattle.hub_core.specs.Book.{Backing};
-ghost use Rattle.hub_core.specs.Sharing.{HasKept};
-ghost use Rattle.hub_core.specs.Wanting.{AnswersOrder, faults_of};
+ghost use Rattle.shared_hub.specs.Since.{HasKept};
+ghost use Rattle.shared_hub.specs.Wanting.{AnswersOrder, faults_of};
 
-use crate::held::Holding;
-use crate::locked::Locked;
 use desk_orders::{Order, OrderFault, Reply};
 use epoch_gate::{Book, Faults};
 use host_base::{Key, Memory, Verdict};
+use hub_core::{Holding, Locked};
 use share_graph::Event;
 use site_caps::{SiteDriver, SiteFault, SiteText};
 use std::alloc::Global;
@@ -85,7 +84,7 @@ impl<H: Holding, C: SiteDriver> Model for SharedHistory<H, C> {
     ghost use Rattle.std.specs.Coded.{codes};
     ghost use Rattle.share_graph.specs.contracts.event.Event as event_type;
     ghost use Rattle.share_graph.specs.contracts.state.State as state_type;
-    ghost use Rattle.hub_core.specs.Sharing.{Common, HasKept};
+    ghost use Rattle.shared_hub.specs.Since.{Common, HasKept};
 
     ghost Value = { Common };
 
@@ -108,7 +107,11 @@ impl<H: Holding, C: SiteDriver + Drop> SharedHistory<H, C> {
 
     /// The history, shared no more.
     pub fn into_locked(self) -> Locked<H, C>
-        ensures locked { result ≡ record { start = self.began.start; history = self.history; holds = self.holds } }
+        ensures locked { result ≡ record {
+          start = self.began.start;
+          history = self.history;
+          holds = self.holds;
+        } }
         ensures kept { HasKept self.began.holds result.holds result.history }
     {
         let SharedHistory { locked, began: _ } = self;
@@ -127,7 +130,7 @@ impl<H: Holding, C: SiteDriver + Drop> Book for SharedHistory<H, C> {
 
     type View = Verdict;
 
-    ghost use Rattle.hub_core.specs.Wanting as wanting;
+    ghost use Rattle.shared_hub.specs.Wanting as wanting;
 
     ghost start = { λ shared. shared.began };
 

@@ -1,8 +1,8 @@
 use Rattle.std.proofs.Common.{arith}
 use Rattle.std.proofs.lemmas.Bool.Decides.{nat_tests}
-use Rattle.hub_core.proofs.BookOrders.{acts_by}
-use Rattle.hub_core.proofs.Since.{kept_more}
-use Rattle.hub_core.proofs.shared.answer.Goals as goal
+use Rattle.shared_hub.proofs.BookOrders.{acts_by}
+use Rattle.shared_hub.proofs.Since.{kept_more}
+use Rattle.shared_hub.proofs.history.answer.Goals as goal
 
 pub returns-clause-acts : goal.returns-clause-acts
 returns-clause-acts g c =

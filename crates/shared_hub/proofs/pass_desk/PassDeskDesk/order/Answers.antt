@@ -1,7 +1,7 @@
 use Rattle.epoch_gate.specs.Books.{start_of}
-use Rattle.hub_core.specs.Wanting.{blank}
-use Rattle.cloud_serve.proofs.Sharing.{ordered_from}
-use Rattle.cloud_serve.proofs.pass_desk.PassDeskDesk.order.Goals as goal
+use Rattle.shared_hub.specs.Wanting.{blank}
+use Rattle.shared_hub.proofs.Passing.{ordered_from}
+use Rattle.shared_hub.proofs.pass_desk.PassDeskDesk.order.Goals as goal
 
 pub returns : goal.returns
 returns g c =

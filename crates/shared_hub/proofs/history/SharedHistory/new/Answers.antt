@@ -1,9 +1,10 @@
 use Rattle.std.proofs.Common.{List, ap, subst, sym}
 use Rattle.desk_base.specs.Terms.{Event}
 use Rattle.hub_core.specs.Book.{Backing}
-use Rattle.hub_core.specs.Sharing.{HasKept, Sharing}
-use Rattle.hub_core.proofs.Since.{kept_none}
-use Rattle.hub_core.proofs.shared.SharedHistory.new.Goals as goal
+use Rattle.hub_core.specs.Sharing.{Sharing}
+use Rattle.shared_hub.specs.Since.{HasKept}
+use Rattle.shared_hub.proofs.Since.{kept_none}
+use Rattle.shared_hub.proofs.history.SharedHistory.new.Goals as goal
 
 pub invariant_of-result : goal.invariant_of-result
 invariant_of-result g c = (

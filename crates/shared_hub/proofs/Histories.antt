@@ -14,9 +14,9 @@ use Rattle.live_access.proofs.solution.Solution.TheSendSync as solution
 use Rattle.hub_core.proofs.held.Held.TheSendSync as held
 use Rattle.hub_core.specs.contracts.history.History as History
 use Rattle.hub_core.specs.contracts.locked.Locked as Locked
-use Rattle.hub_core.specs.contracts.shared.SharedHistory as SharedHistory
-use Rattle.hub_core.proofs.Events.{Event-send}
-use Rattle.hub_core.proofs.States.{State-send}
+use Rattle.shared_hub.specs.contracts.history.SharedHistory as SharedHistory
+use Rattle.shared_hub.proofs.Events.{Event-send}
+use Rattle.shared_hub.proofs.States.{State-send}
 
 snapshot_send : (Y : RattleType) → IsSend (Snapshot.the_row Y)
 snapshot_send Y = search (sendable, crosses) depth 8

@@ -19,17 +19,17 @@ use Rattle.desk_orders.specs.declared.reply.OrderFault.{OrderFault}
 use Rattle.desk_orders.specs.declared.reply.OrderFault.TheVariants as fault
 use Rattle.desk_orders.specs.declared.reply.Reply.{Reply}
 use Rattle.hub_core.specs.Book.{Book, Later, TakesNone, Judged, IsCounted, Ordered}
-use Rattle.hub_core.specs.Wanting.{AnswersOrder, AnswersWanted, ShowsVerdict, faults_of}
-use Rattle.hub_core.specs.declared.shared.Told.{Told}
-use Rattle.hub_core.specs.declared.shared.Told.TheVariants as told
-use Rattle.hub_core.specs.declared.shared.Wanted.{Wanted}
-use Rattle.hub_core.specs.declared.shared.Wanted.TheVariants as wanted
+use Rattle.shared_hub.specs.Wanting.{AnswersOrder, AnswersWanted, ShowsVerdict, faults_of}
+use Rattle.shared_hub.specs.declared.history.Told.{Told}
+use Rattle.shared_hub.specs.declared.history.Told.TheVariants as told
+use Rattle.shared_hub.specs.declared.history.Wanted.{Wanted}
+use Rattle.shared_hub.specs.declared.history.Wanted.TheVariants as wanted
 use Rattle.epoch_gate.specs.Counting.{AnsweredAt, counts_after, raised}
 use Rattle.epoch_gate.specs.Passes.{Passing, IsFirst}
 use Rattle.epoch_gate.specs.declared.book.Faults.{Faults}
 use Rattle.epoch_gate.specs.declared.fault_counts.FaultCounts.{FaultCounts}
 use Rattle.epoch_gate.specs.declared.kept.Kept.{Kept}
-use Rattle.cloud_serve.specs.Sharing.{book_by}
+use Rattle.shared_hub.specs.Passing.{book_by}
 
 draws_unknown : (drawn : List (List ℕ)) → DrawsAll None None drawn
 draws_unknown [] = refl

@@ -11,7 +11,7 @@ use Rattle.share_graph.proofs.rows.Saved.TheSendSync as saved
 use Rattle.share_graph.proofs.sessions.Handle.TheSendSync as handle
 use Rattle.share_graph.proofs.sessions.Run.TheSendSync as run
 use Rattle.share_graph.proofs.sessions.Session.TheSendSync as session
-use Rattle.hub_core.proofs.Manifests.{App-send}
+use Rattle.shared_hub.proofs.Manifests.{App-send}
 
 tables_send : IsSend Tables.the_row
 tables_send =

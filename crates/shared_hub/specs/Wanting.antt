@@ -13,10 +13,10 @@ use Rattle.epoch_gate.specs.declared.book.Faults.{Faults}
 use Rattle.hub_core.specs.Book.{IsFoundFor}
 use Rattle.hub_core.specs.Sharing.{Sharing}
 use Rattle.hub_core.specs.Spawning.{HaveToken, token_of}
-use Rattle.hub_core.specs.declared.shared.Told.{Told}
-use Rattle.hub_core.specs.declared.shared.Told.TheVariants as told
-use Rattle.hub_core.specs.declared.shared.Wanted.{Wanted}
-use Rattle.hub_core.specs.declared.shared.Wanted.TheVariants as wanted
+use Rattle.shared_hub.specs.declared.history.Told.{Told}
+use Rattle.shared_hub.specs.declared.history.Told.TheVariants as told
+use Rattle.shared_hub.specs.declared.history.Wanted.{Wanted}
+use Rattle.shared_hub.specs.declared.history.Wanted.TheVariants as wanted
 
 -- a history without an entry on a state without rows, beside objects that tell nothing
 abbrev pub blank : Sharing

@@ -15,7 +15,7 @@ use Rattle.share_graph.proofs.grants.Grant.TheSendSync as grant
 use Rattle.share_graph.proofs.sessions.Session.TheSendSync as session
 use Rattle.share_graph.proofs.sessions.Run.TheSendSync as run
 use Rattle.share_graph.proofs.sessions.Handle.TheSendSync as handle
-use Rattle.hub_core.proofs.Manifests.{App-send}
+use Rattle.shared_hub.proofs.Manifests.{App-send}
 
 pub Event-send : IsSend Event.the_row
 Event-send =

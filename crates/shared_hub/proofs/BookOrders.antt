@@ -12,7 +12,7 @@ use Rattle.desk_orders.specs.declared.reply.Reply.TheVariants as reply
 use Rattle.epoch_gate.specs.Books.{Acts, count}
 use Rattle.hub_core.specs.Book.{Ordered}
 use Rattle.hub_core.specs.Sharing.{Sharing, book_of}
-use Rattle.hub_core.specs.Wanting.{AnswersOrder, faults_of}
+use Rattle.shared_hub.specs.Wanting.{AnswersOrder, faults_of}
 
 same_front : (xs ys zs ws : List Event) → xs ++ ys ≡ zs ++ ws → length xs ≡ length zs → xs ≡ zs
 same_front xs ys zs ws is long = sym (take_at xs ys (length zs) long) ∙ ap (take (length zs)) is ∙ take_at zs ws (length zs) refl

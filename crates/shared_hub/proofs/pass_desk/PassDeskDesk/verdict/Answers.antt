@@ -1,8 +1,8 @@
 use Rattle.std.proofs.Common.{subst, sym}
 use Rattle.epoch_gate.specs.Books.{start_of}
-use Rattle.hub_core.specs.Wanting.{ShowsVerdict, blank}
-use Rattle.cloud_serve.proofs.Sharing.{judged_now, first_lent}
-use Rattle.cloud_serve.proofs.pass_desk.PassDeskDesk.verdict.Goals as goal
+use Rattle.shared_hub.specs.Wanting.{ShowsVerdict, blank}
+use Rattle.shared_hub.proofs.Passing.{judged_now, first_lent}
+use Rattle.shared_hub.proofs.pass_desk.PassDeskDesk.verdict.Goals as goal
 
 pub returns-clause-judged : goal.returns-clause-judged
 returns-clause-judged g c =

@@ -12,9 +12,10 @@ use Rattle.desk_orders.specs.declared.reply.OrderFault.{OrderFault}
 use Rattle.desk_orders.specs.declared.reply.Reply.{Reply}
 use Rattle.site_caps.specs.Law.{Law}
 use Rattle.hub_core.specs.Book.{Backing, Ordered}
-use Rattle.hub_core.specs.Sharing.{HasKept, Sharing, book_of}
-use Rattle.hub_core.specs.Spawning.{AreStartsOf, HaveToken, Spawned, SpawnedSince, runs_started, started_by, starts_by, stops_by, stops_of, token_of}
-use Rattle.hub_core.proofs.BookOrders.{adds_to}
+use Rattle.hub_core.specs.Sharing.{Sharing, book_of}
+use Rattle.hub_core.specs.Spawning.{HaveToken, Spawned, starts_by, stops_by, stops_of, token_of}
+use Rattle.shared_hub.specs.Since.{AreStartsOf, HasKept, SpawnedSince, runs_started, started_by}
+use Rattle.shared_hub.proofs.BookOrders.{adds_to}
 
 drawn_both : (a b c : Option Coming) (xs ys : List (List ℕ)) → DrawsAll a b xs → DrawsAll b c ys → DrawsAll a c (xs ++ ys)
 drawn_both a b c [] ys same draws = subst (λ (x : Option Coming). DrawsAll x c ys) same draws

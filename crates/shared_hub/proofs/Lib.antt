@@ -1,0 +1,7 @@
+pub mod BookOrders
+pub mod Since
+pub mod Passing
+pub mod Manifests
+pub mod States
+pub mod Events
+pub mod Histories
