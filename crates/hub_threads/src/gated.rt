@@ -4,11 +4,12 @@ ghost use Rattle.std.specs.Prelude.{◌≡◌, IfOk};
 
 use crate::book::{book_of, key_of_ben, share_with_ben};
 use crate::gate::Gate;
-use crate::passes::{Job, on_passes};
+use crate::passes::on_passes;
 use admin_run::book_keeper;
 use cloud_keeper::{KeepFault, Keeper, MemKeeper, Row};
 use host_base::Fails;
 use hub_core::Desk;
+use hub_jobs::Job;
 use perm_roles::{Assignment, Base, PermSet};
 use std::alloc::Global;
 use std::num::NonZeroUsize;
@@ -60,6 +61,10 @@ struct Task {
 }
 
 impl Job for Task {
+    ghost ready = { λ _. Unit {0} };
+
+    ghost does = { λ _ _ _ _. Unit {0} };
+
     fn work<D: Desk>(&mut self, alloc: Global, desk: &mut D) {
         let all = Assignment {
             base: Base::AllAccess,

@@ -2,6 +2,7 @@
 
 use crate::gated::answer_beside_commit;
 use crate::shares::share_by_threads;
+use crate::streams::serve_two;
 use std::alloc::Global;
 use std::sync::Wait;
 use std::thread::Threads;
@@ -23,6 +24,7 @@ fn answer_row<R: Threads + Wait + Sync>(rt: &R, alloc: Global, row: &str) -> Res
             share_by_threads(rt, alloc, small(threads)?, small(times)?)
         }
         "gated" if rest.is_empty() => answer_beside_commit(rt, alloc),
+        "streams" if rest.is_empty() => serve_two(rt, alloc),
         _ => Err(Fault::Unreadable),
     }
 }

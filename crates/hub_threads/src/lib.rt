@@ -9,6 +9,7 @@ mod given;
 mod measure;
 mod passes;
 mod shares;
+mod streams;
 
 pub use given::Given;
 pub use measure::measure_decisions;

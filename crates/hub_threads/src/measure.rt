@@ -1,10 +1,11 @@
 //! How long decisions take, on one thread and on several, and what they can't be faster than.
 
 use crate::book::{book_of, share_with_ben};
-use crate::passes::{Job, on_passes};
+use crate::passes::on_passes;
 use admin_run::book_keeper;
 use host_base::{Fails, Key, digest_of};
 use hub_core::Desk;
+use hub_jobs::Job;
 use lru::LruCache;
 use perm_roles::{Assignment, Base, PermSet};
 use std::alloc::Global;
@@ -95,6 +96,10 @@ impl<'a, R: Clock> Task<'a, R> {
 }
 
 impl<'a, R: Clock> Job for Task<'a, R> {
+    ghost ready = { λ _. Unit {0} };
+
+    ghost does = { λ _ _ _ _. Unit {0} };
+
     fn work<D: Desk>(&mut self, alloc: Global, desk: &mut D) {
         match self.part {
             Part::Decide { times, keys } => self.decide(alloc, desk, times, keys),

@@ -1,12 +1,13 @@
 //! Threads that share a grain, and one that reads all the while.
 
 use crate::book::{SmallBook, book_of, key_of_ben, share_with_ben};
-use crate::passes::{Job, on_passes};
+use crate::passes::on_passes;
 use admin_run::book_keeper;
 use cloud_keeper::MemKeeper;
 use desk_orders::Reply;
 use host_base::Fails;
 use hub_core::Desk;
+use hub_jobs::Job;
 use perm_roles::{Assignment, Base, PermSet};
 use std::alloc::Global;
 use std::num::NonZeroUsize;
@@ -101,6 +102,10 @@ impl Task {
 }
 
 impl Job for Task {
+    ghost ready = { λ _. Unit {0} };
+
+    ghost does = { λ _ _ _ _. Unit {0} };
+
     fn work<D: Desk>(&mut self, alloc: Global, desk: &mut D) {
         match self.part {
             Part::Share { times, role } => self.share(alloc, desk, times, role),

@@ -1,0 +1,36 @@
+-- A worker may cross threads: all workers share the hub, and one may be handed what lies under its lock.
+use denote.RattleType.{RattleType}
+use denote.Ref.{NamedLft}
+use denote.Param.Send.{IsSend, IsSync, sendable, view_send}
+use denote.Struct.Field.{row_field}
+use denote.Param.SendFields.{as_row_send, declared_send}
+use Rattle.std.proofs.Crossing.{crosses, send}
+use Rattle.std.specs.declared.sync.ledger.Ledger as ledger
+use Rattle.cloud_keeper.specs.declared.keeper.Keeper as keeper
+use Rattle.host_base.specs.declared.secrets.Secrets as secrets
+use Rattle.host_base.proofs.verdict.Verdict.TheSendSync as verdict
+use Rattle.grain_supervise.specs.declared.spawner.Spawner as spawner
+use Rattle.site_caps.specs.declared.driver.SiteDriver as driver
+use Rattle.site_caps.specs.declared.driver.SiteLaw as law
+use Rattle.epoch_gate.specs.declared.book.Named as named
+use Rattle.epoch_gate.specs.declared.seat.Placed as placed
+use Rattle.epoch_gate.proofs.hub.Hub.TheSendSync as hub
+use Rattle.epoch_gate.proofs.pass.Pass.TheSendSync as pass
+use Rattle.hub_core.specs.declared.held.Holding as holding
+use Rattle.hub_core.specs.declared.locked.Locked.{Locked}
+use Rattle.shared_hub.specs.contracts.pass_desk.PassDesk as Desk
+use Rattle.shared_hub.proofs.Histories.{SharedHistory-send}
+use Rattle.hub_jobs.specs.contracts.worker.Worker as Worker
+
+module _ (l : NamedLft) (H C N L R J K S P W : RattleType) (b : placed.Ghosts N.Denot) (h : holding.Ghosts H.Denot K.Denot S.Denot P.Denot) (k : keeper.Ghosts K.Denot) (s : secrets.Ghosts S.Denot) (p : spawner.Ghosts P.Denot) (d : driver.Ghosts C.Denot W.Denot) (w : law.Ghosts W.Denot)
+    (n : named.Ghosts N.Denot (Locked H.Denot C.Denot K.Denot S.Denot P.Denot W.Denot)) (g : ledger.Ghosts L.Denot) where
+  desk_send : IsSync R → IsSend C → IsSend K → IsSend S → IsSend P → IsSend (Desk.the_row l H C N L R K S P W b h k s p d w n g)
+  desk_send handle sites kept drawn spawned =
+      view_send _ _ _ _ _ (declared_send (Desk.TheInside.the_type l H C N L R K S P W b h k s p d w n g) (
+        search (crosses, sendable) depth 20,
+        (search (SharedHistory-send, hub.the_sync, crosses, sendable) depth 20, (search (pass.the_send, verdict.the_send, crosses, sendable) depth 20, tt)),
+      ))
+
+  pub Worker-send : IsSync R → IsSend C → IsSend K → IsSend S → IsSend P → IsSend J → IsSend (Worker.the_row l H C N L R J K S P W h k s p d w n b g)
+  Worker-send handle sites kept drawn spawned job =
+      declared_send (Worker.the_type l H C N L R J K S P W h k s p d w n b g) (send, (desk_send handle sites kept drawn spawned, (as_row_send (row_field J) job, tt)))

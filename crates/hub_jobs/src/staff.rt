@@ -1,0 +1,88 @@
+//! Workers are hired, and dismissed.
+
+ghost use Rattle.std.specs.Prelude.{◌≡◌, ◌+◌, ◌≤◌, All, map, vec_capacity, vec_len, IfOk};
+
+use crate::worker::Worker;
+use epoch_gate::{Hub, Maker, Named, Pass};
+use host_base::Memory;
+use hub_core::{Holding, Locked};
+use shared_hub::{PassDesk, SharedHistory};
+use site_caps::SiteDriver;
+use std::alloc::Global;
+use std::num::NonZeroUsize;
+use std::sync::Wait;
+use std::sync::ledger::Ledger;
+
+/// Makes so many passes, whose caches have so much room.
+pub fn make_passes<H: Holding, C: SiteDriver + Drop, N: Named<Locked<H, C>>, L: Ledger, R: Wait>(
+    rt: &R,
+    alloc: Global,
+    hub: &Hub<SharedHistory<H, C>, N, L>,
+    maker: &mut Maker<SharedHistory<H, C>, N, L>,
+    count: usize,
+    room: NonZeroUsize,
+    passes: &mut Vec<Pass<SharedHistory<H, C>, N, L>>,
+) -> Result<(), Memory>
+    requires few { maker.old + count ≤ 65536 }
+    requires none { vec_len passes.old ≡ 0 }
+    requires room { count ≤ vec_capacity passes.old }
+    ensures made { maker.new ≡ maker.old + vec_len passes.new }
+    ensures all { IfOk result (λ _. vec_len passes.new ≡ count) }
+    ensures unused { All (λ pass. pass.orders ≡ 0) passes.new.items }
+    ensures capacity { vec_capacity passes.new ≡ vec_capacity passes.old }
+{
+    'passes: for _made in 0..count {
+        let pass = hub.pass(rt, alloc, maker, room)?;
+        passes.push_reserved(pass);
+    }
+    Ok(())
+}
+
+/// A worker for each job, with a desk of one of the passes.
+pub fn hire<'a, H: Holding, C: SiteDriver + Drop, N: Named<Locked<H, C>>, L: Ledger, R, J: Drop>(
+    rt: &'a R,
+    alloc: Global,
+    hub: &'a Hub<SharedHistory<H, C>, N, L>,
+    jobs: Vec<J>,
+    passes: &mut Vec<Pass<SharedHistory<H, C>, N, L>>,
+    workers: &mut Vec<Worker<'a, H, C, N, L, R, J>>,
+)
+    requires none { vec_len workers.old ≡ 0 }
+    requires room { vec_len jobs ≤ vec_capacity workers.old }
+    requires passes { vec_len passes.old ≡ vec_len jobs }
+    requires unused { All (λ pass. pass.orders ≡ 0) passes.old.items }
+    ensures jobs { map (λ worker. worker.job) workers.new.items ≡ jobs.items }
+    ensures unused { All (λ worker. worker.desk.orders ≡ 0) workers.new.items }
+    ensures none { vec_len passes.new ≡ 0 }
+    ensures capacity { vec_capacity passes.new ≡ vec_capacity passes.old }
+{
+    'jobs: for job in jobs {
+        let Some(pass) = passes.pop() else {
+            unreachable!();
+        };
+        let desk = PassDesk::new(rt, hub, pass);
+        workers.push_reserved(Worker { alloc, desk, job });
+    }
+}
+
+/// Takes workers apart: their passes, and their jobs.
+pub fn dismiss<'a, H: Holding, C: SiteDriver + Drop, N: Named<Locked<H, C>>, L: Ledger, R, J: Drop>(
+    workers: Vec<Worker<'a, H, C, N, L, R, J>>,
+    passes: &mut Vec<Pass<SharedHistory<H, C>, N, L>>,
+    jobs: &mut Vec<J>,
+)
+    requires none { (vec_len passes.old ≡ 0) × (vec_len jobs.old ≡ 0) }
+    requires room { (vec_len workers ≤ vec_capacity passes.old) × (vec_len workers ≤ vec_capacity jobs.old) }
+    ensures passes { passes.new.items ≡ map (λ worker. worker.desk) workers.entry.items }
+    ensures jobs { jobs.new.items ≡ map (λ worker. worker.job) workers.entry.items }
+{
+    'workers: for worker in workers {
+        let Worker {
+            alloc: _,
+            desk,
+            job,
+        } = worker;
+        passes.push_reserved(desk.into_pass());
+        jobs.push_reserved(job);
+    }
+}

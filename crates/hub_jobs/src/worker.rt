@@ -1,0 +1,62 @@
+//! A job, and the worker that does it.
+
+ghost use Rattle.epoch_gate.specs.Books.{start_of};
+ghost use Rattle.hub_core.specs.Book.{Book};
+ghost use Rattle.shared_hub.specs.Passing.{book_by};
+ghost use Rattle.shared_hub.specs.Wanting.{blank};
+
+use crate::at_once::Task;
+use epoch_gate::Named;
+use hub_core::{Desk, Holding, Locked};
+use shared_hub::PassDesk;
+use site_caps::SiteDriver;
+use std::alloc::Global;
+use std::sync::Wait;
+use std::sync::ledger::Ledger;
+
+/// What one thread does with a desk whose history others share.
+pub trait Job {
+    ghost ready: { Self → Type 0 };
+
+    ghost does: { Book → Book → Self → Self → Type 0 };
+
+    /// Does it.
+    fn work<D: Desk>(&mut self, alloc: Global, desk: &mut D)
+        requires { ready self.old }
+        ensures { does (D.book desk.old) (D.book desk.new) self.old self.new };
+}
+
+/// A job, with the desk that it is done by.
+#[derive(Drop)]
+pub struct Worker<
+    'a,
+    H: Holding,
+    C: SiteDriver + Drop,
+    N: Named<Locked<H, C>>,
+    L: Ledger,
+    R,
+    J: Drop,
+> {
+    pub alloc: Global,
+    pub desk: PassDesk<'a, H, C, N, L, R>,
+    pub job: J,
+}
+
+impl<
+    'a,
+    H: Holding,
+    C: SiteDriver + Drop,
+    N: Named<Locked<H, C>>,
+    L: Ledger,
+    R: Wait,
+    J: Job + Drop,
+> Task for Worker<'a, H, C, N, L, R, J> {
+    ghost ready = { λ worker. J.ready worker.job };
+
+    ghost does = { λ old new. J.does (book_by C.Law.law (start_of blank N.start).start old.desk)
+        (book_by C.Law.law (start_of blank N.start).start new.desk) old.job new.job };
+
+    fn run(&mut self) {
+        self.job.work(self.alloc, &mut self.desk);
+    }
+}
