@@ -10,7 +10,7 @@ use httparse::spans::{EMPTY_HEADER_SPAN, HeaderSpan, parse_response};
 use std::alloc::Global;
 
 /// Where the lines of a response head are, and its status.
-#[derive(Debug, Drop)]
+#[derive(Drop)]
 pub struct HeadSpans {
     pub status: u16,
     pub fields: Vec<HeaderSpan>,

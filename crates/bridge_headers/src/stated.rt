@@ -1,5 +1,5 @@
 /// What the length lines of a head state.
-#[derive(Clone, Copy, Debug, PartialEq, Eq)]
+#[derive(Clone, Copy, PartialEq, Eq)]
 pub enum Stated {
     Nothing,
     Bytes(u64),

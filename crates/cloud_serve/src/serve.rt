@@ -19,7 +19,7 @@ use reply_texts::wants_head;
 use std::alloc::Global;
 
 /// How a connection ended.
-#[derive(Clone, Copy, Debug, PartialEq, Eq)]
+#[derive(Clone, Copy, PartialEq, Eq)]
 pub enum End {
     /// Every request was answered, and the input ended or the last one was.
     Done,
@@ -42,7 +42,7 @@ pub type Places = Row<u64>;
 
 /// How a connection ended: how much of the history was seen at its start, the place of each answer, how many requests
 /// were answered, and how many texts were asked of the link.
-#[derive(Debug, Drop)]
+#[derive(Drop)]
 pub struct ConnEnd {
     pub end: End,
     pub from: u64,

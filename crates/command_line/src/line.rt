@@ -9,7 +9,7 @@ use host_base::Memory;
 use std::alloc::Global;
 
 /// The line that the program's words are. A path is the second word, and stays there.
-#[derive(Clone, Copy, Debug, PartialEq, Eq)]
+#[derive(Clone, Copy, PartialEq, Eq)]
 pub enum Line {
     /// `play`
     Play,

@@ -8,7 +8,7 @@ use test_words::Fault;
 
 /// What came otherwise: the line that says what must come, what it is of, what was expected, and what came in its
 /// place.
-#[derive(Debug, Drop)]
+#[derive(Drop)]
 pub struct Difference {
     pub line: usize,
     pub of: &'static str,

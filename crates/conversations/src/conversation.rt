@@ -4,14 +4,14 @@ use cloud_keeper::Row;
 use std::alloc::Global;
 
 /// Bytes that must come, and the line of the text that says so.
-#[derive(Debug, Drop)]
+#[derive(Drop)]
 pub struct Piece {
     pub line: usize,
     pub bytes: Vec<u8>,
 }
 
 /// What a client sends on one connection, and what must come back.
-#[derive(Debug, Drop)]
+#[derive(Drop)]
 pub struct Stream {
     pub line: usize,
     pub sent: Vec<u8>,
@@ -30,7 +30,7 @@ impl Stream {
 }
 
 /// One run of the program.
-#[derive(Debug, Drop)]
+#[derive(Drop)]
 pub struct Round {
     /// Its words; none of them are `play`'s.
     pub words: Vec<String>,
@@ -63,7 +63,7 @@ impl Round {
 }
 
 /// The calls that fail, from 1, of each of the objects around the server.
-#[derive(Debug, Drop)]
+#[derive(Drop)]
 pub struct Failing {
     pub source: Vec<u64>,
     pub sink: Vec<u64>,
@@ -88,7 +88,7 @@ impl Failing {
 }
 
 /// What keeps the rows, and which rows it has at first and must have at the end.
-#[derive(Debug, Drop)]
+#[derive(Drop)]
 pub struct Kept {
     /// Whether it is a database in memory, and not a list.
     pub database: bool,
@@ -103,7 +103,7 @@ pub struct Kept {
 }
 
 /// A conversation: runs of the program, and what the objects around it do.
-#[derive(Debug, Drop)]
+#[derive(Drop)]
 pub struct Conversation {
     pub title: String,
     pub line: usize,

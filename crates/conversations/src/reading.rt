@@ -127,7 +127,7 @@ fn read_line(
 }
 
 /// Why a text can't be read: the number of its first line that can't, from 1, with the line, or want of memory.
-#[derive(Debug, Drop)]
+#[derive(Drop)]
 pub struct Unread {
     pub line: usize,
     pub fault: Fault,

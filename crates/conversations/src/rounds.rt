@@ -31,7 +31,7 @@ pub struct Objects<L, K, S> {
 }
 
 /// How a run is played: what its client sends, how often what must come back comes, and the status that it must have.
-#[derive(Debug, Drop)]
+#[derive(Drop)]
 pub struct Part {
     pub sent: Vec<u8>,
     pub times: usize,

@@ -4,7 +4,7 @@ use std::alloc::Global;
 use test_words::{Fault, bytes_of, put_text, small};
 
 /// The bytes of a request, and its method and target.
-#[derive(Debug, Drop)]
+#[derive(Drop)]
 pub struct Request {
     pub bytes: Vec<u8>,
     pub line: (String, String),

@@ -2,7 +2,7 @@ use share_graph::{Made, Refusal};
 use std::alloc::AllocError;
 
 /// Where a command ends before a change: it is refused, or things are as it asks, or memory ran out.
-#[derive(Clone, Copy, Debug, PartialEq, Eq)]
+#[derive(Clone, Copy, PartialEq, Eq)]
 pub enum Stop {
     Refused(Refusal),
     Same(Made),

@@ -21,21 +21,21 @@ use share_graph::{Needs, Offer};
 use std::alloc::Global;
 
 /// The fields of a new account.
-#[derive(Debug, Drop)]
+#[derive(Drop)]
 pub struct AccountFields {
     pub handle: Name,
     pub name: Name,
 }
 
 /// The fields of a new grain.
-#[derive(Debug, Drop)]
+#[derive(Drop)]
 pub struct GrainFields {
     pub app: AppId,
     pub title: Name,
 }
 
 /// The fields of a grant to an account.
-#[derive(Debug, Drop)]
+#[derive(Drop)]
 pub struct ShareFields {
     pub to: AccountId,
     pub assignment: Assignment,
@@ -43,14 +43,14 @@ pub struct ShareFields {
 }
 
 /// The fields of a new link or token.
-#[derive(Debug, Drop)]
+#[derive(Drop)]
 pub struct TokenFields {
     pub assignment: Assignment,
     pub needs: Needs,
 }
 
 /// The fields of a new token that a bearer hands on.
-#[derive(Debug, Drop)]
+#[derive(Drop)]
 pub struct ChildFields {
     pub for_sharing: bool,
     pub assignment: Assignment,
@@ -66,14 +66,14 @@ pub struct ChooseFields {
 }
 
 /// The fields of a claim.
-#[derive(Debug, Drop)]
+#[derive(Drop)]
 pub struct ClaimFields {
     pub token: Digest,
     pub permissions: PermSet,
 }
 
 /// The fields of a reference that is to be saved.
-#[derive(Debug, Drop)]
+#[derive(Drop)]
 pub struct SaveFields {
     pub handle: u32,
     pub label: Name,

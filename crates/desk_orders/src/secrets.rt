@@ -10,7 +10,7 @@ use share_tokens::{Secret, key_text, token_text};
 use std::alloc::Global;
 
 /// What a secret is for.
-#[derive(Clone, Copy, Debug, PartialEq, Eq)]
+#[derive(Clone, Copy, PartialEq, Eq)]
 pub enum SecretUse {
     /// It is the key of a session that is opened.
     Session,

@@ -9,7 +9,7 @@ use std::alloc::Global;
 use std::marker::Brand;
 
 /// The faults that an order met: of the store, of the secrets, and of the spawner.
-#[derive(Clone, Copy, Debug, PartialEq, Eq)]
+#[derive(Clone, Copy, PartialEq, Eq)]
 pub struct Faults {
     pub store: bool,
     pub secrets: bool,

@@ -6,7 +6,7 @@ ghost use Rattle.epoch_gate.specs.Counting.{counts_after, raised as raised_by};
 use crate::book::Faults;
 
 /// How many orders met a fault of the store, of the secrets and of the spawner. Each count stays at its last value.
-#[derive(Clone, Copy, Debug, PartialEq, Eq)]
+#[derive(Clone, Copy, PartialEq, Eq)]
 pub struct FaultCounts {
     pub store: u64,
     pub secrets: u64,

@@ -13,7 +13,7 @@ use plain_data::Text;
 use std::alloc::Global;
 
 /// A head that was read: the request that it makes with an empty body, how many bytes it has, and how many its body has.
-#[derive(Debug, Drop)]
+#[derive(Drop)]
 pub struct Head {
     pub request: Request,
     pub length: usize,
@@ -21,7 +21,7 @@ pub struct Head {
 }
 
 /// Why no head was read.
-#[derive(Clone, Copy, Debug, PartialEq, Eq)]
+#[derive(Clone, Copy, PartialEq, Eq)]
 pub enum HeadFault {
     Refused(Refusal),
     Memory,
@@ -40,7 +40,7 @@ impl From<Memory> for HeadFault {
 }
 
 // Where the parts of a head stand that takes exactly these bytes, and its header lines; none where they are no head.
-#[derive(Debug, Drop)]
+#[derive(Drop)]
 struct HeadSpans {
     line: RequestSpans,
     fields: Vec<HeaderSpan>,

@@ -9,14 +9,14 @@ use host_base::{Bytes, Memory, Request};
 use std::alloc::Global;
 
 /// What is known of a request that isn't whole yet: that its head doesn't end at the first places, or its head.
-#[derive(Debug, Drop)]
+#[derive(Drop)]
 pub enum Pending {
     Search(usize),
     Known(Head),
 }
 
 /// What was seen: a part of a request, bytes that are refused, or a request and the number of its bytes.
-#[derive(Debug, Drop)]
+#[derive(Drop)]
 pub enum Looked {
     Part(Pending),
     Refused(Refusal),

@@ -19,7 +19,7 @@ use std::mem;
 pub const PIECE: usize = 4096;
 
 /// Reads the requests of a stream, one at a time, from pieces of any size.
-#[derive(Debug, Drop)]
+#[derive(Drop)]
 pub struct RequestReader {
     held: Held,
     pending: Pending,
@@ -41,7 +41,7 @@ impl Model for RequestReader {
 }
 
 /// What the bytes begin with that are held.
-#[derive(Debug, Drop)]
+#[derive(Drop)]
 enum Seen {
     Part,
     Refused(Refusal),

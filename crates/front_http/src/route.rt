@@ -1,7 +1,7 @@
 use host_base::Digest;
 
 /// What a request is for, with the number that its path has.
-#[derive(Clone, Copy, Debug, PartialEq, Eq)]
+#[derive(Clone, Copy, PartialEq, Eq)]
 pub enum Route {
     /// A request of the session whose key has this digest.
     Session(Digest),

@@ -15,7 +15,7 @@ use std::alloc::Global;
 use std::marker::Model;
 
 /// How a path is written: as it stands, or with a number between two texts.
-#[derive(Clone, Copy, Debug)]
+#[derive(Clone, Copy)]
 pub enum Texts {
     Fixed(&'static str),
     Numbered(&'static str, &'static str),
@@ -271,7 +271,7 @@ impl Routes {
 }
 
 /// Which host a request is for.
-#[derive(Clone, Copy, Debug)]
+#[derive(Clone, Copy)]
 pub enum HostKind {
     Session,
     Api,

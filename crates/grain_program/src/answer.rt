@@ -9,7 +9,7 @@ use host_base::{Memory, Sink, Source};
 use std::alloc::Global;
 
 /// What came of a connection.
-#[derive(Clone, Copy, Debug, PartialEq, Eq)]
+#[derive(Clone, Copy, PartialEq, Eq)]
 pub enum Answered {
     /// The echo was written.
     Echoed,

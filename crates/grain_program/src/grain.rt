@@ -11,7 +11,7 @@ use serve_door::{Door, NoneCame};
 use std::alloc::Global;
 
 /// How the program ended.
-#[derive(Clone, Copy, Debug, PartialEq, Eq)]
+#[derive(Clone, Copy, PartialEq, Eq)]
 pub enum GrainEnd {
     /// All connections were taken.
     Done,

@@ -77,7 +77,7 @@ impl Secrets for SeqSecrets {
 }
 
 /// A list of secrets, drawn in its order. It fails exactly at the calls that were listed, and past its end.
-#[derive(Debug, Drop)]
+#[derive(Drop)]
 pub struct ListSecrets {
     secrets: List<[u8; 32]>,
     drawn: usize,

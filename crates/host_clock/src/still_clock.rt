@@ -6,7 +6,7 @@ use std::alloc::Global;
 use std::marker::Model;
 
 /// A clock that always gives the same moment.
-#[derive(Debug, Drop)]
+#[derive(Drop)]
 pub struct StillClock {
     moment: u64,
 }

@@ -12,7 +12,7 @@ use std::alloc::Global;
 
 /// The text of a secret that an answer hands out: as a token, or as a session's key. It is written as it is, so it must be one
 /// that JSON writes without an escape, as base64 in the URL alphabet and hexadecimal digits are.
-#[derive(Debug, Drop)]
+#[derive(Drop)]
 pub enum Handed {
     Nothing,
     Token(Bytes),

@@ -29,7 +29,7 @@ pub fn number_clue(kind: u64, first: u64, second: u64) -> u64
 }
 
 /// The clues of a row: one for each of its keys.
-#[derive(Clone, Copy, Debug, PartialEq, Eq)]
+#[derive(Clone, Copy, PartialEq, Eq)]
 pub struct Clues {
     pub first: Option<u64>,
     pub second: Option<u64>,
@@ -37,7 +37,7 @@ pub struct Clues {
 }
 
 /// How a row stands in an index.
-#[derive(Clone, Copy, Debug, PartialEq, Eq)]
+#[derive(Clone, Copy, PartialEq, Eq)]
 pub struct Standing {
     /// The clues of its keys.
     pub clues: Clues,

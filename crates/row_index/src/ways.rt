@@ -7,7 +7,7 @@ use std::alloc::{AllocError, Global};
 use std::collections::HashMap;
 
 /// How a row stands among the others: under which one, by its number from 1, if under any; and whether it is flagged.
-#[derive(Clone, Copy, Debug, PartialEq, Eq)]
+#[derive(Clone, Copy, PartialEq, Eq)]
 pub struct Link {
     pub parent: Option<u64>,
     pub flagged: bool,

@@ -14,7 +14,7 @@ use std::alloc::Global;
 use std::sync::Wait;
 
 /// Why no further connection was served.
-#[derive(Clone, Copy, Debug, PartialEq, Eq)]
+#[derive(Clone, Copy, PartialEq, Eq)]
 pub enum Stop {
     /// All that the door was to give were served.
     All,
@@ -25,7 +25,7 @@ pub enum Stop {
 }
 
 /// Why no further connection was served, and how many requests were answered on those that were.
-#[derive(Clone, Copy, Debug, PartialEq, Eq)]
+#[derive(Clone, Copy, PartialEq, Eq)]
 pub struct Stopped {
     pub stop: Stop,
     pub answered: u64,

@@ -12,7 +12,7 @@ use least_access::Solved;
 use share_graph::{Caller, Refusal, Root, State, by_login};
 
 /// Who acts, and on which grain: an account, or the bearer of a grant.
-#[derive(Clone, Copy, Debug, PartialEq, Eq)]
+#[derive(Clone, Copy, PartialEq, Eq)]
 pub struct Actor {
     pub grain: GrainId,
     pub root: Root,

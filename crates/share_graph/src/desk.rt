@@ -3,7 +3,7 @@ use host_base::{Digest, GrainId, Memory};
 use thiserror::Error;
 
 /// Who gives a command: each is known by the digest of a secret.
-#[derive(Clone, Copy, Debug, PartialEq, Eq)]
+#[derive(Clone, Copy, PartialEq, Eq)]
 pub enum Caller {
     /// The account with this login.
     Login(Digest),
@@ -16,14 +16,14 @@ pub enum Caller {
 }
 
 /// What may be chosen in the powerbox: a grain, or an item of the site's own under a driver's tag.
-#[derive(Clone, Copy, Debug, PartialEq, Eq)]
+#[derive(Clone, Copy, PartialEq, Eq)]
 pub enum Offer {
     Grain(GrainId),
     Site { tag: u64, item: u32 },
 }
 
 /// The numbers that the reply to a command shows.
-#[derive(Clone, Copy, Debug, PartialEq, Eq)]
+#[derive(Clone, Copy, PartialEq, Eq)]
 pub struct Made {
     pub account: Option<u32>,
     pub app: Option<u32>,

@@ -11,7 +11,7 @@ use crate::state::Tables;
 use host_base::{AccountId, GrantId};
 
 /// Where the way of a grant ends: at the account that gave first, or at the site, by whom it gave.
-#[derive(Clone, Copy, Debug, PartialEq, Eq)]
+#[derive(Clone, Copy, PartialEq, Eq)]
 pub enum Origin {
     Account(AccountId),
     Site { by: AccountId, tag: u64, item: u32 },

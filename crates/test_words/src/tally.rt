@@ -4,7 +4,7 @@ use std::alloc::{AllocError, Global};
 use std::io;
 
 /// How many rows or conversations came out as they are written, and how many didn't.
-#[derive(Clone, Copy, Debug, Default)]
+#[derive(Clone, Copy, Default)]
 pub struct Tally {
     pub passed: u64,
     pub failed: u64,
