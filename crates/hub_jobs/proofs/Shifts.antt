@@ -1,6 +1,6 @@
 -- Jobs that were done by passes.
-use Rattle.std.proofs.Common.{◌≡◌, ◌<◌, ◌+◌, ◌++◌, ℕ, suc, All, List, [], ◌∷◌, length, map, refl, sym, ◌∙◌, ap, subst, arith}
-use Rattle.std.specs.List.{slice_index_or, sum_by}
+use Rattle.std.proofs.Common.{◌≡◌, ◌+◌, ◌++◌, suc, All, List, [], ◌∷◌, length, map, refl, sym, ◌∙◌, ap, subst, arith}
+use Rattle.std.specs.List.{sum_by}
 use Rattle.std.proofs.lemmas.List.Sums.{sum_by-cons}
 use Rattle.std.proofs.lemmas.List.Elements.{All-cons, All-head, All-nil, All-tail}
 use mathlib.Core.List.{IsPrefix}
@@ -10,7 +10,8 @@ use Rattle.share_graph.specs.declared.state.State.{State}
 use Rattle.site_caps.specs.Law.{Law}
 use Rattle.epoch_gate.specs.Passes.{Passing, accepted}
 use Rattle.hub_core.specs.Book.{Book}
-use Rattle.hub_jobs.specs.Jobs.{AreDone, DoneAtOnce, DoneBy, Each, Shift}
+use Rattle.hub_jobs.specs.Inner.{DoneBy, Each}
+use Rattle.hub_jobs.specs.Jobs.{AreDone, DoneAtOnce, Shift}
 use Rattle.shared_hub.specs.Passing.{book_by}
 
 each_first : {A : Type 0} (related : A → A → Type 0) (x y : A) (xs ys : List A) → Each related (x ∷ xs) (y ∷ ys) → related x y

@@ -1,5 +1,5 @@
 -- Jobs that threads do at once on one history, each by a desk of its own.
-use Rattle.std.specs.Prelude.{◌≡◌, ◌<◌, ℕ, All, List, [], ◌∷◌, length, map, slice_index_or, sum_by}
+use Rattle.std.specs.Prelude.{◌≡◌, All, List, [], ◌∷◌, length, sum_by}
 use mathlib.Core.List.{IsPrefix}
 use Rattle.host_base.specs.declared.verdict.Verdict.{Verdict}
 use Rattle.share_graph.specs.declared.event.Event.{Event}
@@ -8,11 +8,6 @@ use Rattle.site_caps.specs.Law.{Law}
 use Rattle.epoch_gate.specs.Passes.{Passing}
 use Rattle.hub_core.specs.Book.{Book}
 use Rattle.shared_hub.specs.Passing.{book_by}
-
--- Two lists are as long, and what stands at one place of both is so related.
-abbrev pub Each : {X : Type 0} → (X → X → Type 0) → List X → List X → Type 0
-Each {X = X} related xs ys =
-    (length ys ≡ length xs) × ((i : ℕ) (d : X) → i < length xs → related (slice_index_or xs i d) (slice_index_or ys i d))
 
 -- What a pass was when its desk was lent to a job, and what it is since.
 pub record Shift : Type 0 where
@@ -30,11 +25,6 @@ AreDone does law start [] [] [] = Unit {0}
 AreDone does law start (shift ∷ shifts) (x ∷ xs) (y ∷ ys) =
     IsDone does law start shift x y × AreDone does law start shifts xs ys
 AreDone does law start _ _ _ = ⊥
-
--- They were done by passes that are these now.
-abbrev pub DoneBy : {J : Type 0} → (Book → Book → J → J → Type 0) → Law → State → List (Passing Event Verdict) → List J → List J → Type 0
-DoneBy does law start passes old new =
-    (shifts : List Shift) × (map (λ shift. shift.to) shifts ≡ passes) × AreDone does law start shifts old new
 
 -- JOBS WERE DONE AT ONCE on one history: what each pass has seen begins it, and its entries are as many as the orders that
 -- were accepted on all passes together.

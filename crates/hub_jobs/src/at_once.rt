@@ -1,7 +1,7 @@
 //! What threads do at once.
 
 ghost use Rattle.std.specs.Prelude.{All};
-ghost use Rattle.hub_jobs.specs.Jobs.{Each};
+ghost use Rattle.hub_jobs.specs.Inner.{Each};
 
 use std::thread;
 use std::thread::Threads;

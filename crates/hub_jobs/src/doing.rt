@@ -2,7 +2,8 @@
 
 ghost use Rattle.std.specs.Prelude.{◌≡◌, ◌+◌, ◌≤◌, [], All, vec_capacity, vec_len, IfOk, OnErr};
 ghost use Rattle.epoch_gate.specs.Books.{start_of};
-ghost use Rattle.hub_jobs.specs.Jobs.{DoneAtOnce, DoneBy};
+ghost use Rattle.hub_jobs.specs.Inner.{DoneBy};
+ghost use Rattle.hub_jobs.specs.Jobs.{DoneAtOnce};
 ghost use Rattle.shared_hub.specs.Since.{HasKept};
 ghost use Rattle.shared_hub.specs.Wanting.{blank};
 

@@ -1,10 +1,10 @@
 //! The small book, with objects in memory, and what is asked of it.
 
 ghost use Rattle.std.specs.Prelude.{◌≡◌, [], IfOk};
-ghost use Rattle.admin_run.specs.Connection.{HasBook};
 
-use admin_run::small_desk;
-use cloud_keeper::Keeper;
+use crate::gate::Gate;
+use crate::keeper::GatedKeeper;
+use admin_run::{book_keeper, small_desk};
 use club_site::{PlainClub, plain_sites};
 use desk_orders::{Command, Order};
 use grain_supervise::FakeSpawner;
@@ -14,7 +14,7 @@ use perm_roles::Assignment;
 use plain_data::List;
 use share_graph::Caller;
 use std::alloc::Global;
-use std::marker::PhantomData;
+use std::sync::Arc;
 use test_words::Fault;
 
 const ADA_LOGIN: &str = "AQEBAQEBAQEBAQEBAQEBAQEBAQEBAQEBAQEBAQEBAQE";
@@ -25,27 +25,25 @@ const BEN: AccountId = AccountId(3);
 
 const VOTE: GrainId = GrainId(2);
 
-/// Objects in memory, with a keeper of some type.
-pub struct InMemory<K> {
-    of: PhantomData<K>,
-}
+/// Objects in memory.
+pub struct InMemory;
 
-impl<K: Keeper + Drop> Holding for InMemory<K> {
-    type Keeper = K;
+impl Holding for InMemory {
+    type Keeper = GatedKeeper;
 
     type Secrets = SeqSecrets;
 
     type Spawner = FakeSpawner;
 }
 
-/// The small book, with what keeps its rows.
-pub type SmallBook<K> = Locked<InMemory<K>, PlainClub>;
+/// The small book, with objects in memory.
+pub type SmallBook = Locked<InMemory, PlainClub>;
 
-/// The small book, whose rows the keeper has.
-pub fn book_of<K: Keeper + Drop>(alloc: Global, keeper: K) -> Result<SmallBook<K>, Fault>
-    requires { HasBook (K.keeping keeper) }
+/// The small book, whose keeper stays in `commit` until a gate opens, where there is one.
+pub fn book_of(alloc: Global, gate: Option<Arc<Gate, Global>>) -> Result<SmallBook, Fault>
     ensures { IfOk result (λ book. book.history ≡ []) }
 {
+    let keeper = GatedKeeper::new(book_keeper(alloc, Fails::empty(alloc))?, gate);
     let held = Held {
         keeper,
         secrets: SeqSecrets::new(),

@@ -1,13 +1,8 @@
-//! A keeper that stays in `commit` until a gate opens, and a verdict beside it.
-
-ghost use Rattle.std.specs.Prelude.{◌≡◌, IfOk};
+//! A verdict beside an order that stays in its keeper's `commit`.
 
 use crate::book::{book_of, key_of_ben, share_with_ben};
 use crate::gate::Gate;
 use crate::passes::on_passes;
-use admin_run::book_keeper;
-use cloud_keeper::{KeepFault, Keeper, MemKeeper, Row};
-use host_base::Fails;
 use hub_core::Desk;
 use hub_jobs::Job;
 use perm_roles::{Assignment, Base, PermSet};
@@ -16,34 +11,6 @@ use std::num::NonZeroUsize;
 use std::sync::{Arc, Wait};
 use std::thread::Threads;
 use test_words::Fault;
-
-/// A keeper in memory, which stays in `commit` until a gate opens.
-#[derive(Drop)]
-pub struct GatedKeeper {
-    keeper: MemKeeper,
-    gate: Arc<Gate, Global>,
-}
-
-impl GatedKeeper {
-    pub fn new(keeper: MemKeeper, gate: Arc<Gate, Global>) -> Self
-        ensures { ⟦<GatedKeeper as Keeper>⟧.keeping result ≡ ⟦<MemKeeper as Keeper>⟧.keeping keeper }
-    {
-        GatedKeeper { keeper, gate }
-    }
-}
-
-impl Keeper for GatedKeeper {
-    ghost keeping = { λ k. ⟦<MemKeeper as Keeper>⟧.keeping k.keeper };
-
-    fn load(&mut self, alloc: Global) -> Result<Vec<Row>, KeepFault> {
-        self.keeper.load(alloc)
-    }
-
-    fn commit(&mut self, alloc: Global, row: &Row) -> Result<(), KeepFault> {
-        self.gate.hold();
-        self.keeper.commit(alloc, row)
-    }
-}
 
 // What a thread does: it gives an order, or it reads once, and again while the order is in `commit`.
 #[derive(Drop)]
@@ -96,8 +63,7 @@ pub fn answer_beside_commit<R: Threads + Wait + Sync>(
     alloc: Global,
 ) -> Result<String, Fault> {
     let gate = Arc::new(alloc, Gate::new())?;
-    let keeper = book_keeper(alloc, Fails::empty(alloc))?;
-    let book = book_of(alloc, GatedKeeper::new(keeper, Arc::try_clone(&gate)?))?;
+    let book = book_of(alloc, Some(Arc::try_clone(&gate)?))?;
     let mut tasks = Vec::new(alloc);
     tasks.push(Task {
         part: Part::Order,

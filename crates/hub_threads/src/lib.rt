@@ -6,6 +6,7 @@ mod book;
 mod gate;
 mod gated;
 mod given;
+mod keeper;
 mod measure;
 mod passes;
 mod shares;

@@ -2,8 +2,7 @@
 
 use crate::book::{book_of, share_with_ben};
 use crate::passes::on_passes;
-use admin_run::book_keeper;
-use host_base::{Fails, Key, digest_of};
+use host_base::{Key, digest_of};
 use hub_core::Desk;
 use hub_jobs::Job;
 use lru::LruCache;
@@ -151,7 +150,7 @@ fn measure<R: Threads + Wait + Sync + Clock + Print>(
     keys: usize,
     orders: bool,
 ) -> Result<String, Fault> {
-    let book = book_of(alloc, book_keeper(alloc, Fails::empty(alloc))?)?;
+    let book = book_of(alloc, None)?;
     let tasks = tasks_of(rt, alloc, threads, times, keys, orders)?;
     let (book, tasks) = on_passes(rt, alloc, book, NonZeroUsize::MIN, tasks)?;
     let mut slowest: u64 = 0;

@@ -2,10 +2,7 @@
 
 use crate::book::{SmallBook, book_of, key_of_ben, share_with_ben};
 use crate::passes::on_passes;
-use admin_run::book_keeper;
-use cloud_keeper::MemKeeper;
 use desk_orders::Reply;
-use host_base::Fails;
 use hub_core::Desk;
 use hub_jobs::Job;
 use perm_roles::{Assignment, Base, PermSet};
@@ -141,8 +138,8 @@ fn tasks_of(alloc: Global, threads: u32, times: u32) -> Result<Vec<Task>, Fault>
 }
 
 // What the verdict on ben's key is at each place, by one thread that gives the same orders in their order.
-fn verdicts_of(alloc: Global, book: &SmallBook<MemKeeper>) -> Result<Vec<String>, Fault> {
-    let mut alone = book_of(alloc, book_keeper(alloc, Fails::empty(alloc))?)?;
+fn verdicts_of(alloc: Global, book: &SmallBook) -> Result<Vec<String>, Fault> {
+    let mut alone = book_of(alloc, None)?;
     let mut verdicts = Vec::new(alloc);
     verdicts.push(format!(in alloc; "{:?}", alone.verdict(alloc, &key_of_ben())?)?)?;
     for grant in book.tables().grants.as_slice().iter().skip(FIRST_GRANTS) {
@@ -182,7 +179,7 @@ pub fn share_by_threads<R: Threads + Wait + Sync>(
     threads: u32,
     times: u32,
 ) -> Result<String, Fault> {
-    let book = book_of(alloc, book_keeper(alloc, Fails::empty(alloc))?)?;
+    let book = book_of(alloc, None)?;
     let tasks = tasks_of(alloc, threads, times)?;
     let (book, tasks) = on_passes(rt, alloc, book, NonZeroUsize::MIN, tasks)?;
     let verdicts = verdicts_of(alloc, &book)?;

@@ -5,7 +5,6 @@ ghost use Rattle.serve_door.specs.Doors.{IsInOrder, mem_doorway};
 
 use crate::book::book_of;
 use crate::passes::on_passes;
-use admin_run::book_keeper;
 use front_http::Routes;
 use grain_supervise::{AskFault, EchoLink, Link};
 use host_base::{Answer, Fails, GrainId, MemSink, MemSource, Memory, RunId};
@@ -133,7 +132,7 @@ fn written_at<L: Link + Drop>(alloc: Global, door: &MemDoor<L>) -> Result<Vec<u8
 
 // What is written to such a connection where it is served alone.
 fn written_alone<R: Wait>(rt: &R, alloc: Global, request: &str) -> Result<Vec<u8>, Fault> {
-    let book = book_of(alloc, book_keeper(alloc, Fails::empty(alloc))?)?;
+    let book = book_of(alloc, None)?;
     let routes = Routes::new(alloc)?;
     let mut door = door_of(alloc, request)?;
     let mut desk = SoloDesk::new(book);
@@ -145,7 +144,7 @@ fn written_alone<R: Wait>(rt: &R, alloc: Global, request: &str) -> Result<Vec<u8
 /// Serves two connections on two threads, over a link that holds its first call until the second one is answered: how many requests
 /// were answered, whether the first call was held so long, and whether what was written is what is written to each alone.
 pub fn serve_two<R: Threads + Wait + Sync>(rt: &R, alloc: Global) -> Result<String, Fault> {
-    let book = book_of(alloc, book_keeper(alloc, Fails::empty(alloc))?)?;
+    let book = book_of(alloc, None)?;
     let stage = Arc::new(alloc, AtomicU64::new(NONE))?;
     let link = HeldLink {
         link: EchoLink::new(alloc, Fails::empty(alloc)),
@@ -156,7 +155,7 @@ pub fn serve_two<R: Threads + Wait + Sync>(rt: &R, alloc: Global) -> Result<Stri
     let mut answered: u64 = 0;
     let mut same = true;
     for (worker, request) in workers.into_iter().zip(REQUESTS) {
-        let (door, _, stopped) = worker.into_parts();
+        let (door, stopped) = worker.into_parts();
         if stopped.stop == Stop::All {
             answered = answered.saturating_add(stopped.answered);
         }

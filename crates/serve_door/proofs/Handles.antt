@@ -1,5 +1,5 @@
 -- Workers one after another, and one more.
-use Rattle.std.proofs.Common.{◌≡◌, ◌∙◌, ◌++◌, ◌+◌, ℕ, List, [], ◌∷◌, length, map, refl, ap, arith, length-append}
+use Rattle.std.proofs.Common.{◌≡◌, ◌∙◌, ◌++◌, ◌+◌, List, [], ◌∷◌, length, map, refl, ap, arith, length-append}
 use Rattle.serve_door.specs.Doors.{Doorway, with_faults_of}
 use Rattle.serve_door.specs.Working.{Post, all_together, together, with_handles}
 use Rattle.serve_door.specs.declared.serving.Stopped.{Stopped}

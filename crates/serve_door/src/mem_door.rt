@@ -136,8 +136,8 @@ impl<L: Link + Drop> Door for MemDoor<L> {
 
         // It keeps the connection.
         ensures keeps { self.new ≡ record self.old {
-          kept = self.old.kept ++ connection
-              (⟦<MemSource as Source>⟧.inlet input) (⟦<MemSink as Sink>⟧.outlet output) (L.line link) end ∷ [];
+          kept = self.old.kept ++ connection (⟦<MemSource as Source>⟧.inlet input)
+              (⟦<MemSink as Sink>⟧.outlet output) (L.line link) end ∷ [];
         } }
     {
         let _ = desk;

@@ -1,7 +1,6 @@
 //! Connections are served one after another.
 ghost use Rattle.std.specs.Prelude.{◌≡◌, ◌≤◌, IfOk, OnErr, IsErrOf};
 ghost use Rattle.host_base.specs.Outside.{Rose};
-ghost use Rattle.hub_core.specs.Book.{Book};
 ghost use Rattle.serve_door.specs.Connections.{IsServed, ServesMany};
 ghost use Rattle.serve_door.specs.Doors.{Connection as TheConnection, HasGivenAll, IsInOrder, IsWithinPlan, given_back, one_given};
 

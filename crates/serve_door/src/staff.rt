@@ -72,9 +72,9 @@ pub fn dismiss<'a, E: Door + Drop, R>(workers: Vec<Worker<'a, E, R>>) -> (E, Sto
     let Some(main) = workers.pop() else {
         unreachable!();
     };
-    let (mut door, _, mut all) = main.into_parts();
+    let (mut door, mut all) = main.into_parts();
     'handles: for worker in workers {
-        let (handle, _, stopped) = worker.into_parts();
+        let (handle, stopped) = worker.into_parts();
         door.take_back(handle);
         all = together(all, stopped);
     }

@@ -46,18 +46,18 @@ impl<'a, E: Door + Drop, R> Worker<'a, E, R> {
         }
     }
 
-    /// The worker's door and link, handed back, and how it stopped.
-    pub fn into_parts(self) -> (E, E::Link, Stopped)
+    /// The worker's door, handed back, and how it stopped.
+    pub fn into_parts(self) -> (E, Stopped)
         ensures door { E.doorway result.0 ≡ self.entry.doorway }
-        ensures stopped { result.2 ≡ self.entry.stopped }
+        ensures stopped { result.1 ≡ self.entry.stopped }
     {
         let Worker {
             rt: _,
             door,
-            link,
+            link: _,
             stopped,
         } = self;
-        (door, link, stopped)
+        (door, stopped)
     }
 }
 

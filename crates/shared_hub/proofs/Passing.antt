@@ -19,7 +19,7 @@ use Rattle.desk_orders.specs.declared.reply.OrderFault.{OrderFault}
 use Rattle.desk_orders.specs.declared.reply.OrderFault.TheVariants as fault
 use Rattle.desk_orders.specs.declared.reply.Reply.{Reply}
 use Rattle.hub_core.specs.Book.{Book, Later, TakesNone, Judged, IsCounted, Ordered}
-use Rattle.shared_hub.specs.Wanting.{AnswersOrder, AnswersWanted, ShowsVerdict, faults_of}
+use Rattle.shared_hub.specs.Wanting.{AnswersWanted, ShowsVerdict, faults_of}
 use Rattle.shared_hub.specs.declared.history.Told.{Told}
 use Rattle.shared_hub.specs.declared.history.Told.TheVariants as told
 use Rattle.shared_hub.specs.declared.history.Wanted.{Wanted}

@@ -2,7 +2,7 @@
 
 ghost use Rattle.std.specs.Prelude.{◌≡◌, ◌+◌, ◌≤◌, Some, length, IfOk};
 ghost use Rattle.std.specs.Map.{lookup};
-ghost use Rattle.hub_core.specs.Book.{TakesNone, Judged, Ordered};
+ghost use Rattle.hub_core.specs.Book.{TakesNone, Judged};
 ghost use Rattle.shared_hub.specs.Wanting.{blank};
 ghost use Rattle.epoch_gate.specs.Books.{start_of};
 ghost use Rattle.epoch_gate.specs.Passes.{same_key};

@@ -1,5 +1,5 @@
 use denote.Param.Send.{sendable}
-use Rattle.std.proofs.Common.{◌≡◌, ◌∙◌, List, All, ap, map, subst, sym, arith, length}
+use Rattle.std.proofs.Common.{◌∙◌, All, ap, map, subst, sym, arith, length}
 use Rattle.std.proofs.lemmas.List.{take_at}
 use Rattle.hub_jobs.proofs.Crossing.{Worker-send}
 use Rattle.hub_jobs.proofs.Shifts.{done_by, from_map}
