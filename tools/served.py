@@ -98,15 +98,15 @@ def open_files(process):
 
 
 def left_to_read(path):
-    """What nobody has read yet of a pipe whose other end is closed; of one that is open, with a word that says so."""
+    """What nobody has read yet of a pipe whose other end is open; of one that is closed, with a word that says so."""
     found = b""
     end = os.open(path, os.O_RDONLY | os.O_NONBLOCK)
     try:
         while piece := os.read(end, 1 << 16):
             found += piece
-        return found
+        return found + b" (and no more may come)"
     except BlockingIOError:
-        return found + b" (and more may come)"
+        return found
     finally:
         os.close(end)
 

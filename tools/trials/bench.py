@@ -1,11 +1,15 @@
 """Where the program is tried."""
 import os
+import re
 import tempfile
 import time
 import traceback
 
 from served import Server, Started, exchange, words_of
 from trials.talk import Talk
+
+# What a server says on standard error, a line a second.
+TELLING = re.compile(r"^lumbyte:( [a-z_]+=\d+){10}\n", re.MULTILINE)
 
 
 class Bench:
@@ -42,7 +46,7 @@ class Bench:
     def end_of(self, started):
         """How something ends that was started: its status, and what it printed."""
         text = f"status {started.status()}: {started.printed().decode(errors='backslashreplace')}"
-        complaints = started.complaints().decode(errors="replace")
+        complaints = TELLING.sub("", started.complaints().decode(errors="replace"))
         return f"{text} (on standard error: {complaints})" if complaints else text
 
     def ends(self, talk, answered, has_login=True):

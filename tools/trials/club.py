@@ -4,10 +4,10 @@ import os
 import re
 import signal
 
-from served import Connection, Port, end_process, listeners_on, open_files, place_of, request_text, words_of
+from served import Connection, Port, listeners_on, open_files, request_text, sockets_in, until, words_of
 from trials.files import files_of_a_club
 from trials.rows import ADA, AFTER_A_KILL, AGAIN, BEGINNING, ENDING, POWERBOX, SHARING
-from trials.talk import SENT, Ask, asked, count_of, run_of
+from trials.talk import SENT, Ask, asked, count_of
 
 # Lines that a client writes in the place of the server, and others, and those that pass.
 FORGED = [
@@ -25,8 +25,8 @@ def club(bench):
     folder, port = bench.place.make("club"), Port()
     talk = from_nothing(bench, folder, port)
     files_of_a_club(bench, folder, talk.secrets)
-    left = killed(bench, folder, port, talk)
-    after_a_kill(bench, folder, port, talk, left)
+    killed(bench, folder, port, talk)
+    after_a_kill(bench, folder, port, talk)
 
 
 def from_nothing(bench, folder, port):
@@ -49,27 +49,24 @@ def program_of_a_run(bench, server):
     made = [os.readlink(f"/proc/{one}/exe") for one in (server.number, process)]
     bench.same("a grain's program is this one", made[0], made[1])
     bench.same("its words", ["grain", "club.db.runs/run-1.sock", "1000000000"], words_of(process)[1:])
-    bench.same("what it has open", ["/dev/null", "pipe", "pipe", "socket"], open_files(process))
+    bench.same("what it has open", ["/dev/null", "anon_inode:[eventpoll]", "pipe", "pipe", "socket"], open_files(process))
 
 
 def killed(bench, folder, port, talk):
-    """A server on the same file, which is killed: its grains' programs are left."""
+    """A server on the same file, which is killed: its grains' programs end, and their sockets are left."""
     talk.server = server = bench.serve(folder, port, 1000000)
     talk.play(AGAIN)
     bench.same("no login is printed", "", server.printed().decode())
     bench.same("it is killed", -signal.SIGKILL, server.stop())
-    left = [process for process in bench.place.left() if place_of(process) == folder]
-    bench.same("its grains' programs are left", ["run 1", "run 2"], sorted(run_of(words_of(process)) for process in left))
-    return left
+    until("the end of its grains' programs", lambda: not bench.place.left())
+    bench.same("their sockets are left", ["run-1.sock", "run-2.sock"], sockets_in(server.runs()))
 
 
-def after_a_kill(bench, folder, port, talk, left):
-    """A server on that file and port, beside the programs that were left, which are ended at the end."""
+def after_a_kill(bench, folder, port, talk):
+    """A server on that file and port, beside the sockets that were left."""
     answered = count_of(AFTER_A_KILL)
     talk.server = bench.serve(folder, port, answered + 1)
     talk.play(AFTER_A_KILL)
-    for process in left:
-        end_process(process)
     os.unlink(os.path.join(talk.server.runs(), "run-2.sock"))
     bench.ends(talk, answered, has_login=False)
 

@@ -1,4 +1,6 @@
 """Connections to a server, of clients that keep to the rules and of others."""
+import contextlib
+
 from served import Connection, Port, exchange, request_text
 from trials.rows import ADMIN, A_GRAIN
 from trials.talk import Ask, asked, count_of, whole_answer
@@ -7,8 +9,8 @@ SETTING_OUT = [
     *A_GRAIN,
     Ask("it is opened", "first", "POST desk/grains/1/open", "{}", 200, '{"key":"$key","session":1}'),
 ]
-# How many connections the server takes.
-COUNT = 50
+# How many connections the server takes, and how many of its workers clients may keep, so that one is left.
+COUNT, KEPT = 80, 15
 LARGEST, LONGEST_HEAD = 1048576, 16384
 # What is no request, so that it doesn't count as one that was answered, and how it is refused; a number says where it begins.
 NO_REQUESTS = [
@@ -54,7 +56,7 @@ def connections(bench):
     talk = bench.talk(folder, port, COUNT)
     talk.play(SETTING_OUT)
     visits = Visits(bench, talk)
-    for trial in (in_turns, at_once, in_pieces, half_closed, large, head_alone, no_requests, leaving):
+    for trial in (in_turns, at_once, in_pieces, half_closed, large, head_alone, no_requests, leaving, beside_silent):
         trial(bench, visits)
     while visits.connections < COUNT - 1:
         visits.exchange(b"")
@@ -113,6 +115,7 @@ def head_alone(bench, visits):
 def no_requests(bench, visits):
     for name, text, status, refusal in NO_REQUESTS:
         bench.same(name, whole_answer(status, refusal), visits.exchange(text.encode()))
+    bench.same("one that is sent all the same", whole_answer(413, NO_REQUESTS[3][3]), visits.exchange(NO_REQUESTS[3][1].encode() + (LARGEST + 1) * b"a"))
     text = visits.text("/one")
     expected = visits.answer("/one") + whole_answer(400, f'{{"error":"BadHead","of":[{len(text)}]}}')
     bench.same("what comes behind it isn't read", expected, visits.exchange(text + b"hello\r\n\r\n" + text, 1))
@@ -129,3 +132,14 @@ def leaving(_, visits):
         connection.send(data)
         connection.reset()
         visits.next_is_answered(f"one that was reset {when}")
+
+
+def beside_silent(bench, visits):
+    """Clients that say nothing, or begin a request and go no further, hold up nobody as long as a worker is left."""
+    with contextlib.ExitStack() as silent:
+        for place in range(KEPT):
+            connection = silent.enter_context(visits.connect())
+            connection.send(b"" if place % 2 else b"GET / HTTP/1.1\r\nHo")
+        for turn in range(3):
+            visits.next_is_answered(f"{KEPT} that are silent, {turn + 1}")
+    visits.next_is_answered("those that were silent")

@@ -8,10 +8,11 @@ ghost use Rattle.admin_run.specs.Connection.{HasBook};
 ghost use Rattle.admin_run.specs.Program.{BeginWithBook, ServeAtDoor};
 ghost use Rattle.serve_door.specs.Doors.{IsInOrder};
 
-use admin_run::{Setting, World, book_keeper, run, world_of};
+use admin_run::{LinkOf, Setting, World, book_keeper, run, world_of};
 use cloud_keeper::Keeper;
 use club_site::{ClubDriver, club_offers, club_sites, club_text};
 use command_line::{Line, line_of};
+use crossbeam_channel::{Receiver, Sender, bounded};
 use grain_supervise::{EchoLink, FakeSpawner, Spawner};
 use host_base::{Fails, Memory, Secrets, SeqSecrets, StdSink, StdSource};
 use host_clock::StillClock;
@@ -20,12 +21,17 @@ use rand::rngs::SysRng;
 use serve_door::{Door, MemDoor};
 use site_caps::SiteDriver;
 use sql_keeper::SqlKeeper;
-use sqlite::Connection;
-use std::alloc::Global;
+use sqlite::{Alter, Connection, File, FileStore};
+use std::alloc::{AllocError, Global};
 use std::process::ExitCode;
-use std::sync::Wait;
-use std::{env, fs, io};
-use system_edges::{ProcSpawner, RngSecrets, TcpDoor, UnixDoor, UnixLink};
+use std::sync::{Arc, Wait};
+use std::thread::Threads;
+use std::time::Clock;
+use std::{env, fs, io, thread};
+use system_edges::{
+    Acceptor, Activity, ProcSpawner, RngSecrets, SharedActivity, SharedClient, TcpDoor, UnixDoor,
+    UnixLink, is_pipe, wait_for_end,
+};
 
 // The status where memory runs out.
 const NO_MEMORY: u8 = 7;
@@ -47,13 +53,22 @@ fn words_of(rt: &HostRuntime) -> Result<Vec<String>, Memory> {
 
 // The status of the program in a world, which goes with it. Outside of `main` the host runtime is no handle to wait by, so there
 // is a second one.
-fn status_in<R: Wait, W: Setting, C: SiteDriver + Drop>(
+fn status_in<R: Threads + Wait + Sync, W: Setting + Send, C: SiteDriver + Drop + Send>(
     wait: &R,
     alloc: Global,
     words: &[String],
     world: World<W>,
     sites: Vec<C>,
 ) -> u8
+where
+    W::Keeper: Send,
+    W::Secrets: Send,
+    W::Spawner: Send,
+    W::Door: Send,
+    <W::Door as Door>::Input: Send,
+    <W::Door as Door>::Output: Send,
+    LinkOf<W>: Send,
+    C::Law: Send,
     requires book { BeginWithBook words.now → HasBook world.holds.keeping }
     requires registered { BeginWithBook words.now ⊎ ServeAtDoor words.now
         → IsRegistered C.Law.law.tags (map C.tag_of sites.items) }
@@ -64,14 +79,16 @@ fn status_in<R: Wait, W: Setting, C: SiteDriver + Drop>(
 
 // Runs a line that serves no connections at a door, with a keeper, a door and the drivers of its sites, over standard input and
 // output. The link, the secrets and the spawner are those in memory, so that the same words and input give the same output.
-fn run_with<R: Wait, K: Keeper + Drop, E: Door<Link = EchoLink> + Drop, C: SiteDriver + Drop>(
-    rt: &HostRuntime,
-    wait: &R,
-    words: &[String],
-    keeper: K,
-    door: E,
-    sites: Vec<C>,
-) -> u8
+fn run_with<
+    R: Threads + Wait + Sync,
+    K: Keeper + Drop + Send,
+    E: Door<Link = EchoLink> + Drop + Send,
+    C: SiteDriver + Drop + Send,
+>(rt: &HostRuntime, wait: &R, words: &[String], keeper: K, door: E, sites: Vec<C>) -> u8
+where
+    C::Law: Send,
+    E::Input: Send,
+    E::Output: Send,
     requires book { BeginWithBook words.now → HasBook (K.keeping keeper) }
     requires registered { IsRegistered C.Law.law.tags (map C.tag_of sites.items) }
     requires elsewhere { ServeAtDoor words.now → ⊥ }
@@ -91,13 +108,15 @@ fn run_with<R: Wait, K: Keeper + Drop, E: Door<Link = EchoLink> + Drop, C: SiteD
 }
 
 // Runs such a line with the rows of the small book.
-fn run_with_book<R: Wait, E: Door<Link = EchoLink> + Drop, C: SiteDriver + Drop>(
-    rt: &HostRuntime,
-    wait: &R,
-    words: &[String],
-    door: E,
-    sites: Vec<C>,
-) -> u8
+fn run_with_book<
+    R: Threads + Wait + Sync,
+    E: Door<Link = EchoLink> + Drop + Send,
+    C: SiteDriver + Drop + Send,
+>(rt: &HostRuntime, wait: &R, words: &[String], door: E, sites: Vec<C>) -> u8
+where
+    C::Law: Send,
+    E::Input: Send,
+    E::Output: Send,
     requires registered { IsRegistered C.Law.law.tags (map C.tag_of sites.items) }
     requires elsewhere { ServeAtDoor words.now → ⊥ }
 {
@@ -109,12 +128,12 @@ fn run_with_book<R: Wait, E: Door<Link = EchoLink> + Drop, C: SiteDriver + Drop>
 
 // Serves connections at a door from the rows of a keeper, with these objects and standard output.
 fn serve_with<
-    R: Wait,
-    K: Keeper + Drop,
-    S: Secrets + Drop,
-    P: Spawner + Drop,
-    E: Door + Drop,
-    C: SiteDriver + Drop,
+    R: Threads + Wait + Sync,
+    K: Keeper + Drop + Send,
+    S: Secrets + Drop + Send,
+    P: Spawner + Drop + Send,
+    E: Door + Drop + Send,
+    C: SiteDriver + Drop + Send,
 >(
     rt: &HostRuntime,
     wait: &R,
@@ -124,6 +143,11 @@ fn serve_with<
     door: E,
     sites: Vec<C>,
 ) -> u8
+where
+    C::Law: Send,
+    E::Input: Send,
+    E::Output: Send,
+    E::Link: Send,
     requires registered { IsRegistered C.Law.law.tags (map C.tag_of sites.items) }
     requires elsewhere { BeginWithBook words.now → ⊥ }
     requires order { IsInOrder (E.doorway door) }
@@ -136,29 +160,96 @@ fn serve_with<
     status_in(wait, rt.alloc(), words, world, sites)
 }
 
-// Serves connections on a port from a file of rows. The runs of its grains have their sockets in a folder beside the file.
-fn run_serve<R: Wait, C: SiteDriver + Drop>(
-    rt: &HostRuntime,
-    wait: &R,
+// The keeper over a file of rows. (What takes it is generic over its store: the check of a call that is generic over the keeper passes
+// its limit of steps.)
+fn keeper_of(rt: &HostRuntime, file: &str) -> SqlKeeper<FileStore<File>> {
+    SqlKeeper::of(Connection::open(rt, file))
+}
+
+// Where a server's clients come in, and what its threads share.
+#[derive(Drop)]
+struct Post {
+    clients: Option<Receiver<SharedClient>>,
+    activity: SharedActivity,
+}
+
+// The paths of the folder of the sockets, beside a file of rows, for what starts the programs of grains and for the link to them; and
+// the activity for both.
+#[derive(Drop)]
+struct Folder {
+    runs: String,
+    sockets: String,
+    started: SharedActivity,
+    asked: SharedActivity,
+}
+
+fn folder_of(alloc: Global, file: &str, activity: &SharedActivity) -> Result<Folder, AllocError> {
+    let runs = format!(in alloc; "{file}.runs")?;
+    let sockets = runs.clone()?;
+    Ok(Folder {
+        runs,
+        sockets,
+        started: Arc::try_clone(activity)?,
+        asked: Arc::try_clone(activity)?,
+    })
+}
+
+// Serves the clients at a door from the rows of a keeper. The runs of its grains have their sockets in a folder.
+fn serve_kept<
+    'a,
+    R: Threads + Wait + Clock + Sync,
+    S: Alter + Drop + Send,
+    C: SiteDriver + Drop + Send,
+>(
+    rt: &'a HostRuntime,
+    wait: &'a R,
     words: &[String],
-    file: &str,
-    port: u16,
+    keeper: SqlKeeper<S>,
+    folder: Folder,
+    door: TcpDoor<'a, R, UnixLink<'a, HostRuntime>>,
+    sites: Vec<C>,
+) -> u8
+where
+    C::Law: Send,
+    requires registered { IsRegistered C.Law.law.tags (map C.tag_of sites.items) }
+    requires elsewhere { BeginWithBook words.now → ⊥ }
+{
+    let Folder {
+        runs,
+        sockets,
+        started,
+        asked,
+    } = folder;
+    let secrets = RngSecrets::new(SysRng::new(rt));
+    let spawner = ProcSpawner::new(rt.alloc(), rt, runs, started);
+    let (link, held) = (
+        UnixLink::new(rt, sockets, asked),
+        (keeper, secrets, spawner),
+    );
+    serve_with(rt, wait, words, link, held, door, sites)
+}
+
+// Serves the clients of an acceptor from a file of rows.
+fn run_serve<'a, R: Threads + Wait + Clock + Sync, C: SiteDriver + Drop + Send>(
+    rt: &'a HostRuntime,
+    wait: &'a R,
+    words: &[String],
+    post: Post,
     sites: Vec<C>,
 ) -> Result<u8, Memory>
+where
+    C::Law: Send,
     requires registered { IsRegistered C.Law.law.tags (map C.tag_of sites.items) }
     requires elsewhere { BeginWithBook words.now → ⊥ }
 {
     let alloc = rt.alloc();
-    let runs = format!(in alloc; "{file}.runs")?;
+    let folder = folder_of(alloc, path_of(words), &post.activity)?;
+    let door = TcpDoor::new(wait, alloc, post.clients, post.activity)?;
+
     // Where it can't be made no run is started, which is answered to whoever asks for one.
-    let _ = fs::create_dir(rt, runs.as_str());
-    let link = UnixLink::new(rt, runs.clone()?);
-    let keeper = SqlKeeper::of(Connection::open(rt, file));
-    let secrets = RngSecrets::new(SysRng::new(rt));
-    let spawner = ProcSpawner::new(alloc, rt, runs);
-    let door = TcpDoor::bind(rt, alloc, port)?;
-    let held = (keeper, secrets, spawner);
-    Ok(serve_with(rt, wait, words, link, held, door, sites))
+    let _ = fs::create_dir(rt, folder.runs.as_str());
+    let keeper = keeper_of(rt, path_of(words));
+    Ok(serve_kept(rt, wait, words, keeper, folder, door, sites))
 }
 
 // The path of a line that has one: its second word.
@@ -169,13 +260,33 @@ fn path_of(words: &[String]) -> &str {
     }
 }
 
+// Judges the rows of a keeper.
+fn check_kept<R: Threads + Wait + Sync, S: Alter + Drop + Send, C: SiteDriver + Drop + Send>(
+    rt: &HostRuntime,
+    wait: &R,
+    words: &[String],
+    keeper: SqlKeeper<S>,
+    sites: Vec<C>,
+) -> Result<u8, Memory>
+where
+    C::Law: Send,
+    requires registered { IsRegistered C.Law.law.tags (map C.tag_of sites.items) }
+    requires otherwise { BeginWithBook words.now → ⊥ }
+    requires elsewhere { ServeAtDoor words.now → ⊥ }
+{
+    let door = MemDoor::new(rt.alloc(), Vec::new(rt.alloc()))?;
+    Ok(run_with(rt, wait, words, keeper, door, sites))
+}
+
 // Runs a line that needs neither a file nor a door.
-fn run_alone<R: Wait, C: SiteDriver + Drop>(
+fn run_alone<R: Threads + Wait + Sync, C: SiteDriver + Drop + Send>(
     rt: &HostRuntime,
     wait: &R,
     words: &[String],
     sites: Vec<C>,
 ) -> Result<u8, Memory>
+where
+    C::Law: Send,
     requires registered { IsRegistered C.Law.law.tags (map C.tag_of sites.items) }
     requires elsewhere { ServeAtDoor words.now → ⊥ }
 {
@@ -185,21 +296,20 @@ fn run_alone<R: Wait, C: SiteDriver + Drop>(
 
 // Runs the program's line with what it needs.
 #[tactic(auto, using(admin_run::proofs::Begins::begins_otherwise, admin_run::proofs::Begins::serves_otherwise))]
-fn run_line<R: Wait, C: SiteDriver + Drop>(
+fn run_line<R: Threads + Wait + Clock + Sync, C: SiteDriver + Drop + Send>(
     rt: &HostRuntime,
     wait: &R,
     words: &[String],
+    post: Post,
     sites: Vec<C>,
 ) -> Result<u8, Memory>
+where
+    C::Law: Send,
     requires { IsRegistered C.Law.law.tags (map C.tag_of sites.items) }
 {
     match line_of(rt.alloc(), words)? {
-        Line::Serve { port, .. } => run_serve(rt, wait, words, path_of(words), port, sites),
-        Line::Check => {
-            let door = MemDoor::new(rt.alloc(), Vec::new(rt.alloc()))?;
-            let keeper = SqlKeeper::of(Connection::open(rt, path_of(words)));
-            Ok(run_with(rt, wait, words, keeper, door, sites))
-        }
+        Line::Serve { .. } => run_serve(rt, wait, words, post, sites),
+        Line::Check => check_kept(rt, wait, words, keeper_of(rt, path_of(words)), sites),
         Line::Grain { .. } => {
             let door = UnixDoor::bind(rt, path_of(words));
             Ok(run_with_book(rt, wait, words, door, sites))
@@ -210,25 +320,159 @@ fn run_line<R: Wait, C: SiteDriver + Drop>(
     }
 }
 
-fn main(rt: HostRuntime) -> ExitCode {
+// Runs the program's line over the sites of a club.
+fn run_words<R: Threads + Wait + Clock + Sync>(
+    rt: &HostRuntime,
+    wait: &R,
+    words: &[String],
+    post: Post,
+) -> Result<u8, Memory> {
     let alloc = rt.alloc();
-    let Ok(words) = words_of(&rt) else {
-        return ExitCode::from(NO_MEMORY);
-    };
-    let Ok(answering) = Box::new(
+    let answering = Box::new(
         alloc,
         |alloc: Global, query: &Query| club_offers(alloc, query),
-    ) else {
-        return ExitCode::from(NO_MEMORY);
+    )?;
+    let giving = Box::new(alloc, |alloc: Global, item: u32| club_text(alloc, item))?;
+    let sites = club_sites(alloc, ClubDriver::new(answering, giving))?;
+    run_line(rt, wait, words, post, sites)
+}
+
+// What a program that is tied to its input waits by: an end of its work, with its status, or of its input.
+#[derive(Drop)]
+struct Tie {
+    is_grain: bool,
+    activity: SharedActivity,
+    done: Sender<Option<u8>>,
+    input_ended: Sender<Option<u8>>,
+    ends: Receiver<Option<u8>>,
+}
+
+// The program's words, and what it needs beside the sites of a club. A line that serves is tied to its input where that is a pipe.
+#[derive(Drop)]
+struct Plan {
+    words: Vec<String>,
+    post: Post,
+    acceptor: Option<Acceptor>,
+    tie: Option<Tie>,
+}
+
+// What the program waits by where its line serves and its input is a pipe.
+fn tie_of(
+    rt: &HostRuntime,
+    line: &Line,
+    activity: &SharedActivity,
+) -> Result<Option<Tie>, AllocError> {
+    let is_grain = match line {
+        Line::Serve { .. } => false,
+        Line::Grain { .. } => true,
+        _ => return Ok(None),
     };
-    let Ok(giving) = Box::new(alloc, |alloc: Global, item: u32| club_text(alloc, item)) else {
-        return ExitCode::from(NO_MEMORY);
-    };
-    let Ok(sites) = club_sites(alloc, ClubDriver::new(answering, giving)) else {
-        return ExitCode::from(NO_MEMORY);
-    };
-    match run_line(&rt, &rt, words.as_slice(), sites) {
-        Ok(status) => ExitCode::from(status),
-        Err(Memory) => ExitCode::from(NO_MEMORY),
+    if !is_pipe(rt) {
+        return Ok(None);
     }
+    let (done, ends) = bounded(rt.alloc(), 2)?;
+    Ok(Some(Tie {
+        is_grain,
+        activity: Arc::try_clone(activity)?,
+        input_ended: done.clone()?,
+        done,
+        ends,
+    }))
+}
+
+// What the program is to do by its words. Where the port can't be bound no client comes in.
+fn plan_of(rt: &HostRuntime) -> Result<Plan, Memory> {
+    let alloc = rt.alloc();
+    let words = words_of(rt)?;
+    let line = line_of(alloc, words.as_slice())?;
+    let activity = Activity::new(alloc)?;
+    let tie = tie_of(rt, &line, &activity)?;
+    let (mut acceptor, mut clients) = (None, None);
+    if let Line::Serve { port, .. } = line
+        && let Ok((one, coming)) = Acceptor::bind(rt, alloc, port, Arc::try_clone(&activity)?)
+    {
+        acceptor = Some(one);
+        clients = Some(coming);
+    }
+    Ok(Plan {
+        words,
+        post: Post { clients, activity },
+        acceptor,
+        tie,
+    })
+}
+
+// The status of the program's line, over the sites of a club.
+fn status_of<R: Threads + Wait + Clock + Sync>(
+    rt: &HostRuntime,
+    wait: &R,
+    words: &[String],
+    post: Post,
+) -> u8 {
+    match run_words(rt, wait, words, post) {
+        Ok(status) => status,
+        Err(Memory) => NO_MEMORY,
+    }
+}
+
+// The status once the work has ended, or the input: then a server is told to end, and a grain's program just ends.
+fn status_at_end<R: Wait>(
+    wait: &R,
+    ends: &Receiver<Option<u8>>,
+    is_grain: bool,
+    activity: &Activity,
+) -> ExitCode {
+    let mut ended = ends.recv(wait);
+    if let Ok(None) = ended
+        && !is_grain
+    {
+        activity.end();
+        ended = ends.recv(wait);
+    }
+    match ended {
+        Ok(Some(status)) => ExitCode::from(status),
+        Ok(None) => ExitCode::SUCCESS,
+        Err(_) => ExitCode::from(NO_MEMORY),
+    }
+}
+
+// In `main` alone the host runtime starts threads.
+fn main(rt: HostRuntime) -> ExitCode {
+    let Ok(plan) = plan_of(&rt) else {
+        return ExitCode::from(NO_MEMORY);
+    };
+    let Plan {
+        words,
+        post,
+        acceptor,
+        tie,
+    } = plan;
+    if let Some(acceptor) = acceptor
+        && thread::spawn(&rt, move || acceptor.run(&rt)).is_err()
+    {
+        return ExitCode::from(NO_MEMORY);
+    }
+    let Some(tie) = tie else {
+        return ExitCode::from(status_of(&rt, &rt, words.as_slice(), post));
+    };
+    let Tie {
+        is_grain,
+        activity,
+        done,
+        input_ended,
+        ends,
+    } = tie;
+    let working = thread::spawn(&rt, move || {
+        let status = status_of(&rt, &rt, words.as_slice(), post);
+        let _ = done.send(&rt, Some(status));
+    });
+    let waiting = thread::spawn(&rt, move || {
+        if wait_for_end(&rt, rt.alloc(), &rt.stdin()).is_ok() {
+            let _ = input_ended.send(&rt, None);
+        }
+    });
+    if working.is_err() || waiting.is_err() {
+        return ExitCode::from(NO_MEMORY);
+    }
+    status_at_end(&rt, &ends, is_grain, &activity)
 }

@@ -2,10 +2,11 @@ pub mod Begins
 pub mod BookRows
 pub mod Causes
 pub mod Completes
+pub mod Ends
+pub mod First
 pub mod Logins
 pub mod Made
 pub mod Played
-pub mod Opened
 pub mod Registered
-pub mod ServedRows
 pub mod Told
+pub mod Workers

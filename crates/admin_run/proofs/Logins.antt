@@ -1,26 +1,15 @@
--- The accounts keep their logins, and what a keeper with the first account's row alone gives to load.
-use Rattle.std.proofs.Common.{◌≡◌, ◌∙◌, ℕ, zero, suc, List, [], ◌∷◌, ◌++◌, Option, None, Some, map, refl, ap, sym, subst}
-use Rattle.std.specs.Prelude.{Ok, Result}
+-- The accounts keep their logins.
+use Rattle.std.proofs.Common.{◌≡◌, ◌∙◌, ℕ, zero, suc, List, [], ◌∷◌, ◌++◌, map, refl, ap}
 use Rattle.std.proofs.lemmas.List.{map-append}
-use Rattle.host_base.specs.Drawing.{Drawer}
 use Rattle.host_base.specs.declared.digest.Digest.{Digest}
-use Rattle.cloud_keeper.specs.Keeping.{Keeping}
-use Rattle.cloud_keeper.specs.declared.row.Row.{Row}
 use Rattle.share_graph.specs.declared.rows.Account.{Account}
 use Rattle.share_graph.specs.declared.event.Event.{Event}
 use Rattle.share_graph.specs.declared.event.Event.TheVariants as event
 use Rattle.share_graph.specs.declared.state.State.{State}
-use Rattle.share_graph.specs.declared.state.Tables.{Tables}
 use Rattle.share_graph.specs.Changing.{change, change_row}
 use Rattle.share_graph.specs.History.{after, replay}
 use Rattle.share_graph.specs.Setting.{with_admin, with_enabled}
-use Rattle.row_tables.specs.declared.stored.BadRow.{BadRow}
-use Rattle.row_tables.specs.TablesRows.{tables_of}
-use Rattle.row_tables.proofs.SectionExact.{tables_again}
-use Rattle.first_account.specs.First.{HasJust, first_row, first_tables}
-use Rattle.first_account.proofs.Opening.{first_kept}
-use Rattle.hub_core.specs.Opening.{AreLoaded}
-use Rattle.admin_run.specs.Serving.{Begins, logins}
+use Rattle.admin_run.specs.Serving.{logins}
 
 abbrev login_of : Account → Digest
 login_of account = account.login
@@ -73,25 +62,3 @@ logins_stay s (e ∷ events) =
     let (one, first) = stay_after s e in
     let (more, rest) = logins_stay (after s e) events in
     (one ++ more, rest ∙ (ap (λ ds. ds ++ more) first ∙ append_assoc (logins s.tables) one more))
-
-abbrev read : Tables → Result Tables BadRow
-read t = Ok t
-
-read_one : (a b : Tables) → read a ≡ read b → a ≡ b
-read_one a b is = cc
-
--- what is loaded from the row of the first account alone
-first_loaded : (token : List ℕ) (keeping : Keeping) (rows : List Row) (tables : Tables) → HasJust (first_row token) keeping → keeping.rows ≡ Some rows → AreLoaded keeping tables → tables ≡ first_tables token
-first_loaded token keeping rows tables just told loaded =
-    let here : loaded.rows ≡ first_row token ∷ [] = loaded.told rows told ∙ just rows told in
-    let kept = first_kept token in
-    let again : tables_of (first_row token ∷ []) ≡ read (first_tables token) = ap tables_of kept.rows_are ∙ tables_again (first_tables token) kept.have in
-    read_one tables (first_tables token) (sym loaded.read.0 ∙ (ap tables_of here ∙ again))
-
--- a first account was made
-pub first_begun : (keeping keeping' : Keeping) (drawer drawer' : Drawer) (login : Option (List ℕ)) (token : List ℕ) → Begins keeping keeping' drawer drawer' login → login ≡ Some token
-    → (rows : List Row) → keeping'.rows ≡ Some rows → (tables : Tables) → AreLoaded keeping' tables → tables ≡ first_tables token
-first_begun keeping keeping' drawer drawer' None token begun is rows told tables loaded = absurd cc
-first_begun keeping keeping' drawer drawer' (Some own) token begun is rows told tables loaded =
-    let same : own ≡ token = cc in
-    subst (λ (t : List ℕ). tables ≡ first_tables t) same (first_loaded own keeping' rows tables begun.1 told loaded)

@@ -1,5 +1,5 @@
 -- One connection that was served from the small book by a desk of one's own.
-use Rattle.std.proofs.Common.{◌≡◌, ℕ, List, [], Option, length, sym, refl, subst, arith}
+use Rattle.std.proofs.Common.{◌≡◌, ℕ, List, [], Option, length, sym, subst, arith}
 use Rattle.host_base.specs.Outside.{Inlet, Outlet}
 use Rattle.grain_supervise.specs.Line.{Line}
 use Rattle.serve_door.specs.Doors.{Doorway}

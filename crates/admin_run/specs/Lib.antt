@@ -1,3 +1,4 @@
+pub mod Beginning
 pub mod Connection
 pub mod Judging
 pub mod Lines

@@ -1,35 +1,26 @@
--- What `serve` does.
-use Rattle.std.specs.Prelude.{◌≡◌, ◌≢◌, ℕ, ◌+◌, ◌⊎◌, ◌++◌, List, [], Option, None, Some, map, codes, decimal}
-use Rattle.host_base.specs.Drawing.{Drawer}
+-- What `serve` does, by its two ends.
+use Rattle.std.specs.Prelude.{◌≡◌, ℕ, ◌⊎◌, ◌++◌, List, [], ◌∷◌, Option, None, Some, map, option_map, codes, decimal}
+use Rattle.host_base.specs.Drawing.{Coming}
 use Rattle.host_base.specs.declared.digest.Digest.{Digest}
-use Rattle.host_base.specs.Outside.{Outlet, Rose}
-use Rattle.cloud_keeper.specs.Keeping.{Keeping, RowsFollow}
-use Rattle.cloud_keeper.specs.declared.row.Row.{Row}
-use Rattle.row_tables.specs.declared.stored.BadRow.{BadRow}
+use Rattle.host_base.specs.Outside.{Outlet}
 use Rattle.share_graph.specs.declared.event.Event.{Event}
+use Rattle.share_graph.specs.declared.state.State.{State}
 use Rattle.share_graph.specs.declared.state.Tables.{Tables}
 use Rattle.share_graph.specs.History.{replay}
-use Rattle.first_account.specs.Drawn.{DrewOneAtMost, IsTokenOfNext}
-use Rattle.first_account.specs.First.{HasNoRows, HasJust, first_row, first_tables}
 use Rattle.site_caps.specs.Law.{Law}
-use Rattle.hub_core.specs.Opening.{AreLoaded, HasBadRow, opened}
-use Rattle.hub_core.specs.Book.{Book, Backing}
-use Rattle.hub_core.specs.Sharing.{book_of}
 use Rattle.row_tables.specs.Kept.{IsStored}
-use Rattle.serve_door.specs.Connections.{ServesMany}
-use Rattle.serve_door.specs.Doors.{HasGivenAll, expecting}
+use Rattle.desk_orders.specs.Secrets.{DrawsAll}
+use Rattle.hub_core.specs.Book.{Backing, CountsOn}
+use Rattle.hub_core.specs.Opening.{opened}
+use Rattle.shared_hub.specs.Since.{HasKept, SpawnedSince}
+use Rattle.hub_jobs.specs.Jobs.{DoneAtOnce}
+use Rattle.serve_door.specs.Doors.{Connection, Doorway, expecting}
+use Rattle.serve_door.specs.Working.{AreHired, Post, Works, all_together, with_handles}
 use Rattle.serve_door.specs.declared.serving.Stop.{Stop}
 use Rattle.serve_door.specs.declared.serving.Stop.TheVariants as stop
+use Rattle.serve_door.specs.declared.serving.Stopped.{Stopped}
+use Rattle.admin_run.specs.Beginning.{BeginsWith, CannotBegin, DrewLogin}
 use Rattle.admin_run.specs.Outside.{Outside, Tells}
-
--- a keeper has rows, where it tells them
-abbrev pub HasSomeRows : Keeping → Type 0
-HasSomeRows keeping = (rows : List Row) → keeping.rows ≡ Some rows → rows ≢ []
-
--- WHAT IT BEGINS WITH: the rows of the keeper; or where there are none, the row of the first account, whose login is the token of the next secret.
-abbrev pub Begins : Keeping → Keeping → Drawer → Drawer → Option (List ℕ) → Type 0
-Begins keeping keeping' drawer drawer' None = HasSomeRows keeping × RowsFollow keeping keeping' (λ rows. rows) × (drawer' ≡ drawer)
-Begins keeping keeping' drawer drawer' (Some token) = HasNoRows keeping × HasJust (first_row token) keeping' × IsTokenOfNext drawer.coming drawer'.coming token
 
 -- the line of the first account's login
 abbrev pub login_line : Option (List ℕ) → List ℕ
@@ -40,85 +31,84 @@ login_line (Some token) = (codes "login " ++ token) ++ codes "\n"
 abbrev pub served_line : ℕ → List ℕ
 served_line answered = (codes "served " ++ decimal answered) ++ codes "\n"
 
--- IT CAN'T BEGIN: the keeper failed or the secrets did, which was counted, or memory ran out. The keeper's rows stay as they were, and one secret was drawn at the
--- most.
-pub record CannotBegin (keeping keeping' : Keeping) (drawer drawer' : Drawer) (status : ℕ) : Type 0 where
-  pub cause : ((status ≡ 9) × (Rose keeping.faults keeping'.faults ⊎ Rose drawer.faults drawer'.faults)) ⊎ (status ≡ 7)
-  pub kept : RowsFollow keeping keeping' (λ rows. rows)
-  pub drawn : DrewOneAtMost drawer.coming drawer'.coming
+-- the logins of the accounts, in order
+abbrev pub logins : Tables → List Digest
+logins t = map (λ account. account.login) t.accounts
+
+-- how many workers there are beside the one at the door itself
+abbrev pub other_workers : ℕ
+other_workers = 127
+
+-- what a door gave and what came back, where it tells that
+abbrev pub given_and_back : Doorway → Option (ℕ × List Connection)
+given_and_back door = option_map (λ t. (t.given, t.returned)) door.traffic
+
+-- What is printed where serving stopped, behind a text, and the status: how many requests were answered, where all was served.
+abbrev pub TellsStop : Stop → List ℕ → ℕ → Outlet → Outlet → ℕ → Type 0
+TellsStop stop.All text answered old new status = Tells old new (text ++ served_line answered) 0 status
+TellsStop stop.DoorFailed text answered old new status = (status ≡ 4) × Tells old new text 4 4
+TellsStop stop.Memory text answered old new status = (status ≡ 7) × Tells old new text 7 7
+
+-- NO CONNECTION WAS SERVED: the text couldn't be printed, or memory ran out behind it.
+pub record ServesNone (text : List ℕ) (history : List Event) (door door' : Doorway) (out out' : Outlet) (status : ℕ) : Type 0 where
+  pub none : history ≡ []
+  pub untaken : given_and_back door' ≡ given_and_back door
+  pub told : Tells out out' text 7 status
+
+-- WORKERS SERVED at a door, which is to give so many connections: one at the door itself, and others at handles that it took back.
+pub record ServesAtOnce (law : Law) (start : State) (count : ℕ) (text : List ℕ) (history : List Event) (door door' : Doorway) (out out' : Outlet)
+    (status : ℕ) : Type 0 where
+  pub before : List Post
+  pub handles : List Post
+  pub main : Post
+  pub hired : AreHired (expecting door count) other_workers before
+  pub done : DoneAtOnce Works law start history before (handles ++ main ∷ [])
+  pub taken_back : door' ≡ with_handles main.doorway handles
+  pub stopped : Stopped
+  pub stopped_is : stopped ≡ all_together main.stopped handles
+  pub told : TellsStop stopped.stop text stopped.answered out out' status
+
+-- either
+abbrev pub EndsServing : Law → State → ℕ → List ℕ → List Event → Doorway → Doorway → Outlet → Outlet → ℕ → Type 0
+EndsServing law start count text history door door' out out' status =
+    ServesNone text history door door' out out' status ⊎ ServesAtOnce law start count text history door door' out out' status
+
+-- Connections are served, or none is, on a history that the keeper, the secrets and the spawner were told of.
+pub record ServesHistory (law : Law) (start : State) (count : ℕ) (holds holds' : Backing) (door door' : Doorway) (out out' : Outlet) (status : ℕ)
+    : Type 0 where
+  pub history : List Event
+  pub stored : IsStored holds'.keeping (replay start history).tables
+  pub kept : HasKept holds holds' history
+  pub ends : EndsServing law start count [] history door door' out out' status
+
+-- the secrets that were drawn: the login's, where there is a first account, and then those of the orders
+abbrev pub DrewAll : Option (List ℕ) → Option Coming → Option Coming → Type 0
+DrewAll login coming rest =
+    (between : Option Coming) × DrewLogin login coming between × ((drawn : List (List ℕ)) × DrawsAll between rest drawn)
+
+-- THE HEADLINE of `serve`. A history begins with the tables of the rows that the keeper told, or of the first account, whose login's token is printed; connections
+-- are served on it; and the keeper has the tables at its end, in which the accounts still have their logins. The spawner was told the starts and stops of its
+-- entries, and no count fell. Neither the input, the link nor the clock is asked.
+pub record ServesFrom (law : Law) (count : ℕ) (old new : Outside) (status : ℕ) : Type 0 where
+  pub tables : Tables
+  pub login : Option (List ℕ)
+  pub begins : BeginsWith old.holds.keeping tables login
+  pub history : List Event
+  pub stored : IsStored new.holds.keeping (replay (opened tables) history).tables
+  pub added : List Digest
+  pub logins_stay : logins (replay (opened tables) history).tables ≡ logins tables ++ added
+  pub drew : DrewAll login old.holds.drawer.coming new.holds.drawer.coming
+  pub spawned : SpawnedSince old.holds.spawns new.holds.spawns history
+  pub counts : CountsOn old.holds new.holds
+  pub ends : EndsServing law (opened tables) count (login_line login) history
+      old.doorway new.doorway old.outlet new.outlet status
+  pub others : new ≡ record old { outlet = new.outlet; holds = new.holds; doorway = new.doorway }
 
 -- Nothing is printed or served, since it can't begin.
 pub record StopsEarly (old new : Outside) (status : ℕ) : Type 0 where
   pub fails : CannotBegin old.holds.keeping new.holds.keeping old.holds.drawer new.holds.drawer status
   pub others : new ≡ record old { holds = record old.holds { keeping = new.holds.keeping; drawer = new.holds.drawer } }
 
--- The rows aren't opened: the keeper failed, which was counted, it has a bad row, or memory ran out. They stay as they were.
-pub record StopsAtRows (old new : Outside) (status : ℕ) : Type 0 where
-  pub cause : ((status ≡ 9) × Rose old.holds.keeping.faults new.holds.keeping.faults)
-      ⊎ (((status ≡ 10) × ((bad : BadRow) × HasBadRow old.holds.keeping bad)) ⊎ (status ≡ 7))
-  pub kept : RowsFollow old.holds.keeping new.holds.keeping (λ rows. rows)
-  pub others : new ≡ record old { holds = record old.holds { keeping = new.holds.keeping } }
-
--- What is printed where serving stopped, and the status: how many requests were answered, where all connections were served, and else nothing.
-abbrev pub TellsStop : Stop → ℕ → Outlet → Outlet → ℕ → Type 0
-TellsStop stop.All answered old new status = Tells old new (served_line answered) 0 status
-TellsStop stop.DoorFailed answered old new status = (status ≡ 4) × (new ≡ old)
-TellsStop stop.Memory answered old new status = (status ≡ 7) × (new ≡ old)
-
--- How it ends once connections are served: all that the door was to give were; or the door failed, which was counted; or
--- memory ran out.
-pub record EndsServing (answered : ℕ) (old new : Outside) (status : ℕ) : Type 0 where
-  pub why : Stop
-  pub told : TellsStop why answered old.outlet new.outlet status
-  pub all : why ≡ stop.All → HasGivenAll new.doorway
-  pub failed : why ≡ stop.DoorFailed → Rose old.doorway.faults new.doorway.faults
-
--- the logins of the accounts, in order
-abbrev pub logins : Tables → List Digest
-logins t = map (λ account. account.login) t.accounts
-
--- a desk that began with tables, and what its objects tell
-abbrev pub tables_with : Law → Tables → List Event → Backing → Book
-tables_with law tables history holds = book_of law (record { start = opened tables; history = history; holds = holds })
-
--- THE HEADLINE of `serve`: the door is to give so many connections, which are served one after another in one history; that begins
--- with the tables, and the keeper has the tables after it. The accounts keep their logins. Neither the input, the link nor the clock is asked.
-pub record ServesFrom (law : Law) (tables : Tables) (count : ℕ) (holds : Backing) (old new : Outside) (status : ℕ) : Type 0 where
-  pub history : List Event
-  pub answered : ℕ
-  pub connections : ServesMany (tables_with law tables [] holds) (tables_with law tables history new.holds)
-      (expecting old.doorway count) new.doorway answered
-  pub stored : IsStored new.holds.keeping (replay (opened tables) history).tables
-  pub added : List Digest
-  pub logins_stay : logins (replay (opened tables) history).tables ≡ logins tables ++ added
-  pub ends : EndsServing answered old new status
-  pub others : new ≡ record old { outlet = new.outlet; holds = new.holds; doorway = new.doorway }
-
--- The rows are opened, which leaves them as they were, and connections are served from the tables that they state.
-pub record Opens (law : Law) (count : ℕ) (old new : Outside) (status : ℕ) : Type 0 where
-  pub keeping : Keeping
-  pub kept : RowsFollow old.holds.keeping keeping (λ rows. rows)
-  pub tables : Tables
-  pub loaded : AreLoaded old.holds.keeping tables
-  pub served : ServesFrom law tables count (record old.holds { keeping = keeping }) old new status
-
--- the rows are opened, or not
-abbrev pub OpensRows : Law → ℕ → Outside → Outside → ℕ → Type 0
-OpensRows law count old new status = StopsAtRows old new status ⊎ Opens law count old new status
-
--- It began, and the login of a first account was printed, or couldn't be; where it was, the rows are opened. A keeper that
--- tells its rows then has those of the tables with the first account alone, and they are what is loaded.
-pub record GoesOn (law : Law) (count : ℕ) (old new : Outside) (status : ℕ) : Type 0 where
-  pub begun : Outside
-  pub login : Option (List ℕ)
-  pub begins : Begins old.holds.keeping begun.holds.keeping old.holds.drawer begun.holds.drawer login
-  pub others : begun ≡ record old { outlet = begun.outlet; holds = record old.holds { keeping = begun.holds.keeping; drawer = begun.holds.drawer } }
-  pub first : (token : List ℕ) → login ≡ Some token → (rows : List Row) → begun.holds.keeping.rows ≡ Some rows
-      → (tables : Tables) → AreLoaded begun.holds.keeping tables → tables ≡ first_tables token
-  pub told : ℕ
-  pub tells : Tells old.outlet begun.outlet (login_line login) 0 told
-  pub goes : ((told ≡ 5) × (status ≡ 5) × (new ≡ begun)) ⊎ ((told ≡ 0) × OpensRows law count begun new status)
-
 -- what `serve` does
 abbrev pub Serves : Law → ℕ → Outside → Outside → ℕ → Type 0
-Serves law count old new status = StopsEarly old new status ⊎ GoesOn law count old new status
+Serves law count old new status = StopsEarly old new status ⊎ ServesFrom law count old new status

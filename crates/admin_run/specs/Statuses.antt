@@ -3,8 +3,6 @@ use Rattle.std.specs.Prelude.{ℕ}
 use Rattle.front_http.specs.Stream.{Ending, Done, Last, Cut, Bad}
 use Rattle.grain_program.specs.declared.grain.GrainEnd.{GrainEnd}
 use Rattle.grain_program.specs.declared.grain.GrainEnd.TheVariants as grain_end
-use Rattle.hub_core.specs.declared.opening.OpenFault.{OpenFault}
-use Rattle.hub_core.specs.declared.opening.OpenFault.TheVariants as open_fault
 use Rattle.cloud_serve.specs.declared.serve.End.{End}
 use Rattle.cloud_serve.specs.declared.serve.End.TheVariants as end
 
@@ -37,9 +35,3 @@ status_of_grain grain_end.Done = 0
 status_of_grain grain_end.DoorFailed = 4
 status_of_grain grain_end.WriteFailed = 5
 status_of_grain grain_end.Memory = 7
-
--- the status of rows that aren't opened
-abbrev pub status_of_closed : OpenFault → ℕ
-status_of_closed open_fault.Store = 9
-status_of_closed (open_fault.BadRow bad) = 10
-status_of_closed open_fault.Memory = 7

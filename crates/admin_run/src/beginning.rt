@@ -1,58 +1,92 @@
 //! What `serve` begins with.
-ghost use Rattle.std.specs.Prelude.{◌≡◌, ◌≤◌, ◌⊎◌, None, Some, IfOk, IfErr, option_map};
+ghost use Rattle.std.specs.Prelude.{◌≡◌, ◌≤◌, ◌⊎◌, IfOk, IfErr};
 ghost use Rattle.host_base.specs.Outside.{Rose};
-ghost use Rattle.first_account.specs.First.{HasJust, HasNoRows, first_row};
-ghost use Rattle.first_account.specs.Drawn.{IsTokenOfNext};
+ghost use Rattle.cloud_keeper.specs.Keeping.{Keeping, RowsFollow};
+ghost use Rattle.first_account.specs.First.{HasNoRows};
+ghost use Rattle.row_tables.specs.declared.stored.BadRow.{BadRow};
+ghost use Rattle.row_tables.specs.Checks.{IsBadRow};
+ghost use Rattle.admin_run.specs.Beginning.{Begins, CannotBegin, StatesTables};
 ghost use Rattle.admin_run.specs.Outside.{Tells};
-ghost use Rattle.admin_run.specs.Serving.{Begins, CannotBegin, login_line};
+ghost use Rattle.admin_run.specs.Serving.{login_line};
 
 use crate::telling::tell_value;
-use cloud_keeper::{KeepFault, Keeper};
+use cloud_keeper::{KeepFault, Keeper, Row};
 use first_account::{FirstFault, first_account};
 use host_base::{Bytes, Secrets, Sink};
+use row_tables::{LoadFault, tables_of};
+use share_graph::Tables;
 use std::alloc::Global;
 
-// Makes the first account with a keeper that has no rows: its token, or the status.
+/// The tables that `serve` begins with, and the login of a first account.
+#[derive(Drop)]
+pub(crate) struct Beginning {
+    pub(crate) tables: Tables,
+    pub(crate) login: Option<Bytes>,
+}
+
+// Makes the first account with a keeper that has no rows. The error is the status.
 fn begin_anew<K: Keeper, S: Secrets>(
     alloc: Global,
     keeper: &mut K,
     secrets: &mut S,
-) -> Result<Bytes, u8>
+) -> Result<Beginning, u8>
     requires { HasNoRows (K.keeping keeper.old) }
-    ensures row { IfOk result (λ token. HasJust (first_row token) (K.keeping keeper.new)) }
-    ensures token { IfOk result (IsTokenOfNext (S.drawer secrets.old).coming (S.drawer secrets.new).coming) }
-    ensures fails { IfErr result (λ status. CannotBegin (K.keeping keeper.old) (K.keeping keeper.new)
-        (S.drawer secrets.old) (S.drawer secrets.new) status) }
-    ensures counts { (K.keeping keeper.old).faults ≤ (K.keeping keeper.new).faults }
+
+    // Whatever the keeper was before it had no rows.
+    ensures begins { (before : Keeping) → HasNoRows before → before.faults ≤ (K.keeping keeper.old).faults
+        → IfOk result (λ begun. Begins before (K.keeping keeper.new) (S.drawer secrets.old)
+        (S.drawer secrets.new) begun.tables begun.login) }
+    ensures fails { (before : Keeping) → RowsFollow before (K.keeping keeper.old) (λ rows. rows)
+        → before.faults ≤ (K.keeping keeper.old).faults → IfErr result (λ status. CannotBegin before
+        (K.keeping keeper.new) (S.drawer secrets.old) (S.drawer secrets.new) status) }
 {
     match first_account(alloc, keeper, secrets) {
-        Ok(token) => Ok(token),
+        Ok((token, tables)) => Ok(Beginning {
+            tables,
+            login: Some(token),
+        }),
         Err(FirstFault::Memory) => Err(7),
         Err(FirstFault::SecretsFailed) => Err(9),
         Err(FirstFault::StoreFailed) => Err(9),
     }
 }
 
-/// Loads the rows of a keeper, and makes the first account where there are none: its token, which is the account's login. The error is the status: 9 where
-/// the keeper failed or the secrets, and 7 where memory ran out.
+// The tables that rows state. The error is the status.
+fn tables_in(alloc: Global, rows: &[Row]) -> Result<Tables, u8>
+    ensures tables { IfOk result (λ tables. StatesTables rows.now tables) }
+    ensures fails { IfErr result (λ status.
+        ((status ≡ 10) × ((bad : BadRow) × IsBadRow rows.now bad)) ⊎ (status ≡ 7)) }
+{
+    match tables_of(alloc, rows) {
+        Ok(tables) => Ok(tables),
+        Err(LoadFault::BadRow(_)) => Err(10),
+        Err(LoadFault::Memory) => Err(7),
+    }
+}
+
+/// Loads the rows of a keeper: the tables that they state; or where there are none, those with the first account, which it
+/// makes, and its login. The error is the status: 9 where the keeper failed or the secrets, 10 where a row is bad, and 7
+/// where memory ran out.
 pub(crate) fn begin<K: Keeper, S: Secrets>(
     alloc: Global,
     keeper: &mut K,
     secrets: &mut S,
-) -> Result<Option<Bytes>, u8>
-    ensures begins { IfOk result (λ login. Begins (K.keeping keeper.old) (K.keeping keeper.new)
-        (S.drawer secrets.old) (S.drawer secrets.new) login) }
+) -> Result<Beginning, u8>
+    ensures begins { IfOk result (λ begun. Begins (K.keeping keeper.old) (K.keeping keeper.new)
+        (S.drawer secrets.old) (S.drawer secrets.new) begun.tables begun.login) }
     ensures fails { IfErr result (λ status. CannotBegin (K.keeping keeper.old) (K.keeping keeper.new)
         (S.drawer secrets.old) (S.drawer secrets.new) status) }
-    ensures counts { (K.keeping keeper.old).faults ≤ (K.keeping keeper.new).faults }
 {
     match keeper.load(alloc) {
         Ok(rows) => {
             if rows.is_empty() {
-                let token = begin_anew(alloc, keeper, secrets)?;
-                Ok(Some(token))
+                begin_anew(alloc, keeper, secrets)
             } else {
-                Ok(None)
+                let tables = tables_in(alloc, rows.as_slice())?;
+                Ok(Beginning {
+                    tables,
+                    login: None,
+                })
             }
         }
         Err(KeepFault::StoreFailed) => Err(9),

@@ -30,7 +30,7 @@ pub fn small_desk<H: Holding, C: SiteDriver + Drop>(
     match small_book(alloc) {
         Ok(book) => match Locked::from_state(alloc, book, held, registry) {
             Ok(locked) => Ok(SoloDesk::new(locked)),
-            Err(closed) => Err(closed.held),
+            Err(held) => Err(held),
         },
         Err(Memory) => Err(held),
     }

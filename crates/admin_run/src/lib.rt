@@ -18,4 +18,4 @@ pub use connection::small_desk;
 pub use keeping::book_keeper;
 pub use program::run;
 pub use telling::USAGE;
-pub use world::{Of, Ran, Setting, World, world_of};
+pub use world::{LinkOf, Of, Ran, Setting, World, world_of};

@@ -1,5 +1,5 @@
 //! What the program does.
-ghost use Rattle.std.specs.Prelude.{◌≡◌, ◌≤◌, ◌⊎◌, ℕ, map};
+ghost use Rattle.std.specs.Prelude.{◌⊎◌, map};
 ghost use Rattle.command_line.specs.Words.{IsLine};
 ghost use Rattle.command_line.specs.declared.line.Line.{Line as TheLine};
 ghost use Rattle.site_caps.specs.Registered.{IsRegistered};
@@ -16,13 +16,15 @@ use crate::playing::play;
 use crate::serving::serve;
 use crate::statuses::status_of_end;
 use crate::telling::{USAGE, tell};
-use crate::world::{Ran, Setting, World};
+use crate::world::{LinkOf, Ran, Setting, World};
 use command_line::{Line, line_of};
 use grain_program::run_grain;
 use host_base::Memory;
+use serve_door::Door;
 use site_caps::SiteDriver;
 use std::alloc::Global;
 use std::sync::Wait;
+use std::thread::Threads;
 
 // Judges the rows of the keeper.
 fn check<W: Setting>(alloc: Global, world: World<W>) -> Ran<W>
@@ -58,13 +60,22 @@ fn usage<W: Setting>(world: World<W>) -> Ran<W>
 }
 
 // Does what a line says.
-fn perform<R: Wait, W: Setting, C: SiteDriver + Drop>(
+fn perform<R: Threads + Wait + Sync, W: Setting + Send, C: SiteDriver + Drop + Send>(
     rt: &R,
     alloc: Global,
     line: Line,
     world: World<W>,
     sites: Vec<C>,
 ) -> Ran<W>
+where
+    W::Keeper: Send,
+    W::Secrets: Send,
+    W::Spawner: Send,
+    W::Door: Send,
+    <W::Door as Door>::Input: Send,
+    <W::Door as Door>::Output: Send,
+    LinkOf<W>: Send,
+    C::Law: Send,
     requires book { FromBook line → HasBook world.holds.keeping }
     requires registered { FromBook line ⊎ AtDoor line
         → IsRegistered C.Law.law.tags (map C.tag_of sites.items) }
@@ -87,13 +98,22 @@ fn perform<R: Wait, W: Setting, C: SiteDriver + Drop>(
 /// summary; `serve FILE PORT COUNT` serves so many connections at its door from the rows of the keeper, with a driver for each
 /// site; `check FILE` says what the rows of the keeper state; `grain SOCKET COUNT` prints `ready` and answers so many
 /// connections at its door with what they were asked; any other words get the usage line.
-pub fn run<R: Wait, W: Setting, C: SiteDriver + Drop>(
+pub fn run<R: Threads + Wait + Sync, W: Setting + Send, C: SiteDriver + Drop + Send>(
     rt: &R,
     alloc: Global,
     words: &[String],
     world: World<W>,
     sites: Vec<C>,
 ) -> Ran<W>
+where
+    W::Keeper: Send,
+    W::Secrets: Send,
+    W::Spawner: Send,
+    W::Door: Send,
+    <W::Door as Door>::Input: Send,
+    <W::Door as Door>::Output: Send,
+    LinkOf<W>: Send,
+    C::Law: Send,
     requires book { BeginWithBook words.now → HasBook world.holds.keeping }
     requires registered { BeginWithBook words.now ⊎ ServeAtDoor words.now
         → IsRegistered C.Law.law.tags (map C.tag_of sites.items) }

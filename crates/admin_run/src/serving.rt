@@ -1,56 +1,62 @@
-//! `serve`: connections at the door, one after another, from the rows of a keeper.
-ghost use Rattle.std.specs.Prelude.{◌≡◌, ◌≢◌, ◌≤◌, ◌⊎◌, map, IfOk, IfErr};
+//! `serve`: workers serve the connections at the door, from the rows of a keeper.
+ghost use Rattle.std.specs.Prelude.{◌≡◌, ◌≢◌, ◌≤◌, ◌⊎◌, [], map, IfOk, IfErr};
 ghost use Rattle.host_base.specs.Outside.{Rose};
+ghost use Rattle.row_tables.specs.Kept.{IsStored};
+ghost use Rattle.share_graph.specs.WellFormed.{IsWellFormed};
 ghost use Rattle.site_caps.specs.Registered.{IsRegistered};
-ghost use Rattle.hub_core.specs.Opening.{IsClosedOn, IsOpenedOn};
+ghost use Rattle.hub_core.specs.Opening.{opened};
 ghost use Rattle.admin_run.specs.Outside.{HasStatusCause, Tells};
-ghost use Rattle.admin_run.specs.Serving.{OpensRows, Serves, TellsStop, served_line};
-ghost use Rattle.admin_run.specs.Statuses.{status_of_closed};
+ghost use Rattle.admin_run.specs.Serving.{Serves, ServesHistory, TellsStop, served_line};
 ghost use Rattle.serve_door.specs.Doors.{IsInOrder};
 
-use crate::beginning::{announce, begin};
+use crate::beginning::{Beginning, announce, begin};
 use crate::telling::tell_value;
-use crate::world::{Ran, Setting, World, joined};
+use crate::world::{LinkOf, Ran, Setting, World, joined};
 use cloud_serve::Wire;
-use front_http::Routes;
-use host_base::Sink;
-use hub_core::{Held, Holding, Locked, NotOpened, OpenFault, SoloDesk};
+use host_base::{Memory, Sink};
+use hub_core::{Held, Holding, Locked};
+use hub_jobs::{Done, do_at_once};
 use itoa::Buffer;
-use serve_door::{Door, Stop, Stopped, serve_all};
+use serve_door::{Door, Stop, Stopped, dismiss, hire};
+use share_graph::{Rows, State, Tables};
 use site_caps::{Registry, SiteDriver};
 use std::alloc::Global;
+use std::num::NonZeroUsize;
 use std::sync::Wait;
+use std::thread::Threads;
 
-// The desk of a history on the rows of a keeper, with a driver for each site.
+// How many workers there are beside the one at the door itself.
+const OTHER_WORKERS: u16 = 127;
+
+// How many verdicts each worker's cache holds.
+const CACHED_VERDICTS: usize = 1024;
+
+// A history on tables, with a driver for each site. Where memory runs out the objects are handed back.
 #[tactic(auto, using(crate::proofs::Registered::never_two))]
-fn rows_desk<H: Holding, C: SiteDriver + Drop>(
+fn open_tables<H: Holding, C: SiteDriver + Drop>(
     alloc: Global,
     held: Held<H>,
+    tables: Tables,
     sites: Vec<C>,
-) -> Result<SoloDesk<H, C>, NotOpened<H>>
-    requires { IsRegistered C.Law.law.tags (map C.tag_of sites.items) }
-    ensures ok { IfOk result (IsOpenedOn held) }
-    ensures err { IfErr result (λ closed. IsClosedOn held closed.held closed.fault) }
+) -> Result<Locked<H, C>, Held<H>>
+    requires registered { IsRegistered C.Law.law.tags (map C.tag_of sites.items) }
+    requires formed { IsWellFormed (opened tables) }
+    requires stored { IsStored held.keeping tables }
+    ensures ok { IfOk result
+        (λ locked. locked ≡ record { start = opened tables; history = []; holds = held }) }
+    ensures err { IfErr result (λ back. back ≡ held) }
 {
     let registry = match Registry::new(sites) {
         Ok(registry) => registry,
         Err(_) => unreachable!(),
     };
-    match Locked::from_rows(alloc, held, registry) {
-        Ok(locked) => Ok(SoloDesk::new(locked)),
-        Err(closed) => Err(closed),
-    }
-}
-
-// The status of rows that aren't opened.
-fn status_of_fault(fault: OpenFault) -> u8
-    ensures { result ≡ status_of_closed fault }
-{
-    match fault {
-        OpenFault::Store => 9,
-        OpenFault::BadRow(_) => 10,
-        OpenFault::Memory => 7,
-    }
+    let state = State {
+        tables,
+        sessions: Rows::empty(alloc),
+        runs: Rows::empty(alloc),
+        handles: Rows::empty(alloc),
+    };
+    Locked::from_state(alloc, state, held, registry)
 }
 
 // Prints how many requests were answered.
@@ -66,7 +72,7 @@ fn tell_served<O: Sink>(out: &mut O, answered: u64) -> u8
 
 // The status of serving that stopped, once how many requests were answered was printed where all connections were served.
 fn tell_stop<O: Sink>(out: &mut O, stopped: Stopped) -> u8
-    ensures tells { TellsStop stopped.stop stopped.answered (O.outlet out.old) (O.outlet out.new) result }
+    ensures tells { TellsStop stopped.stop [] stopped.answered (O.outlet out.old) (O.outlet out.new) result }
     ensures counts { (O.outlet out.old).faults ≤ (O.outlet out.new).faults }
     ensures cause { result ≡ 5 → Rose (O.outlet out.old).faults (O.outlet out.new).faults }
     ensures taken { result ≡ 4 → stopped.stop ≡ Stop.DoorFailed }
@@ -79,25 +85,110 @@ fn tell_stop<O: Sink>(out: &mut O, stopped: Stopped) -> u8
     }
 }
 
-// Opens the rows of the keeper, and serves so many connections on them; prints how many requests were answered where all
-// were served.
-fn serve_rows<R: Wait, W: Setting, C: SiteDriver + Drop>(
+// What serving leaves: the status, the objects that the desks worked with, and the door.
+#[derive(Drop)]
+struct Served<W: Setting> {
+    status: u8,
+    held: Held<W>,
+    door: W::Door,
+}
+
+// Workers serve so many connections on a history that has no entry yet; prints how many requests were answered where all were
+// served.
+fn serve_history<R: Threads + Wait + Sync, W: Setting + Send, C: SiteDriver + Drop + Send>(
     rt: &R,
     alloc: Global,
-    routes: &Routes,
+    locked: Locked<W, C>,
+    out: &mut W::Output,
+    link: &LinkOf<W>,
+    door: W::Door,
+    count: u32,
+) -> Served<W>
+where
+    W::Keeper: Send,
+    W::Secrets: Send,
+    W::Spawner: Send,
+    W::Door: Send,
+    <W::Door as Door>::Input: Send,
+    <W::Door as Door>::Output: Send,
+    LinkOf<W>: Send,
+    C::Law: Send,
+    requires empty { locked.history ≡ [] }
+    requires order { IsInOrder (W.Door.doorway door) }
+    ensures serves { ServesHistory C.Law.law locked.start count locked.holds result.held (W.Door.doorway door)
+        (W.Door.doorway result.door) (W.Output.outlet out.old) (W.Output.outlet out.new) result.status }
+    ensures counts { (W.Output.outlet out.old).faults ≤ (W.Output.outlet out.new).faults }
+    ensures taken { result.status ≡ 4
+        → Rose (W.Door.doorway door).faults (W.Door.doorway result.door).faults }
+    ensures written { result.status ≡ 5
+        → Rose (W.Output.outlet out.old).faults (W.Output.outlet out.new).faults }
+    ensures kept { result.status ≢ 9 }
+{
+    let mut door = door;
+    door.expect(count);
+    let workers = match hire(rt, alloc, door, link, OTHER_WORKERS) {
+        Ok(workers) => workers,
+        Err(door) => {
+            let held = locked.into_held();
+            return Served {
+                status: 7,
+                held,
+                door,
+            };
+        }
+    };
+    let room = NonZeroUsize::new(CACHED_VERDICTS).unwrap_or(NonZeroUsize::MIN);
+    let Done {
+        locked,
+        jobs,
+        outcome,
+    } = do_at_once(rt, alloc, locked, room, workers);
+    let held = locked.into_held();
+    let (door, stopped) = dismiss(jobs);
+    if outcome.is_err() {
+        return Served {
+            status: 7,
+            held,
+            door,
+        };
+    }
+    let status = tell_stop(out, stopped);
+    Served { status, held, door }
+}
+
+// The same from tables that the keeper has.
+fn serve_tables<R: Threads + Wait + Sync, W: Setting + Send, C: SiteDriver + Drop + Send>(
+    rt: &R,
+    alloc: Global,
     world: World<W>,
+    tables: Tables,
     count: u32,
     sites: Vec<C>,
 ) -> Ran<W>
+where
+    W::Keeper: Send,
+    W::Secrets: Send,
+    W::Spawner: Send,
+    W::Door: Send,
+    <W::Door as Door>::Input: Send,
+    <W::Door as Door>::Output: Send,
+    LinkOf<W>: Send,
+    C::Law: Send,
     requires registered { IsRegistered C.Law.law.tags (map C.tag_of sites.items) }
     requires order { IsInOrder world.doorway }
-    ensures opens { OpensRows C.Law.law count world result.world result.status }
+    requires formed { IsWellFormed (opened tables) }
+    requires stored { IsStored world.holds.keeping tables }
+    ensures serves { ServesHistory C.Law.law (opened tables) count world.holds result.world.holds
+        world.doorway result.world.doorway world.outlet result.world.outlet result.status }
+    ensures others { result.world ≡ record world {
+      outlet = result.world.outlet;
+      holds = result.world.holds;
+      doorway = result.world.doorway;
+    } }
     ensures counts { world.outlet.faults ≤ result.world.outlet.faults }
     ensures taken { result.status ≡ 4 → Rose world.doorway.faults result.world.doorway.faults }
     ensures written { result.status ≡ 5 → Rose world.outlet.faults result.world.outlet.faults }
-    ensures stored { result.status ≡ 9 → Rose world.holds.keeping.faults result.world.holds.keeping.faults }
-    ensures counts_stored { result.status ≡ 9 → world.holds.keeping.faults
-        ≤ result.world.holds.keeping.faults }
+    ensures kept { result.status ≢ 9 }
 {
     let World {
         input,
@@ -105,44 +196,52 @@ fn serve_rows<R: Wait, W: Setting, C: SiteDriver + Drop>(
         link,
         held,
         clock,
-        mut door,
+        door,
     } = world;
-    let mut desk = match rows_desk(alloc, held, sites) {
-        Ok(desk) => desk,
-        Err(closed) => {
-            let status = status_of_fault(closed.fault);
-            let world = joined(Wire { input, out, link }, closed.held, clock, door);
-            return Ran { status, world };
+    let locked = match open_tables(alloc, held, tables, sites) {
+        Ok(locked) => locked,
+        Err(held) => {
+            let world = joined(Wire { input, out, link }, held, clock, door);
+            return Ran { status: 7, world };
         }
     };
-    door.expect(count);
-    let stopped = serve_all(rt, alloc, routes, &mut door, &mut desk, &link);
-    let status = tell_stop(&mut out, stopped);
-    let held = desk.into_locked().into_held();
+    let Served { status, held, door } = serve_history(
+        rt, alloc, locked, &mut out, &link, door, count,
+    );
     let world = joined(Wire { input, out, link }, held, clock, door);
     Ran { status, world }
 }
 
-/// Serves so many connections, one after another, from the rows of the keeper. Where it has none it begins with the first
-/// account, and prints its login.
-pub(crate) fn serve<R: Wait, W: Setting, C: SiteDriver + Drop>(
+/// Serves so many connections by workers, from the rows of the keeper. Where it has none it begins with the first account, and
+/// prints its login.
+pub(crate) fn serve<R: Threads + Wait + Sync, W: Setting + Send, C: SiteDriver + Drop + Send>(
     rt: &R,
     alloc: Global,
     world: World<W>,
     count: u32,
     sites: Vec<C>,
 ) -> Ran<W>
+where
+    W::Keeper: Send,
+    W::Secrets: Send,
+    W::Spawner: Send,
+    W::Door: Send,
+    <W::Door as Door>::Input: Send,
+    <W::Door as Door>::Output: Send,
+    LinkOf<W>: Send,
+    C::Law: Send,
     requires registered { IsRegistered C.Law.law.tags (map C.tag_of sites.items) }
     requires order { IsInOrder world.doorway }
     ensures serves { Serves C.Law.law count world result.world result.status }
     ensures cause { HasStatusCause world result.world result.status }
 {
-    let Ok(routes) = Routes::new(alloc) else {
-        return Ran { status: 7, world };
-    };
     let mut world = world;
-    let login = match begin(alloc, &mut world.held.keeper, &mut world.held.secrets) {
-        Ok(login) => login,
+    let Beginning { tables, login } = match begin(
+        alloc,
+        &mut world.held.keeper,
+        &mut world.held.secrets,
+    ) {
+        Ok(begun) => begun,
         Err(status) => return Ran { status, world },
     };
     let told = announce(&mut world.out, &login);
@@ -152,5 +251,5 @@ pub(crate) fn serve<R: Wait, W: Setting, C: SiteDriver + Drop>(
             world,
         };
     }
-    serve_rows(rt, alloc, &routes, world, count, sites)
+    serve_tables(rt, alloc, world, tables, count, sites)
 }

@@ -7,6 +7,7 @@ mod comparing;
 mod conversation;
 mod door;
 mod keepers;
+mod objects;
 mod play;
 mod reading;
 mod rounds;
@@ -20,10 +21,11 @@ use std::alloc::Global;
 use std::io;
 use std::io::Print;
 use std::sync::Wait;
+use std::thread::Threads;
 use test_words::{Tally, tell};
 
 // Plays a conversation, tells what goes otherwise, and says whether nothing does.
-fn passes<R: Print + Wait>(
+fn passes<R: Print + Threads + Wait + Sync>(
     rt: &R,
     alloc: Global,
     name: &str,
@@ -62,7 +64,7 @@ fn passes<R: Print + Wait>(
 }
 
 /// Plays the conversations of a text with a name, and tells what goes otherwise than it is written.
-pub fn play_conversations<R: Print + Wait>(
+pub fn play_conversations<R: Print + Threads + Wait + Sync>(
     rt: &R,
     alloc: Global,
     name: &str,

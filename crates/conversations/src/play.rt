@@ -3,14 +3,15 @@
 use crate::comparing::{Difference, compare_asked, compare_rows, compare_told};
 use crate::conversation::{Conversation, Round};
 use crate::keepers::{database, first_rows, list_of, store_rows};
-use crate::rounds::{Objects, Part, play_otherwise, play_round};
+use crate::objects::{AnyKeeper, AnyLink, AnySecrets, Objects};
+use crate::rounds::{Part, play_otherwise, play_round};
 use admin_run::book_keeper;
-use cloud_keeper::Keeper;
-use grain_supervise::{CannedLink, EchoLink, FakeSpawner, Link};
-use host_base::{Answer, ListSecrets, Secrets, SeqSecrets};
+use grain_supervise::{CannedLink, EchoLink, FakeSpawner};
+use host_base::{Answer, ListSecrets, SeqSecrets};
 use plain_data::List;
 use std::alloc::Global;
 use std::sync::Wait;
+use std::thread::Threads;
 use test_words::Fault;
 
 // Bytes some times over.
@@ -48,15 +49,15 @@ fn cut_at(
     })
 }
 
-// Plays the runs from one on, and compares what is there at the end. The link is handed back.
-fn play_from<R: Wait, L: Link + Drop, K: Keeper + Drop, S: Secrets + Drop>(
+// Plays the runs from one on, and compares what is there at the end.
+fn play_from<R: Threads + Wait + Sync>(
     rt: &R,
     alloc: Global,
     conversation: &Conversation,
     first: usize,
-    objects: Objects<L, K, S>,
+    objects: Objects,
     found: &mut Vec<Difference>,
-) -> Result<L, Fault> {
+) -> Result<(), Fault> {
     let mut objects = objects;
     for round in conversation.rounds.iter().skip(first) {
         let part = whole(alloc, conversation, round)?;
@@ -64,103 +65,26 @@ fn play_from<R: Wait, L: Link + Drop, K: Keeper + Drop, S: Secrets + Drop>(
     }
     compare_told(alloc, conversation, found, &objects.spawner)?;
     compare_rows(alloc, conversation, found, &mut objects.keeper)?;
-    Ok(objects.link)
+    compare_asked(alloc, conversation, found, objects.link.asked())
 }
 
-// The spawner of a conversation.
-fn spawner_of(alloc: Global, conversation: &Conversation) -> Result<FakeSpawner, Fault> {
-    let fails = List::new(conversation.failing.spawner.clone()?);
-    Ok(FakeSpawner::new(alloc, fails))
-}
-
-// Plays the runs with the small book, of the first of which a part is played.
-fn over_book<R: Wait, L: Link + Drop, S: Secrets + Drop>(
-    rt: &R,
-    alloc: Global,
-    conversation: &Conversation,
-    round: &Round,
-    part: &Part,
-    (link, secrets): (L, S),
-    found: &mut Vec<Difference>,
-) -> Result<L, Fault> {
-    let spawner = spawner_of(alloc, conversation)?;
-    let fails = List::new(conversation.failing.store.clone()?);
-    let keeper = book_keeper(alloc, fails)?;
-    let objects = Objects {
-        link,
-        keeper,
-        secrets,
-        spawner,
-    };
-    let objects = play_round(rt, alloc, conversation, round, part, objects, found)?;
-    play_from(rt, alloc, conversation, 1, objects, found)
-}
-
-// Plays the runs over any keeper.
-fn over_any<R: Wait, L: Link + Drop, K: Keeper + Drop, S: Secrets + Drop>(
-    rt: &R,
-    alloc: Global,
-    conversation: &Conversation,
-    keeper: K,
-    (link, secrets): (L, S),
-    found: &mut Vec<Difference>,
-) -> Result<L, Fault> {
-    let spawner = spawner_of(alloc, conversation)?;
-    let objects = Objects {
-        link,
-        keeper,
-        secrets,
-        spawner,
-    };
-    play_from(rt, alloc, conversation, 0, objects, found)
-}
-
-// Plays the runs over rows in memory.
-fn over_rows<R: Wait, L: Link + Drop, S: Secrets + Drop>(
-    rt: &R,
-    alloc: Global,
-    conversation: &Conversation,
-    objects: (L, S),
-    found: &mut Vec<Difference>,
-) -> Result<L, Fault> {
-    let fails = List::new(conversation.failing.store.clone()?);
-    let keeper = list_of(alloc, first_rows(alloc, conversation)?.as_slice(), fails)?;
-    over_any(rt, alloc, conversation, keeper, objects, found)
-}
-
-// Plays the runs over a database in memory.
-fn over_database<R: Wait, L: Link + Drop, S: Secrets + Drop>(
-    rt: &R,
-    alloc: Global,
-    conversation: &Conversation,
-    objects: (L, S),
-    found: &mut Vec<Difference>,
-) -> Result<L, Fault> {
-    let rows = first_rows(alloc, conversation)?;
-    let mut keeper = database(alloc)?;
-    store_rows(alloc, &mut keeper, rows.as_slice())?;
-    over_any(rt, alloc, conversation, keeper, objects, found)
-}
-
-// Plays the runs with a link and secrets.
-fn with_objects<R: Wait, L: Link + Drop, S: Secrets + Drop>(
-    rt: &R,
-    alloc: Global,
-    conversation: &Conversation,
-    part: &Part,
-    objects: (L, S),
-    found: &mut Vec<Difference>,
-) -> Result<L, Fault> {
-    let kept = &conversation.kept;
-    if kept.database {
-        return over_database(rt, alloc, conversation, objects, found);
+// The answers of the grains.
+fn grain_answers(alloc: Global, conversation: &Conversation) -> Result<List<Answer>, Fault> {
+    let mut answers = List::empty(alloc);
+    for bytes in &conversation.grains {
+        answers.push(Answer::new(bytes.clone()?))?;
     }
-    match conversation.rounds.first() {
-        Some(round) if !kept.empty && kept.first.is_empty() => {
-            over_book(rt, alloc, conversation, round, part, objects, found)
-        }
-        _ => over_rows(rt, alloc, conversation, objects, found),
+    Ok(answers)
+}
+
+// The link of a conversation, which echoes where no answers of grains are listed.
+fn link_of(alloc: Global, conversation: &Conversation) -> Result<AnyLink, Fault> {
+    let fails = List::new(conversation.failing.link.clone()?);
+    if conversation.grains.is_empty() {
+        return Ok(AnyLink::Echo(EchoLink::new(alloc, fails)));
     }
+    let answers = grain_answers(alloc, conversation)?;
+    Ok(AnyLink::Canned(CannedLink::new(alloc, answers, fails)))
 }
 
 // The secrets that a conversation lists.
@@ -173,62 +97,95 @@ fn listed(alloc: Global, conversation: &Conversation, of: &[u8]) -> Result<ListS
     Ok(ListSecrets::new(secrets, fails))
 }
 
-// Plays the runs with a link, and the secrets that the conversation says.
-fn with_link<R: Wait, L: Link + Drop>(
+// The secrets of a conversation, in sequence where none are listed.
+fn secrets_of(alloc: Global, conversation: &Conversation) -> Result<AnySecrets, Fault> {
+    match &conversation.secrets {
+        Some(bytes) => Ok(AnySecrets::Listed(listed(alloc, conversation, bytes.as_slice())?)),
+        None => Ok(AnySecrets::Sequence(SeqSecrets::new())),
+    }
+}
+
+// The spawner of a conversation.
+fn spawner_of(alloc: Global, conversation: &Conversation) -> Result<FakeSpawner, Fault> {
+    let fails = List::new(conversation.failing.spawner.clone()?);
+    Ok(FakeSpawner::new(alloc, fails))
+}
+
+// The keeper of a conversation that begins with rows of its own.
+fn keeper_of(alloc: Global, conversation: &Conversation) -> Result<AnyKeeper, Fault> {
+    let rows = first_rows(alloc, conversation)?;
+    if conversation.kept.database {
+        let mut keeper = database(alloc)?;
+        store_rows(alloc, &mut keeper, rows.as_slice())?;
+        return Ok(AnyKeeper::Sql(keeper));
+    }
+    let fails = List::new(conversation.failing.store.clone()?);
+    Ok(AnyKeeper::Mem(list_of(alloc, rows.as_slice(), fails)?))
+}
+
+// Plays the runs with the small book, of the first of which a part is played.
+fn over_book<R: Threads + Wait + Sync>(
     rt: &R,
     alloc: Global,
     conversation: &Conversation,
+    round: &Round,
     part: &Part,
-    link: L,
     found: &mut Vec<Difference>,
-) -> Result<L, Fault> {
-    match &conversation.secrets {
-        Some(bytes) => {
-            let secrets = listed(alloc, conversation, bytes.as_slice())?;
-            with_objects(rt, alloc, conversation, part, (link, secrets), found)
-        }
-        None => with_objects(
-            rt,
-            alloc,
-            conversation,
-            part,
-            (link, SeqSecrets::new()),
-            found,
-        ),
-    }
+) -> Result<(), Fault> {
+    let link = link_of(alloc, conversation)?;
+    let secrets = secrets_of(alloc, conversation)?;
+    let spawner = spawner_of(alloc, conversation)?;
+    let fails = List::new(conversation.failing.store.clone()?);
+    let keeper = AnyKeeper::Mem(book_keeper(alloc, fails)?);
+    let objects = Objects {
+        link,
+        keeper,
+        secrets,
+        spawner,
+    };
+    let objects = play_round(rt, alloc, conversation, round, part, objects, found)?;
+    play_from(rt, alloc, conversation, 1, objects, found)
 }
 
-// The answers of the grains.
-fn grain_answers(alloc: Global, conversation: &Conversation) -> Result<List<Answer>, Fault> {
-    let mut answers = List::empty(alloc);
-    for bytes in &conversation.grains {
-        answers.push(Answer::new(bytes.clone()?))?;
-    }
-    Ok(answers)
+// Plays the runs with rows of its own.
+fn over_rows<R: Threads + Wait + Sync>(
+    rt: &R,
+    alloc: Global,
+    conversation: &Conversation,
+    found: &mut Vec<Difference>,
+) -> Result<(), Fault> {
+    let keeper = keeper_of(alloc, conversation)?;
+    let link = link_of(alloc, conversation)?;
+    let secrets = secrets_of(alloc, conversation)?;
+    let spawner = spawner_of(alloc, conversation)?;
+    let objects = Objects {
+        link,
+        keeper,
+        secrets,
+        spawner,
+    };
+    play_from(rt, alloc, conversation, 0, objects, found)
 }
 
 // Plays the runs, of the first of which a part is played.
-fn play_part<R: Wait>(
+fn play_part<R: Threads + Wait + Sync>(
     rt: &R,
     alloc: Global,
     conversation: &Conversation,
     part: &Part,
     found: &mut Vec<Difference>,
 ) -> Result<(), Fault> {
-    let fails = List::new(conversation.failing.link.clone()?);
-    if conversation.grains.is_empty() {
-        let link = EchoLink::new(alloc, fails);
-        let link = with_link(rt, alloc, conversation, part, link, found)?;
-        return compare_asked(alloc, conversation, found, link.asked());
+    let kept = &conversation.kept;
+    match conversation.rounds.first() {
+        Some(round) if !kept.database && !kept.empty && kept.first.is_empty() => {
+            over_book(rt, alloc, conversation, round, part, found)
+        }
+        _ => over_rows(rt, alloc, conversation, found),
     }
-    let answers = grain_answers(alloc, conversation)?;
-    let link = CannedLink::new(alloc, answers, fails);
-    let link = with_link(rt, alloc, conversation, part, link, found)?;
-    compare_asked(alloc, conversation, found, link.asked())
 }
 
 // Plays the first run, cut at each of its lengths until something goes otherwise.
-fn play_cuts<R: Wait>(
+fn play_cuts<R: Threads + Wait + Sync>(
     rt: &R,
     alloc: Global,
     conversation: &Conversation,
@@ -246,7 +203,7 @@ fn play_cuts<R: Wait>(
 }
 
 /// What goes otherwise than a conversation says.
-pub fn differences<R: Wait>(
+pub fn differences<R: Threads + Wait + Sync>(
     rt: &R,
     alloc: Global,
     conversation: &Conversation,

@@ -1,34 +1,29 @@
 //! One run of the program over the objects of a conversation.
 
-ghost use Rattle.std.specs.Prelude.{◌≡◌};
+ghost use Rattle.std.specs.Prelude.{◌≡◌, [], map, IfOk};
+ghost use Rattle.site_caps.specs.Registered.{IsRegistered};
 ghost use Rattle.admin_run.specs.Connection.{HasBook};
 ghost use Rattle.admin_run.specs.Program.{BeginWithBook};
+ghost use Rattle.conversations.specs.Objects.{keeping_of};
 
 use crate::comparing::{Difference, compare_bytes, compare_numbers};
 use crate::conversation::{Conversation, Round};
 use crate::door::door_of;
-use admin_run::{Ran, World, run, world_of};
-use cloud_keeper::Keeper;
-use club_site::plain_sites;
+use crate::objects::{AnyKeeper, AnyLink, AnySecrets, Objects};
+use admin_run::{Of, Ran, World, run, world_of};
+use club_site::{ClubLaw, PlainClub, plain_sites};
 use command_line::{Line, line_of};
-use grain_supervise::{FakeSpawner, Link};
-use host_base::{MemSink, MemSource, Secrets};
+use grain_supervise::FakeSpawner;
+use host_base::{MemSink, MemSource};
 use host_clock::StillClock;
 use hub_core::Held;
 use plain_data::List;
 use serve_door::MemDoor;
+use site_caps::{SiteDriver, SiteLaw};
 use std::alloc::Global;
 use std::sync::Wait;
+use std::thread::Threads;
 use test_words::Fault;
-
-/// The objects around the server, which go on from run to run.
-#[derive(Drop)]
-pub struct Objects<L, K, S> {
-    pub link: L,
-    pub keeper: K,
-    pub secrets: S,
-    pub spawner: FakeSpawner,
-}
 
 /// How a run is played: what its client sends, how often what must come back comes, and the status that it must have.
 #[derive(Drop)]
@@ -40,18 +35,18 @@ pub struct Part {
 
 /// What came of a run: what was written, the door with its connections, and the status.
 #[derive(Drop)]
-struct Came<L: Link> {
+struct Came {
     out: MemSink,
-    door: MemDoor<L>,
+    door: MemDoor<AnyLink>,
     status: u8,
 }
 
 // Compares what came on the connections at the door.
-fn compare_streams<L: Link>(
+fn compare_streams(
     alloc: Global,
     round: &Round,
     found: &mut Vec<Difference>,
-    door: &MemDoor<L>,
+    door: &MemDoor<AnyLink>,
 ) -> Result<(), Fault> {
     let (streams, kept) = (round.streams.as_slice(), door.kept());
     let place = (round.own.line, "how many connections were served");
@@ -65,12 +60,12 @@ fn compare_streams<L: Link>(
 }
 
 // Compares what came of a run.
-fn compare<L: Link>(
+fn compare(
     alloc: Global,
     round: &Round,
     part: &Part,
     found: &mut Vec<Difference>,
-    came: &Came<L>,
+    came: &Came,
 ) -> Result<(), Fault> {
     let place = (round.own.line, "the answer");
     let wanted = (round.own.answered.as_slice(), part.times);
@@ -81,45 +76,90 @@ fn compare<L: Link>(
     compare_numbers(alloc, found, place, wanted, status)
 }
 
-// The source of what a client sends.
-fn source(alloc: Global, conversation: &Conversation, part: &Part) -> Result<MemSource, Fault> {
-    let bytes = part.sent.clone()?;
-    match conversation.gives {
+// The source of what a client sends, which fails at these calls, or gives so many bytes at the most.
+fn source(
+    alloc: Global,
+    sent: &Vec<u8>,
+    failing: &Vec<u64>,
+    gives: Option<usize>,
+) -> Result<MemSource, Fault> {
+    let bytes = sent.clone()?;
+    match gives {
         Some(most) => Ok(MemSource::stingy(alloc, bytes, most.max(1))),
-        None => {
-            let fails = List::new(conversation.failing.source.clone()?);
-            Ok(MemSource::new(bytes, fails))
-        }
+        None => Ok(MemSource::new(bytes, List::new(failing.clone()?))),
     }
 }
 
-/// Plays a run, and compares what comes of it. The objects are handed back.
-pub fn play_round<R: Wait, L: Link + Drop, K: Keeper + Drop, S: Secrets + Drop>(
-    rt: &R,
+// Of which types the objects of a conversation are.
+type Kinds = Of<
+    MemSource,
+    MemSink,
+    AnyKeeper,
+    AnySecrets,
+    FakeSpawner,
+    StillClock,
+    MemDoor<AnyLink>,
+>;
+
+// What a run is given beside the objects that go on.
+#[derive(Drop)]
+struct Given {
+    input: MemSource,
+    out: MemSink,
+    door: MemDoor<AnyLink>,
+    sites: Vec<PlainClub>,
+}
+
+// What a run of a conversation is given.
+fn given_to(
     alloc: Global,
     conversation: &Conversation,
     round: &Round,
     part: &Part,
-    objects: Objects<L, K, S>,
-    found: &mut Vec<Difference>,
-) -> Result<Objects<L, K, S>, Fault>
-    requires { BeginWithBook round.now.words.items → HasBook (K.keeping objects.keeper) }
+) -> Result<Given, Fault>
+    ensures none { IfOk result (λ given. given.door.kept ≡ []) }
+    ensures registered { IfOk result (λ given. IsRegistered (⟦<ClubLaw as SiteLaw>⟧.law.tags)
+        (map (⟦<PlainClub as SiteDriver>⟧.tag_of) given.sites.items)) }
 {
-    let input = source(alloc, conversation, part)?;
-    let sites = plain_sites(alloc)?;
-    let out = MemSink::new(alloc, List::new(conversation.failing.sink.clone()?));
-    let door = door_of(alloc, round.streams.as_slice())?;
+    let failing = &conversation.failing;
+    let fails = List::new(failing.sink.clone()?);
+    Ok(Given {
+        input: source(alloc, &part.sent, &failing.source, conversation.gives)?,
+        out: MemSink::new(alloc, fails),
+        door: door_of(alloc, round.streams.as_slice())?,
+        sites: plain_sites(alloc)?,
+    })
+}
+
+// Runs the program with what it is given.
+fn run_given<R: Threads + Wait + Sync>(
+    rt: &R,
+    alloc: Global,
+    words: &[String],
+    given: Given,
+    objects: Objects,
+) -> Ran<Kinds>
+    requires book { BeginWithBook words.now → HasBook (keeping_of objects.keeper) }
+    requires none { given.door.kept ≡ [] }
+    requires registered { IsRegistered (⟦<ClubLaw as SiteLaw>⟧.law.tags)
+        (map (⟦<PlainClub as SiteDriver>⟧.tag_of) given.sites.items) }
+{
     let world = world_of(
-        input,
-        out,
+        given.input,
+        given.out,
         objects.link,
         objects.keeper,
         objects.secrets,
         objects.spawner,
         StillClock::new(0),
-        door,
+        given.door,
     );
-    let Ran { status, world } = run(rt, alloc, round.words.as_slice(), world, sites);
+    run(rt, alloc, words, world, given.sites)
+}
+
+// What came of a run, and the objects that go on.
+fn taken_apart(ran: Ran<Kinds>) -> (Came, Objects) {
+    let Ran { status, world } = ran;
     let World {
         input: _,
         out,
@@ -128,31 +168,50 @@ pub fn play_round<R: Wait, L: Link + Drop, K: Keeper + Drop, S: Secrets + Drop>(
         clock: _,
         door,
     } = world;
-    compare(alloc, round, part, found, &Came { out, door, status })?;
     let Held {
         keeper,
         secrets,
         spawner,
     } = held;
-    Ok(Objects {
+    let objects = Objects {
         link,
         keeper,
         secrets,
         spawner,
-    })
+    };
+    (Came { out, door, status }, objects)
 }
 
-/// The same of a run over any keeper, of which the words may not be those that begin with the small book.
-#[tactic(auto, using(admin_run::proofs::Begins::begins_otherwise))]
-pub fn play_otherwise<R: Wait, L: Link + Drop, K: Keeper + Drop, S: Secrets + Drop>(
+/// Plays a run, and compares what comes of it. The objects are handed back.
+pub fn play_round<R: Threads + Wait + Sync>(
     rt: &R,
     alloc: Global,
     conversation: &Conversation,
     round: &Round,
     part: &Part,
-    objects: Objects<L, K, S>,
+    objects: Objects,
     found: &mut Vec<Difference>,
-) -> Result<Objects<L, K, S>, Fault> {
+) -> Result<Objects, Fault>
+    requires { BeginWithBook round.now.words.items → HasBook (keeping_of objects.keeper) }
+{
+    let given = given_to(alloc, conversation, round, part)?;
+    let ran = run_given(rt, alloc, round.words.as_slice(), given, objects);
+    let (came, objects) = taken_apart(ran);
+    compare(alloc, round, part, found, &came)?;
+    Ok(objects)
+}
+
+/// The same of a run over any keeper, of which the words may not be those that begin with the small book.
+#[tactic(auto, using(admin_run::proofs::Begins::begins_otherwise))]
+pub fn play_otherwise<R: Threads + Wait + Sync>(
+    rt: &R,
+    alloc: Global,
+    conversation: &Conversation,
+    round: &Round,
+    part: &Part,
+    objects: Objects,
+    found: &mut Vec<Difference>,
+) -> Result<Objects, Fault> {
     match line_of(alloc, round.words.as_slice())? {
         Line::Serve { .. } => play_round(rt, alloc, conversation, round, part, objects, found),
         Line::Check => play_round(rt, alloc, conversation, round, part, objects, found),

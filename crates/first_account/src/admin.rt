@@ -37,10 +37,12 @@ fn first_tables(alloc: Global, token: &[u8]) -> Result<Tables, Memory>
     })
 }
 
-/// The row of the first account, whose login is a token of this text.
-pub(crate) fn first_row(alloc: Global, token: &[u8]) -> Result<Row, Memory>
-    ensures { IfOk result (λ row. row ≡ first_row token.now) }
+/// The tables with the first account alone, whose login is a token of this text, and its row.
+pub(crate) fn first_rows(alloc: Global, token: &[u8]) -> Result<(Tables, Row), Memory>
+    ensures tables { IfOk result (λ first. first.0 ≡ first_tables token.now) }
+    ensures row { IfOk result (λ first. first.1 ≡ first_row token.now) }
 {
     let tables = first_tables(alloc, token)?;
-    row_bytes(alloc, &tables, Kind::Account, 1)
+    let row = row_bytes(alloc, &tables, Kind::Account, 1)?;
+    Ok((tables, row))
 }

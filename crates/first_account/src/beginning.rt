@@ -1,4 +1,4 @@
-ghost use Rattle.std.specs.Prelude.{◌≡◌, ◌≤◌, ◌∷◌, [], List, Some, IfOk, OnOk, OnErr, IsErrOf};
+ghost use Rattle.std.specs.Prelude.{◌≡◌, ◌≤◌, ◌∷◌, [], IfOk, OnOk, OnErr, IsErrOf};
 ghost use Rattle.host_base.specs.Outside.{Rose};
 ghost use Rattle.cloud_keeper.specs.Keeping.{RowsFollow};
 ghost use Rattle.cloud_keeper.specs.declared.row.Row.{Row};
@@ -7,11 +7,12 @@ ghost use Rattle.row_tables.specs.Kept.{AreRowsOf};
 ghost use Rattle.first_account.specs.Drawn.{IsTokenOfNext, DrewOneAtMost};
 ghost use Rattle.first_account.specs.First.{first_tables, first_row, HasNoRows, HasJust};
 
-use crate::admin::first_row;
+use crate::admin::first_rows;
 use crate::fault::FirstFault;
 use crate::token::draw_token;
 use cloud_keeper::{KeepFault, Keeper, Row};
 use host_base::{Bytes, Secrets};
+use share_graph::Tables;
 use std::alloc::Global;
 
 // Keeps the first row.
@@ -32,7 +33,7 @@ fn keep<K: Keeper>(alloc: Global, keeper: &mut K, row: &Row) -> Result<(), First
 }
 
 /// Makes account 1 with a keeper that has no rows: an enabled admin with the handle `admin` and the name `Admin`, whose login is a secret
-/// that is drawn. The answer is the secret's token, which is shown this once.
+/// that is drawn. The answer is the secret's token, which is shown this once, and the tables with that account alone.
 ///
 /// # Errors
 /// Want of memory, and a failure of the secrets or of the store. After each the keeper's rows are as before.
@@ -40,16 +41,18 @@ pub fn first_account<K: Keeper, S: Secrets>(
     alloc: Global,
     keeper: &mut K,
     secrets: &mut S,
-) -> Result<Bytes, FirstFault>
+) -> Result<(Bytes, Tables), FirstFault>
     requires { HasNoRows (K.keeping keeper.old) }
 
-    // The answer is the token of the next secret.
-    ensures token { IfOk result (IsTokenOfNext (S.drawer secrets.old).coming (S.drawer secrets.new).coming) }
+    // The answer is the token of the next secret, and the tables.
+    ensures token { IfOk result (λ first. IsTokenOfNext (S.drawer secrets.old).coming
+        (S.drawer secrets.new).coming first.0) }
+    ensures tables { IfOk result (λ first. first.1 ≡ first_tables first.0) }
 
     // The keeper has the row of that account and no other, and so the rows of tables that can be opened.
-    ensures row { IfOk result (λ token. HasJust (first_row token) (K.keeping keeper.new)) }
-    ensures opens { IfOk result (λ token. AreRowsOf (first_tables token) (first_row token ∷ [])) }
-    ensures checked { IfOk result (λ token. IsChecked (first_tables token)) }
+    ensures row { IfOk result (λ first. HasJust (first_row first.0) (K.keeping keeper.new)) }
+    ensures opens { IfOk result (λ first. AreRowsOf (first_tables first.0) (first_row first.0 ∷ [])) }
+    ensures checked { IfOk result (λ first. IsChecked (first_tables first.0)) }
 
     // What fails was counted, and no count falls.
     ensures secrets_failed { IsErrOf result FirstFault.SecretsFailed
@@ -66,7 +69,7 @@ pub fn first_account<K: Keeper, S: Secrets>(
         → (S.drawer secrets.new).coming ≡ (S.drawer secrets.old).coming }
 {
     let token = draw_token(alloc, secrets)?;
-    let row = first_row(alloc, token.as_slice())?;
+    let (tables, row) = first_rows(alloc, token.as_slice())?;
     keep(alloc, keeper, &row)?;
-    Ok(token)
+    Ok((token, tables))
 }

@@ -1,5 +1,5 @@
 -- One value that holds a history: what it began with, its entries, and the objects beside it.
-use Rattle.std.specs.Prelude.{◌≡◌, ◌+◌, ◌<◌, ◌≤◌, ℕ, List, length}
+use Rattle.std.specs.Prelude.{◌≡◌, ◌+◌, ◌<◌, ◌≤◌, List, length}
 use Rattle.desk_base.specs.Terms.{Event, IsWellFormed, replay, State}
 use Rattle.live_access.specs.Kept.{Kept, IsSolvedFor}
 use Rattle.site_caps.specs.Law.{Law}

@@ -6,7 +6,6 @@ mod desk;
 mod held;
 mod history;
 mod locked;
-mod opening;
 mod solo;
 mod telling;
 
@@ -14,5 +13,4 @@ pub use desk::Desk;
 pub use desk_orders::{Command, Listing, Order, OrderFault, Reply};
 pub use held::{Held, Holding};
 pub use locked::Locked;
-pub use opening::{NotOpened, OpenFault};
 pub use solo::SoloDesk;

@@ -5,7 +5,6 @@ ghost use Rattle.desk_base.specs.Terms.{IsSolutionOf, IsWellFormed, replay};
 ghost use Rattle.session_table.specs.Verdict.{IsVerdict};
 ghost use Rattle.hub_core.specs.Book.{Ordered};
 ghost use Rattle.site_caps.specs.Answering.{GivesText};
-ghost use Rattle.hub_core.specs.Opening.{IsOpenedOn, IsClosedOn};
 ghost use Rattle.hub_core.specs.Revoking.{TakesAway, Spares};
 ghost use Rattle.hub_core.specs.Sharing.{book_of};
 ghost use Rattle.row_tables.specs.Kept.{IsStored};
@@ -13,12 +12,11 @@ ghost use Rattle.row_tables.specs.Kept.{IsStored};
 use crate::answering::answer;
 use crate::held::{Held, Holding};
 use crate::history::History;
-use crate::opening::{NotOpened, OpenFault, load_tables};
 use desk_orders::{Order, OrderFault, Reply};
 use host_base::{Key, Memory, Verdict};
 use least_access::Solved;
 use session_table::verdict;
-use share_graph::{Rows, State, Tables};
+use share_graph::{State, Tables};
 use site_caps::{Registry, SiteDriver, SiteFault, SiteText};
 use std::alloc::Global;
 use std::marker::Model;
@@ -59,19 +57,19 @@ impl<H: Holding, C: SiteDriver> Model for Locked<H, C> {
 }
 
 impl<H: Holding, C: SiteDriver + Drop> Locked<H, C> {
-    /// Opens a history that begins with a well-formed state of fewer than 2^31 sessions, whose tables the keeper has. Its one
-    /// fault is want of memory.
+    /// Opens a history that begins with a well-formed state of fewer than 2^31 sessions, whose tables the keeper has. Where
+    /// memory runs out the objects are handed back.
     pub fn from_state(
         alloc: Global,
         state: State,
         held: Held<H>,
         sites: Registry<C>,
-    ) -> Result<Self, NotOpened<H>>
+    ) -> Result<Self, Held<H>>
         requires formed { IsWellFormed state }
         requires few { length state.sessions < 2147483648 }
         requires stored { IsStored held.keeping state.tables }
         ensures ok { IfOk result (λ locked. locked ≡ record { start = state; history = []; holds = held }) }
-        ensures err { IfErr result (λ closed. closed ≡ record { fault = OpenFault.Memory; held = held }) }
+        ensures err { IfErr result (λ back. back ≡ held) }
     {
         match History::new(alloc, state) {
             Ok(history) => Ok(Locked {
@@ -79,33 +77,7 @@ impl<H: Holding, C: SiteDriver + Drop> Locked<H, C> {
                 held,
                 sites,
             }),
-            Err(Memory) => Err(NotOpened {
-                fault: OpenFault::Memory,
-                held,
-            }),
-        }
-    }
-
-    /// Opens a history on the rows of a keeper: it begins with the tables that they state, without sessions, runs and handles.
-    ///
-    /// # Errors
-    /// The keeper's fault, the first bad row, and want of memory; the objects are handed back.
-    pub fn from_rows(alloc: Global, held: Held<H>, sites: Registry<C>) -> Result<Self, NotOpened<H>>
-        ensures ok { IfOk result (IsOpenedOn held) }
-        ensures err { IfErr result (λ closed. IsClosedOn held closed.held closed.fault) }
-    {
-        let mut held = held;
-        match load_tables(alloc, &mut held.keeper) {
-            Ok(tables) => {
-                let state = State {
-                    tables,
-                    sessions: Rows::empty(alloc),
-                    runs: Rows::empty(alloc),
-                    handles: Rows::empty(alloc),
-                };
-                Locked::from_state(alloc, state, held, sites)
-            }
-            Err(fault) => Err(NotOpened { fault, held }),
+            Err(Memory) => Err(held),
         }
     }
 

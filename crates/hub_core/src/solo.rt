@@ -1,7 +1,6 @@
 //! A desk that owns its history.
 
-ghost use Rattle.std.specs.Prelude.{◌≡◌, length, IfOk};
-ghost use Rattle.hub_core.specs.Book.{TakesNone, Judged, Ordered};
+ghost use Rattle.std.specs.Prelude.{◌≡◌};
 ghost use Rattle.hub_core.specs.Sharing.{book_of};
 
 use crate::desk::Desk;

@@ -60,8 +60,8 @@ struct Left<H: Holding, C: SiteDriver + Drop, N: Named<Locked<H, C>>, L: Ledger,
 
 // Does the jobs at once, by passes of the hub.
 fn do_by<
-    H: Holding + Send + Sync,
-    C: SiteDriver + Drop + Send + Sync,
+    H: Holding + Send,
+    C: SiteDriver + Drop + Send,
     N: Named<Locked<H, C>> + Send + Sync,
     L: Ledger + Send + Sync,
     R: Threads + Wait + Sync,
@@ -75,10 +75,10 @@ fn do_by<
     jobs: Vec<J>,
 ) -> Left<H, C, N, L, J>
 where
-    H::Keeper: Send + Sync,
-    H::Secrets: Send + Sync,
-    H::Spawner: Send + Sync,
-    C::Law: Send + Sync,
+    H::Keeper: Send,
+    H::Secrets: Send,
+    H::Spawner: Send,
+    C::Law: Send,
     requires few { maker.old + vec_len jobs ≤ 65536 }
     requires ready { All J.ready jobs.items }
     ensures made { maker.new ≡ maker.old + vec_len result.passes }
@@ -126,8 +126,8 @@ pub struct Done<H: Holding, C: SiteDriver + Drop, J: Drop> {
 
 // Makes a hub of the history, does the jobs, and closes the hub.
 fn do_under<
-    H: Holding + Send + Sync,
-    C: SiteDriver + Drop + Send + Sync,
+    H: Holding + Send,
+    C: SiteDriver + Drop + Send,
     N: Named<Locked<H, C>> + Send + Sync,
     L: Ledger + Send + Sync,
     R: Threads + Wait + Sync,
@@ -142,10 +142,10 @@ fn do_under<
     jobs: Vec<J>,
 ) -> Done<H, C, J>
 where
-    H::Keeper: Send + Sync,
-    H::Secrets: Send + Sync,
-    H::Spawner: Send + Sync,
-    C::Law: Send + Sync,
+    H::Keeper: Send,
+    H::Secrets: Send,
+    H::Spawner: Send,
+    C::Law: Send,
     requires empty { locked.history ≡ [] }
     requires start { locked ≡ start_of blank N.start }
     requires table { unnamed ≡ N.table }
@@ -178,16 +178,16 @@ where
 /// Does jobs, `MOST_JOBS` at the most, at once on one history, which has no entry yet: each on a thread of its own, by a desk of its
 /// own, whose cache has so much room. Where memory runs out first, none is begun.
 pub fn do_at_once<
-    H: Holding + Send + Sync,
-    C: SiteDriver + Drop + Send + Sync,
+    H: Holding + Send,
+    C: SiteDriver + Drop + Send,
     R: Threads + Wait + Sync,
     J: Job + Drop + Send,
 >(rt: &R, alloc: Global, locked: Locked<H, C>, room: NonZeroUsize, jobs: Vec<J>) -> Done<H, C, J>
 where
-    H::Keeper: Send + Sync,
-    H::Secrets: Send + Sync,
-    H::Spawner: Send + Sync,
-    C::Law: Send + Sync,
+    H::Keeper: Send,
+    H::Secrets: Send,
+    H::Spawner: Send,
+    C::Law: Send,
     requires empty { locked.history ≡ [] }
     requires few { vec_len jobs ≤ 65536 }
     requires ready { All J.ready jobs.items }

@@ -1,8 +1,18 @@
-//! The edges to the system, which tell nothing of what passes through them: the doors over TCP, on this machine alone, and
-//! on a Unix socket; what starts and stops the programs of grains, and the link to them; and secrets from the system's
-//! randomness. A run's program listens at a socket `run-N.sock`, N its number, in one folder.
+//! The edges to the system, which tell nothing of what passes through them: the acceptor of a port of this machine, the doors at
+//! it, and the door on a Unix socket; what starts and stops the programs of grains, and the link to them; and secrets from the
+//! system's randomness. A run's program listens at a socket `run-N.sock`, N its number, in one folder. What waits has a time limit
+//! (`limits`).
 #![tactic(auto)]
 
+mod acceptor;
+mod activity;
+mod child;
+mod client;
+mod client_sink;
+mod client_source;
+mod input_end;
+mod limits;
+mod lingering;
 mod plan;
 mod proc_spawner;
 mod rng_secrets;
@@ -11,6 +21,12 @@ mod tcp_door;
 mod unix_door;
 mod unix_link;
 
+pub use acceptor::Acceptor;
+pub use activity::{Activity, SharedActivity};
+pub use client::{Client, SharedClient};
+pub use client_sink::ClientSink;
+pub use client_source::ClientSource;
+pub use input_end::{is_pipe, wait_for_end};
 pub use proc_spawner::ProcSpawner;
 pub use rng_secrets::RngSecrets;
 pub use tcp_door::TcpDoor;

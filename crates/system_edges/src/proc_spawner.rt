@@ -2,33 +2,35 @@ ghost use Rattle.std.specs.Prelude.{◌≡◌, ◌<◌, ◌≤◌, length, IfSom
 ghost use Rattle.host_base.specs.Outside.{Rose};
 ghost use Rattle.grain_supervise.specs.Spawning.{Spawns};
 
-use crate::socket::{is_memory, is_socket, remove_socket, socket_path};
+use crate::activity::{Count, SharedActivity};
+use crate::child::{end, greet};
+use crate::socket::{is_memory, remove_socket, socket_path};
 use grain_supervise::{Spawner, StartFault};
 use host_base::{GrainId, RunId};
 use std::alloc::Global;
-use std::io::{Read, Write};
 use std::marker::Model;
+use std::net::Net;
+use std::os::fd::AsRawFd;
 use std::process::{Child, Command, OpenProcess, Processes, Stdio};
 use std::rt::Files;
+use std::time::Clock;
 use std::{env, io};
 
 /// How many connections a run's program takes.
 const CONNECTIONS: &str = "1000000000";
 
-/// What a run's program says once it takes connections.
-const READY: &[u8; 6] = b"ready\n";
-
 /// Starts each run as this program itself with the words `grain DIR/run-N.sock 1000000000`, N the run's number, and ends it. A run is
 /// started once that program has said `ready` and its socket is there. What is started and stopped isn't told. When the spawner is
 /// dropped it ends all that still run.
-pub struct ProcSpawner<'a, R: Processes + Files + Alloc> {
+pub struct ProcSpawner<'a, R: Processes + Files + Alloc + Net + Clock> {
     rt: &'a R,
     dir: String,
+    activity: SharedActivity,
     running: Vec<(RunId, Child<R::Started>)>,
     faults: u64,
 }
 
-impl<'a, R: Processes + Files + Alloc> Model for ProcSpawner<'a, R> {
+impl<'a, R: Processes + Files + Alloc + Net + Clock> Model for ProcSpawner<'a, R> {
     ghost use Rattle.std.specs.Prelude.{None};
     ghost use Rattle.grain_supervise.specs.Spawning.{Spawns};
 
@@ -37,42 +39,16 @@ impl<'a, R: Processes + Files + Alloc> Model for ProcSpawner<'a, R> {
     ghost view = { λ s. record { faults = s.faults; starts = None; stops = None } };
 }
 
-// Writes the token and a line feed to a child's input, waits for its line, and looks whether its socket is there.
-fn greet<R: Files, P: OpenProcess>(
-    rt: &R,
-    path: &str,
-    child: &mut Child<P>,
-    token: &[u8],
-) -> io::Result<()> {
-    if let Some(mut input) = child.stdin.take() {
-        input.write_all(token)?;
-        input.write_all(b"\n")?;
-    }
-    let mut line = [0; READY.len()];
-    if let Some(output) = &mut child.stdout {
-        output.read_exact(&mut line)?;
-    }
-    if line == *READY && is_socket(rt, path) {
-        Ok(())
-    } else {
-        Err(io::Error::from(io::ErrorKind::InvalidData))
-    }
-}
-
-// Ends a child and waits for it.
-fn end<P: OpenProcess>(child: &mut Child<P>) -> io::Result<()> {
-    child.kill()?;
-    child.wait()?;
-    Ok(())
-}
-
 // Starts the program of a run whose socket is at this path; one that doesn't come up is ended.
-fn launch<R: Processes + Files + Alloc>(
+fn launch<R: Processes + Files + Alloc + Net + Clock>(
     alloc: Global,
     rt: &R,
     path: &str,
     token: &[u8],
-) -> io::Result<Child<R::Started>> {
+) -> io::Result<Child<R::Started>>
+where
+    <R::Started as OpenProcess>::Stdout: AsRawFd,
+{
     let mut command = Command::new(alloc, env::current_exe(rt)?)?;
     command.arg("grain")?;
     command.arg(path)?;
@@ -81,10 +57,10 @@ fn launch<R: Processes + Files + Alloc>(
     command.stdout(Stdio::piped());
     command.stderr(Stdio::null());
     let mut child = command.spawn(rt)?;
-    match greet(rt, path, &mut child, token) {
+    match greet(rt, alloc, path, &mut child, token) {
         Ok(()) => Ok(child),
         Err(error) => {
-            let _ = end(&mut child);
+            let _ = end(rt, &mut child);
             remove_socket(rt, path);
             Err(error)
         }
@@ -99,14 +75,17 @@ fn place_of<P: OpenProcess>(running: &[(RunId, Child<P>)], run: RunId) -> Option
 }
 
 // A run that is there already isn't started again.
-fn try_start<R: Processes + Files + Alloc>(
+fn try_start<R: Processes + Files + Alloc + Net + Clock>(
     alloc: Global,
     rt: &R,
     dir: &str,
     running: &mut Vec<(RunId, Child<R::Started>)>,
     run: RunId,
     token: &[u8],
-) -> io::Result<()> {
+) -> io::Result<()>
+where
+    <R::Started as OpenProcess>::Stdout: AsRawFd,
+{
     if place_of(running, run).is_some() {
         return Err(io::Error::from(io::ErrorKind::AlreadyExists));
     }
@@ -120,7 +99,7 @@ fn try_start<R: Processes + Files + Alloc>(
 }
 
 // A run that isn't there has ended already.
-fn try_stop<R: Processes + Files + Alloc>(
+fn try_stop<R: Processes + Files + Alloc + Net + Clock>(
     alloc: Global,
     rt: &R,
     dir: &str,
@@ -129,21 +108,22 @@ fn try_stop<R: Processes + Files + Alloc>(
 ) -> io::Result<()> {
     let path = socket_path(alloc, dir, run)?;
     if let Some(at) = place_of(running, run) {
-        end(&mut running[at].1)?;
+        end(rt, &mut running[at].1)?;
         running.swap_remove(at);
     }
     remove_socket(rt, path.as_str());
     Ok(())
 }
 
-impl<'a, R: Processes + Files + Alloc> ProcSpawner<'a, R> {
+impl<'a, R: Processes + Files + Alloc + Net + Clock> ProcSpawner<'a, R> {
     /// A spawner that started nothing yet, with the folder of the sockets.
-    pub fn new(alloc: Global, rt: &'a R, dir: String) -> Self
+    pub fn new(alloc: Global, rt: &'a R, dir: String, activity: SharedActivity) -> Self
         ensures { result ≡ record { faults = 0; starts = None; stops = None } }
     {
         ProcSpawner {
             rt,
             dir,
+            activity,
             running: Vec::new(alloc),
             faults: 0,
         }
@@ -158,7 +138,7 @@ impl<'a, R: Processes + Files + Alloc> ProcSpawner<'a, R> {
 }
 
 // What is answered for an error, which is counted but for want of memory.
-fn fault_of(faults: &mut u64, error: &io::Error) -> StartFault
+fn fault_of(faults: &mut u64, activity: &SharedActivity, error: &io::Error) -> StartFault
     ensures counts { faults.old ≤ faults.new }
     ensures cause { result ≡ StartFault.StartFailed → Rose faults.old faults.new }
 {
@@ -166,10 +146,14 @@ fn fault_of(faults: &mut u64, error: &io::Error) -> StartFault
         return StartFault::Memory;
     }
     *faults = faults.saturating_add(1);
+    activity.add_one(Count::SpawnFaults);
     StartFault::StartFailed
 }
 
-impl<'a, R: Processes + Files + Alloc> Spawner for ProcSpawner<'a, R> {
+impl<'a, R: Processes + Files + Alloc + Net + Clock> Spawner for ProcSpawner<'a, R>
+where
+    <R::Started as OpenProcess>::Stdout: AsRawFd,
+{
     ghost spawns = { λ s. s };
 
     fn start(
@@ -182,7 +166,7 @@ impl<'a, R: Processes + Files + Alloc> Spawner for ProcSpawner<'a, R> {
         let dir = self.dir.as_str();
         match try_start(alloc, self.rt, dir, &mut self.running, run, token) {
             Ok(()) => Ok(()),
-            Err(error) => Err(fault_of(&mut self.faults, &error)),
+            Err(error) => Err(fault_of(&mut self.faults, &self.activity, &error)),
         }
     }
 
@@ -190,21 +174,22 @@ impl<'a, R: Processes + Files + Alloc> Spawner for ProcSpawner<'a, R> {
         let dir = self.dir.as_str();
         match try_stop(alloc, self.rt, dir, &mut self.running, run) {
             Ok(()) => Ok(()),
-            Err(error) => Err(fault_of(&mut self.faults, &error)),
+            Err(error) => Err(fault_of(&mut self.faults, &self.activity, &error)),
         }
     }
 }
 
-impl<'a, R: Processes + Files + Alloc> Drop for ProcSpawner<'a, R> {
+impl<'a, R: Processes + Files + Alloc + Net + Clock> Drop for ProcSpawner<'a, R> {
     fn drop(self) {
         let ProcSpawner {
             rt,
             dir,
+            activity: _,
             running,
             faults: _,
         } = self;
         for (run, mut child) in running {
-            let _ = end(&mut child);
+            let _ = end(rt, &mut child);
             if let Ok(path) = socket_path(*dir.allocator(), dir.as_str(), run) {
                 remove_socket(rt, path.as_str());
             }

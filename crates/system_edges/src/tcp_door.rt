@@ -1,154 +1,138 @@
-ghost use Rattle.std.specs.Prelude.{◌≡◌, ◌≤◌, ◌+◌, min, None, IsSome, IfOk, IsErrOf, OnOk};
-ghost use Rattle.host_base.specs.CallCounts.{next_count};
+ghost use Rattle.std.specs.Prelude.{◌≡◌, None, IfOk, IfSome};
 ghost use Rattle.serve_door.specs.Doors.{IsFreshInlet, IsFreshOutlet};
 
+use crate::activity::{Count, SharedActivity};
+use crate::client::SharedClient;
+use crate::client_sink::ClientSink;
+use crate::client_source::ClientSource;
+use crate::lingering::close_slowly;
 use crate::plan::Plan;
 use cloud_serve::ConnEnd;
+use crossbeam_channel::Receiver;
 use grain_supervise::Link;
-use host_base::{Memory, StdSink, StdSource};
+use host_base::Memory;
 use hub_core::Desk;
 use serve_door::{Door, NoneCame};
-use std::alloc::Global;
-use std::io;
+use std::alloc::{AllocError, Global};
 use std::marker::{Model, PhantomData};
-use std::net::{Ipv4Addr, Net, TcpListener, TcpStream};
-use std::sync::Arc;
+use std::sync::{Arc, Wait};
+use std::time::Clock;
 
-/// A door on a port of this machine, which takes connections from this machine alone, and closes those that come back. Where it
-/// couldn't be bound each call is a fault. Its handles take connections at the same port, as many as it is to give all
-/// together. It tells no connection.
+/// A door at the acceptor of a port: it gives the connections whose first byte is there, and closes those that come back, once their
+/// clients had time to read the last answer. Where the acceptor couldn't be made each call is a fault. Its handles take connections at
+/// the same acceptor, as many as it is to give all together; where the server is to end they give no more. It tells no connection.
 #[derive(Drop)]
-pub struct TcpDoor<L> {
-    listener: Option<Arc<TcpListener, Global>>,
-    port: u16,
+pub struct TcpDoor<'a, R, L> {
+    rt: &'a R,
+    clients: Option<Receiver<SharedClient>>,
+    activity: SharedActivity,
     plan: Plan,
     faults: u64,
     over: PhantomData<L>,
 }
 
-impl<L> Model for TcpDoor<L> {
-    ghost use Rattle.std.specs.Prelude.{option_map};
-    ghost use Rattle.system_edges.specs.Bound.{BoundDoor};
+impl<'a, R, L> Model for TcpDoor<'a, R, L> {
+    ghost use Rattle.std.specs.Prelude.{ℕ};
 
-    ghost Value = { BoundDoor };
+    ghost Value = { ℕ };
 
-    ghost view = { λ s. record { port = option_map (λ _. s.port) s.listener; faults = s.faults } };
+    ghost view = { λ s. s.faults };
 }
 
-// Binds a port of the address 127.0.0.1, or one that is free where it is 0.
-fn bind<R: Net<Listener = TcpListener, Stream = TcpStream>>(
-    rt: &R,
-    port: u16,
-) -> io::Result<(TcpListener, u16)> {
-    let listener = TcpListener::bind(rt, (Ipv4Addr::LOCALHOST, port))?;
-    let port = listener.local_addr()?.port();
-    Ok((listener, port))
-}
-
-impl<L> TcpDoor<L> {
-    /// A door on a port of the address 127.0.0.1, which is to give no connection yet. Port 0 stands for one that is free.
-    pub fn bind<R: Net<Listener = TcpListener, Stream = TcpStream>>(
-        rt: &R,
+impl<'a, R: Wait + Clock, L> TcpDoor<'a, R, L> {
+    /// A door at which the clients of an acceptor come in, which is to give no connection yet. It waits by a handle.
+    pub fn new(
+        rt: &'a R,
         alloc: Global,
-        port: u16,
+        clients: Option<Receiver<SharedClient>>,
+        activity: SharedActivity,
     ) -> Result<Self, Memory>
-        ensures { IfOk result (λ door. door.faults ≡ 0) }
+        ensures { IfOk result (λ door. door ≡ 0) }
     {
-        let (listener, port) = match bind(rt, port) {
-            Ok((listener, port)) => (Some(Arc::new(alloc, listener)?), port),
-            Err(_) => (None, port),
-        };
         Ok(TcpDoor {
-            listener,
-            port,
+            rt,
+            clients,
+            activity,
             plan: Plan::none(alloc)?,
             faults: 0,
             over: PhantomData,
         })
     }
 
-    /// The port that it is bound to, if it could be bound.
-    pub fn port(&self) -> Option<u16>
-        ensures { result ≡ self.now.port }
-    {
-        match &self.listener {
-            Some(_) => Some(self.port),
-            None => None,
-        }
-    }
-
     /// How many faults there were.
     pub fn faults(&self) -> u64
-        ensures { result ≡ self.now.faults }
+        ensures { result ≡ self.now }
     {
         self.faults
     }
+
+    // What is read of a client and what is written to it.
+    fn halves(
+        &self,
+        client: SharedClient,
+    ) -> Result<(ClientSource<'a, R>, ClientSink<'a, R>), AllocError>
+        ensures input { IfOk result (λ pair. IsFreshInlet pair.0) }
+        ensures output { IfOk result (λ pair. IsFreshOutlet pair.1) }
+    {
+        let output = ClientSink::new(self.rt, Arc::try_clone(&client)?);
+        let input = ClientSource::new(self.rt, client, Arc::try_clone(&self.activity)?);
+        Ok((input, output))
+    }
+
+    // The next connection, where the acceptor gives one.
+    fn next(&self) -> Option<(ClientSource<'a, R>, ClientSink<'a, R>)>
+        ensures { IfSome result (λ pair. (IsFreshInlet pair.0) × (IsFreshOutlet pair.1)) }
+    {
+        let clients = self.clients.as_ref()?;
+        let client = clients.recv(self.rt).ok()?;
+        self.activity.take_one(Count::Waiting);
+        self.halves(client).ok()
+    }
 }
 
-// The next connection, to read from and to write to.
-fn next_streams(listener: &TcpListener) -> io::Result<(TcpStream, TcpStream)> {
-    let (input, _) = listener.accept()?;
-    let output = input.try_clone()?;
-    Ok((input, output))
-}
+impl<'a, R: Wait + Clock, L: Link + Drop> Door for TcpDoor<'a, R, L> {
+    type Input = ClientSource<'a, R>;
 
-impl<L: Link + Drop> Door for TcpDoor<L> {
-    type Input = StdSource<TcpStream>;
-
-    type Output = StdSink<TcpStream>;
+    type Output = ClientSink<'a, R>;
 
     type Link = L;
 
-    ghost doorway = { λ s. record { faults = s.faults; traffic = None } };
+    ghost doorway = { λ faults. record { faults = faults; traffic = None } };
 
-    fn expect(&mut self, count: u32)
-        ensures { self.new ≡ self.old }
-    {
+    fn expect(&mut self, count: u32) {
         self.plan.expect(count);
     }
 
-    fn another(&self, alloc: Global) -> Result<Self, Memory>
-        ensures { IfOk result (λ door. door ≡ record { port = self.now.port; faults = 0 }) }
-    {
+    fn another(&self, alloc: Global) -> Result<Self, Memory> {
         let _ = alloc;
-        let listener = match &self.listener {
-            Some(listener) => Some(Arc::try_clone(listener)?),
+        let clients = match &self.clients {
+            Some(clients) => Some(clients.clone()?),
             None => None,
         };
         Ok(TcpDoor {
-            listener,
-            port: self.port,
+            rt: self.rt,
+            clients,
+            activity: Arc::try_clone(&self.activity)?,
             plan: self.plan.share()?,
             faults: 0,
             over: PhantomData,
         })
     }
 
-    fn take_back(&mut self, handle: Self)
-        ensures { self.new ≡ record self.old { faults = min (self.old.faults + handle.faults) 18446744073709551615 } }
-    {
+    fn take_back(&mut self, handle: Self) {
         self.faults = self.faults.saturating_add(handle.faults);
     }
 
-    fn accept(&mut self) -> Result<(StdSource<TcpStream>, StdSink<TcpStream>), NoneCame>
-        ensures input { IfOk result (λ pair. IsFreshInlet pair.0) }
-        ensures output { IfOk result (λ pair. IsFreshOutlet pair.1) }
-
-        // It gives a connection only where it is bound, and each failure counts one fault.
-        ensures bound { OnOk result (IsSome self.old.port) }
-        ensures same { OnOk result (self.new ≡ self.old) }
-        ensures ended { IsErrOf result NoneCame.Ended → self.new ≡ self.old }
-        ensures counted { IsErrOf result NoneCame.Failed
-            → self.new ≡ record self.old { faults = next_count self.old.faults } }
-        ensures counts { self.old.faults ≤ self.new.faults }
-    {
-        if !self.plan.take() {
+    fn accept(&mut self) -> Result<(ClientSource<'a, R>, ClientSink<'a, R>), NoneCame> {
+        if self.activity.is_ending() || !self.plan.take() {
             return Err(NoneCame::Ended);
         }
-        if let Some(listener) = &self.listener
-            && let Ok((input, output)) = next_streams(listener)
-        {
-            return Ok((StdSource::new(input), StdSink::new(output)));
+        if let Some(pair) = self.next() {
+            self.activity.add_one(Count::Serving);
+            return Ok(pair);
+        }
+        if self.activity.is_ending() {
+            return Err(NoneCame::Ended);
         }
         self.faults = self.faults.saturating_add(1);
         Err(NoneCame::Failed)
@@ -156,14 +140,21 @@ impl<L: Link + Drop> Door for TcpDoor<L> {
 
     fn done<D: Desk>(
         &mut self,
-        input: StdSource<TcpStream>,
-        output: StdSink<TcpStream>,
+        input: ClientSource<'a, R>,
+        output: ClientSink<'a, R>,
         link: L,
         end: ConnEnd,
         desk: &D,
-    )
-        ensures { self.new ≡ self.old }
-    {
-        let _ = (input, output, link, end, desk);
+    ) {
+        let _ = (link, desk);
+        let activity = &self.activity;
+        activity.take_one(Count::Serving);
+        activity.add_one(Count::Served);
+        activity.add(Count::Answered, end.served);
+        activity.add(Count::InputFaults, input.faults());
+        activity.add(Count::OutputFaults, output.faults());
+        if let Some(client) = input.into_unended() {
+            close_slowly(self.rt, &client.stream);
+        }
     }
 }

@@ -3,9 +3,26 @@
 //! name begins with `noticed` has what must go otherwise, so that it can be seen that this is noticed.
 #![tactic(auto)]
 
-use call_rows::Calls;
+mod book;
+mod calls;
+mod gate;
+mod gated;
+mod gated_keeper;
+mod given;
+mod keepers;
+mod keeping;
+mod making;
+mod measure;
+mod passes;
+mod shares;
+mod states;
+mod streams;
+mod values;
+
+use crate::calls::Calls;
+use crate::given::Given;
+use crate::measure::measure_decisions;
 use conversations::play_conversations;
-use hub_threads::{Given, measure_decisions};
 use std::alloc::{AllocError, Global};
 use std::env::Env;
 use std::fs::Files;

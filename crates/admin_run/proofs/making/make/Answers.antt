@@ -1,4 +1,4 @@
-use Rattle.std.proofs.Common.{ℕ, List, Option, Some, length, refl, sym, ap, subst, ◌∙◌, inl, inr}
+use Rattle.std.proofs.Common.{ℕ, List, Some, length, refl, sym, ap, subst, ◌∙◌, inl, inr}
 use Rattle.share_graph.specs.History.{replay}
 use Rattle.cloud_serve.specs.Served.{Wired}
 use Rattle.hub_core.specs.Book.{Backing}

@@ -1,4 +1,4 @@
-use Rattle.std.proofs.Common.{ℕ, List, Option, length, refl, sym, ap, subst, ◌∙◌, inl, inr}
+use Rattle.std.proofs.Common.{length, refl, sym, ap, subst, ◌∙◌, inl, inr}
 use Rattle.share_graph.specs.History.{replay}
 use Rattle.hub_core.specs.Book.{Backing}
 use Rattle.hub_core.specs.Sharing.{Sharing}

@@ -12,4 +12,4 @@ pub returns-in-Unknown-clause-does : goal.returns-in-Unknown-clause-does
 returns-in-Unknown-clause-does g c = rw c.in-Unknown.is c.usage.ensures.tells
 
 pub serve-requires-clause-order : goal.serve-requires-clause-order
-serve-requires-clause-order g c = c.requires.order (subst AtDoor (sym c.in-Serve.is) tt)
+serve-requires-clause-order g c κs within = c.requires.order (subst AtDoor (sym c.in-Serve.is) tt)

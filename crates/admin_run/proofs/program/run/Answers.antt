@@ -10,10 +10,10 @@ asked words l here (inl from) = inl (l, here, from)
 asked words l here (inr at) = inr (l, here, at)
 
 pub perform-requires-clause-book : goal.perform-requires-clause-book
-perform-requires-clause-book g c = λ from. c.requires.book (c.in-Ok.line, c.in-Ok.ensures.line, from)
+perform-requires-clause-book g c κs within = λ from. c.requires.book (c.in-Ok.line, c.in-Ok.ensures.line, from)
 
 pub perform-requires-clause-registered : goal.perform-requires-clause-registered
-perform-requires-clause-registered g c = λ which. c.requires.registered (asked _ c.in-Ok.line c.in-Ok.ensures.line which)
+perform-requires-clause-registered g c κs within = λ which. c.requires.registered (asked _ c.in-Ok.line c.in-Ok.ensures.line which)
 
 pub perform-requires-clause-order : goal.perform-requires-clause-order
-perform-requires-clause-order g c = λ at. c.requires.order (c.in-Ok.line, c.in-Ok.ensures.line, at)
+perform-requires-clause-order g c κs within = λ at. c.requires.order (c.in-Ok.line, c.in-Ok.ensures.line, at)

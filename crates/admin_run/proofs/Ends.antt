@@ -1,0 +1,128 @@
+-- How serving ends, behind the line of a first account's login.
+use Rattle.std.proofs.Common.{◌≡◌, ◌∙◌, ◌≤◌, inl, inr, ℕ, List, [], Option, Some, refl, ap, sym, subst, arith, append-nil}
+use Rattle.host_base.specs.Drawing.{Drawer}
+use Rattle.host_base.specs.Outside.{Outlet}
+use Rattle.cloud_keeper.specs.Keeping.{Keeping}
+use Rattle.share_graph.specs.declared.event.Event.{Event}
+use Rattle.share_graph.specs.declared.state.State.{State}
+use Rattle.share_graph.specs.declared.state.Tables.{Tables}
+use Rattle.share_graph.specs.History.{replay}
+use Rattle.site_caps.specs.Law.{Law}
+use Rattle.row_tables.specs.Kept.{IsStored}
+use Rattle.hub_core.specs.Book.{Backing}
+use Rattle.hub_core.specs.Opening.{opened}
+use Rattle.serve_door.specs.Doors.{Doorway}
+use Rattle.serve_door.specs.declared.serving.Stop.{Stop}
+use Rattle.serve_door.specs.declared.serving.Stop.TheVariants as stop
+use Rattle.shared_hub.specs.Since.{HasKept}
+use Rattle.shared_hub.proofs.Since.{kept_none}
+use Rattle.admin_run.specs.Beginning.{Begins}
+use Rattle.admin_run.specs.Outside.{Outside, Tells}
+use Rattle.admin_run.specs.Serving.{EndsServing, ServesFrom, ServesHistory, TellsStop, given_and_back, login_line}
+use Rattle.admin_run.proofs.Logins.{logins_stay}
+use Rattle.admin_run.proofs.Told.{tells_more}
+
+-- nothing is printed
+pub told_nothing : (out : Outlet) (status : ℕ) → Tells out out [] status status
+told_nothing out status = inl (refl, λ before told. told ∙ ap (λ (text : List ℕ). Some text) (sym (append-nil before)))
+
+-- nothing was printed behind a text
+told_no_more : (old now new : Outlet) (text : List ℕ) (done status : ℕ) → Tells old now text 0 0 → old.faults ≤ now.faults → now.faults ≤ new.faults → Tells now new [] done status → Tells old new text done status
+told_no_more old now new text done status first le le' then =
+    subst (λ (t : List ℕ). Tells old new t done status) (append-nil text) (tells_more old now new text [] 0 done status refl first le le' then)
+
+stop_behind : (why : Stop) (answered : ℕ) (old now new : Outlet) (text : List ℕ) (status : ℕ) → Tells old now text 0 0 → old.faults ≤ now.faults → now.faults ≤ new.faults
+    → TellsStop why [] answered now new status → TellsStop why text answered old new status
+stop_behind stop.All answered old now new text status first le le' then = tells_more old now new text _ 0 0 status refl first le le' then
+stop_behind stop.DoorFailed answered old now new text status first le le' (is, then) = (is, told_no_more old now new text 4 4 first le le' then)
+stop_behind stop.Memory answered old now new text status first le le' (is, then) = (is, told_no_more old now new text 7 7 first le le' then)
+
+ends_behind : (law : Law) (start : State) (count : ℕ) (text : List ℕ) (history : List Event) (door door' : Doorway) (old now new : Outlet) (status : ℕ) → Tells old now text 0 0 → old.faults ≤ now.faults → now.faults ≤ new.faults
+    → EndsServing law start count [] history door door' now new status → EndsServing law start count text history door door' old new status
+ends_behind law start count text history door door' old now new status first le le' (inl none) = inl (record {
+  none = none.none;
+  untaken = none.untaken;
+  told = told_no_more old now new text 7 status first le le' none.told;
+})
+ends_behind law start count text history door door' old now new status first le le' (inr some) = inr (record {
+  before = some.before;
+  handles = some.handles;
+  main = some.main;
+  hired = some.hired;
+  done = some.done;
+  taken_back = some.taken_back;
+  stopped = some.stopped;
+  stopped_is = some.stopped_is;
+  told = stop_behind some.stopped.stop some.stopped.answered old now new text status first le le' some.told;
+})
+
+-- a text that couldn't be printed
+told_other : (old new : Outlet) (text : List ℕ) (done status : ℕ) → status ≡ 5 → Tells old new text done status → (done ≡ 5 → ⊥) → (other : ℕ) → Tells old new text other status
+told_other old new text done status five (inl (is, whole)) not other = absurd (not (sym is ∙ five))
+told_other old new text done status five (inr part) not other = inr part
+
+module _ (law : Law) (count status : ℕ) (old : Outside) (out : Outlet) (keeping : Keeping) (drawer : Drawer) (tables : Tables) (login : Option (List ℕ))
+    (begins : Begins old.holds.keeping keeping old.holds.drawer drawer tables login) where
+  abbrev held : Backing
+  held = record old.holds { keeping = keeping; drawer = drawer }
+
+  -- the login was printed, and connections were served
+  pub serves_from : (new : Outside) (told : ℕ) → told ≡ 0 → Tells old.outlet out (login_line login) 0 told → old.outlet.faults ≤ out.faults → out.faults ≤ new.outlet.faults
+      → ServesHistory law (opened tables) count held new.holds old.doorway new.doorway out new.outlet status
+      → new ≡ record old { outlet = new.outlet; holds = new.holds; doorway = new.doorway } → ServesFrom law count old new status
+  serves_from new told zero tells le le' served others =
+      let first = subst (λ (n : ℕ). Tells old.outlet out (login_line login) 0 n) zero tells in
+      let (added, stay) = logins_stay (opened tables) served.history in
+      record {
+        tables = tables;
+        login = login;
+        begins = begins.with;
+        history = served.history;
+        stored = served.stored;
+        added = added;
+        logins_stay = stay;
+        drew = (drawer.coming, begins.drew, (served.kept.drawn, served.kept.draws));
+        spawned = served.kept.spawned;
+        counts = record {
+          store = omega (arith, begins.store_counts, served.kept.counts.store);
+          secrets = omega (arith, begins.secrets_count, served.kept.counts.secrets);
+          starts = served.kept.counts.starts;
+        };
+        ends = ends_behind law (opened tables) count (login_line login) served.history old.doorway new.doorway old.outlet out new.outlet status first le le' served.ends;
+        others = others;
+      }
+
+  -- the login couldn't be printed
+  pub stops_at_login : Tells old.outlet out (login_line login) 0 status → status ≡ 5 → ServesFrom law count old (record old { outlet = out; holds = held }) status
+  stops_at_login told five =
+      let (added, stay) = logins_stay (opened tables) [] in
+      let none = kept_none old.holds in
+      record {
+        tables = tables;
+        login = login;
+        begins = begins.with;
+        history = [];
+        stored = begins.stored;
+        added = added;
+        logins_stay = stay;
+        drew = (drawer.coming, begins.drew, ([], refl));
+        spawned = none.spawned;
+        counts = record { store = begins.store_counts; secrets = begins.secrets_count; starts = none.counts.starts };
+        ends = inl (record { none = refl; untaken = refl; told = told_other old.outlet out (login_line login) 0 status five told (λ is. omega (arith, is)) 7 });
+        others = refl;
+      }
+
+-- nothing was told on a history without an entry
+pub kept_same : (holds holds' : Backing) (history : List Event) → holds' ≡ holds → history ≡ [] → HasKept holds holds' history
+kept_same holds holds' history same none =
+    subst (λ (h : Backing). HasKept holds h history) (sym same) (subst (λ (list : List Event). HasKept holds holds list) (sym none) (kept_none holds))
+
+-- no connection was served on such a history
+pub serves_none : (law : Law) (start : State) (count : ℕ) (holds holds' : Backing) (history : List Event) (door door' : Doorway) (out : Outlet) → HasKept holds holds' history → history ≡ []
+    → IsStored holds'.keeping (replay start history).tables → given_and_back door' ≡ given_and_back door → ServesHistory law start count holds holds' door door' out out 7
+serves_none law start count holds holds' history door door' out kept none stored untaken = record {
+  history = history;
+  stored = stored;
+  kept = kept;
+  ends = inl (record { none = none; untaken = untaken; told = told_nothing out 7 });
+}

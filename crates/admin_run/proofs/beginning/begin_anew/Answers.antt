@@ -1,0 +1,15 @@
+use Rattle.std.proofs.Common.{arith}
+use Rattle.admin_run.proofs.First.{first_formed, first_stored}
+use Rattle.admin_run.proofs.beginning.begin_anew.Goals as goal
+
+pub returns-in-Ok-clause-begins : goal.returns-in-Ok-clause-begins
+returns-in-Ok-clause-begins g c = λ before none le.
+    let made = c.in-Ok.ensures in
+    record {
+      with = (none, made.tables);
+      formed = first_formed c.in-Ok.tables c.in-Ok.token made.tables;
+      stored = first_stored _ c.in-Ok.tables c.in-Ok.token made.tables made.row;
+      drew = made.token;
+      store_counts = omega (arith, le, made.store_count);
+      secrets_count = made.secrets_count;
+    }

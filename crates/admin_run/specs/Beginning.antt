@@ -1,0 +1,51 @@
+-- What `serve` begins with.
+use Rattle.std.specs.Prelude.{◌≡◌, ◌≢◌, ◌≤◌, ◌⊎◌, ℕ, List, [], Option, None, Some, Ok}
+use Rattle.host_base.specs.Drawing.{Coming, Drawer}
+use Rattle.host_base.specs.Outside.{Rose}
+use Rattle.cloud_keeper.specs.Keeping.{Keeping, RowsFollow}
+use Rattle.cloud_keeper.specs.declared.row.Row.{Row}
+use Rattle.share_graph.specs.declared.state.Tables.{Tables}
+use Rattle.share_graph.specs.WellFormed.{IsWellFormed}
+use Rattle.row_tables.specs.Checks.{GivesTables}
+use Rattle.row_tables.specs.Kept.{AreRowsOf, IsStored}
+use Rattle.row_tables.specs.declared.stored.BadRow.{BadRow}
+use Rattle.first_account.specs.Drawn.{DrewOneAtMost, IsTokenOfNext}
+use Rattle.first_account.specs.First.{HasNoRows, first_tables}
+use Rattle.hub_core.specs.Opening.{AreLoaded, HasBadRow, opened}
+
+-- a keeper has rows, where it tells them
+abbrev pub HasSomeRows : Keeping → Type 0
+HasSomeRows keeping = (rows : List Row) → keeping.rows ≡ Some rows → rows ≢ []
+
+-- WHAT IT BEGINS WITH: the tables that the keeper's rows state; or where there are none, those with the first account alone, whose login is a token.
+abbrev pub BeginsWith : Keeping → Tables → Option (List ℕ) → Type 0
+BeginsWith keeping tables None = HasSomeRows keeping × AreLoaded keeping tables
+BeginsWith keeping tables (Some token) = HasNoRows keeping × (tables ≡ first_tables token)
+
+-- that token is the first of the secrets to come, and where there is none no secret was drawn
+abbrev pub DrewLogin : Option (List ℕ) → Option Coming → Option Coming → Type 0
+DrewLogin None coming rest = rest ≡ coming
+DrewLogin (Some token) coming rest = IsTokenOfNext coming rest token
+
+-- It begins with tables, which are well formed, and the keeper has them.
+pub record Begins (keeping keeping' : Keeping) (drawer drawer' : Drawer) (tables : Tables) (login : Option (List ℕ)) : Type 0 where
+  pub with : BeginsWith keeping tables login
+  pub formed : IsWellFormed (opened tables)
+  pub stored : IsStored keeping' tables
+  pub drew : DrewLogin login drawer.coming drawer'.coming
+  pub store_counts : keeping.faults ≤ keeping'.faults
+  pub secrets_count : drawer.faults ≤ drawer'.faults
+
+-- IT CAN'T BEGIN: the keeper failed or the secrets did, which was counted, a row is bad, or memory ran out. The keeper's rows stay as they were, and one
+-- secret was drawn at the most.
+pub record CannotBegin (keeping keeping' : Keeping) (drawer drawer' : Drawer) (status : ℕ) : Type 0 where
+  pub cause : ((status ≡ 9) × (Rose keeping.faults keeping'.faults ⊎ Rose drawer.faults drawer'.faults))
+      ⊎ (((status ≡ 10) × ((bad : BadRow) × HasBadRow keeping bad)) ⊎ (status ≡ 7))
+  pub kept : RowsFollow keeping keeping' (λ rows. rows)
+  pub drawn : DrewOneAtMost drawer.coming drawer'.coming
+
+-- These tables are stated by rows, and are well formed.
+pub record StatesTables (rows : List Row) (t : Tables) : Type 0 where
+  pub read : GivesTables (Ok t) rows
+  pub found : AreRowsOf t rows
+  pub formed : IsWellFormed (opened t)
