@@ -240,9 +240,13 @@ class Server(Started):
         """The folder of its grains' sockets."""
         return os.path.join(self.folder, f"{self.file}.runs")
 
+    def folder_of(self, grain):
+        """The folder of a grain."""
+        return os.path.join(self.folder, f"{self.file}.grains", str(grain))
+
     def program_of(self, run):
         """The process that is the program of a run, or None."""
-        words = ["grain", f"{self.file}.runs/run-{run}.sock"]
+        words = ["grain", os.path.join(self.runs(), f"run-{run}.sock")]
         return next((child for child in children_of(self.number) if words_of(child)[1:3] == words), None)
 
     def handed_to(self, run):
@@ -291,7 +295,7 @@ def request_text(method, host, target, token="", body=None, lines=()):
     head = [f"{method} {target} HTTP/1.1", f"Host: {host}", "User-Agent: trial", "Accept: */*", *lines]
     if token:
         head.append(f"Authorization: Bearer {token}")
-    content = (body or "").encode()
+    content = body if isinstance(body, bytes) else (body or "").encode()
     if body is not None:
         head.append(f"Content-Length: {len(content)}")
     return "".join(line + "\r\n" for line in head).encode() + b"\r\n" + content

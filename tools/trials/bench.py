@@ -1,12 +1,15 @@
 """Where the program is tried."""
 import os
 import re
+import signal
+import sys
 import tempfile
 import time
 import traceback
 
-from served import Server, Started, exchange, words_of
+from served import Server, Started, Workplace, end_in_order, exchange, words_of
 from trials.talk import Talk
+from trials.tally import Tally
 
 # What a server says on standard error, a line a second.
 TELLING = re.compile(r"^lumbyte:( [a-z_]+=\d+){10}\n", re.MULTILINE)
@@ -74,3 +77,34 @@ class Bench:
         self.same("no process is left", [], self.left())
         self.place.clear()
         print(f"{title}: {self.tally.passed + self.tally.failed - counted} rows, {time.monotonic() - began:.1f} s", flush=True)
+
+
+class TooLong(BaseException):
+    """All of it took too long."""
+
+
+def stop_late(*_):
+    raise TooLong
+
+
+def play_all(name, program, trials, limit):
+    """Plays trials, by their titles, in a folder that is made for them and for so many seconds at the most. Prints what came of it, and gives the
+    status to end with."""
+    if not os.path.isfile(program) or not os.access(program, os.X_OK):
+        print(f"{name}: {program} isn't there, or can't be run\n0 passed, 1 failed")
+        return 2
+    sys.stdout.reconfigure(errors="backslashreplace")
+    end_in_order()
+    signal.signal(signal.SIGALRM, stop_late)
+    signal.alarm(limit)
+    tally, began = Tally(), time.monotonic()
+    with Workplace(name) as place:
+        try:
+            for title, trial in trials.items():
+                Bench(program, place, tally).play(title, trial)
+        except TooLong:
+            tally.differs("all trials", f"an end within {limit} seconds", "none")
+        signal.alarm(0)
+    print(f"tried in {time.monotonic() - began:.0f} s")
+    print(f"{tally.passed} passed, {tally.failed} failed")
+    return 1 if tally.failed or not tally.passed else 0

@@ -48,8 +48,8 @@ def program_of_a_run(bench, server):
     process = server.program_of(1)
     made = [os.readlink(f"/proc/{one}/exe") for one in (server.number, process)]
     bench.same("a grain's program is this one", made[0], made[1])
-    bench.same("its words", ["grain", "club.db.runs/run-1.sock", "1000000000"], words_of(process)[1:])
-    bench.same("what it has open", ["/dev/null", "anon_inode:[eventpoll]", "pipe", "pipe", "socket"], open_files(process))
+    bench.same("its words", ["grain", os.path.join(server.runs(), "run-1.sock"), "1000000000"], words_of(process)[1:])
+    bench.same("what it has open", ["anon_inode:[eventpoll]", "pipe", "pipe", "pipe", "socket"], open_files(process))
 
 
 def killed(bench, folder, port, talk):

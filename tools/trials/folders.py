@@ -16,16 +16,21 @@ FAILS = [
 ]
 # How many bytes a socket's path may have, and how many of them follow the name of the file of rows.
 MOST, BEHIND = 107, len(".runs/run-1.sock")
-NAMES = [
-    ("a name with a blank, a quote and other letters", 'the "böok" of runs.db', STARTS),
-    ("a path as long as may be", (MOST - BEHIND) * "a", STARTS),
-    ("a path of one byte more", (MOST - BEHIND + 1) * "a", FAILS),
-]
+
+
+def names(folder):
+    """The names of files in a folder, and what becomes of a server's grains on each."""
+    longest = MOST - BEHIND - len(os.path.join(folder, ""))
+    return [
+        ("a name with a blank, a quote and other letters", 'the "böok" of runs.db', STARTS),
+        ("a path as long as may be", longest * "a", STARTS),
+        ("a path of one byte more", (longest + 1) * "a", FAILS),
+    ]
 
 
 def folders(bench):
     folder = bench.place.make("folders")
-    for name, file, rows in NAMES:
+    for name, file, rows in names(folder):
         bench.tally.title = f"folders: {name}"
         talk = bench.talk(folder, Port(), count_of(A_GRAIN, rows) + 1, file=file)
         talk.play(A_GRAIN + rows)

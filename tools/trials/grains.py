@@ -159,14 +159,14 @@ def other_programs(bench, talk, program):
     talk.play([FAILS, Runs("a program that isn't there", ["run 2"], ["run-2.sock"])])
     act = os.path.join(talk.server.folder, "act")
     with open(f"{program} (deleted)", "w") as file:
-        file.write(f"#!/bin/sh\nPROGRAM={shlex.quote(bench.program)}\n. ./act\n")
+        file.write(f"#!/bin/sh\nPROGRAM={shlex.quote(bench.program)}\n. {shlex.quote(act)}\n")
     os.chmod(f"{program} (deleted)", 0o755)
     for name, line in FAILING:
         write(act, line)
         talk.play([FAILS, Runs(name, ["run 2"], ["run-2.sock"])])
     write(act, HANDED)
     talk.play([WAKE])
-    with open(os.path.join(talk.server.folder, "handed")) as file:
+    with open(os.path.join(talk.server.folder_of(1), "handed")) as file:
         talk.fits("a program that reads what it is handed", "$run\n", file.read())
     talk.play([OWN_TOKEN, ANSWERED, STOP])
     write(act, TWO_ANSWERS)

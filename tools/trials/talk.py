@@ -75,8 +75,8 @@ def whole_answer(status, answer, length=None):
 
 
 def run_of(words):
-    """The run whose program has these words."""
-    found = re.search(r"run-(\d+)\.sock$", words[2]) if len(words) == 4 else None
+    """The run whose program has these words, which stand behind an interpreter's where it is a script."""
+    found = re.search(r"run-(\d+)\.sock$", words[-2]) if len(words) >= 4 else None
     return f"run {found[1]}" if found else "ended" if not words else " ".join(words)
 
 

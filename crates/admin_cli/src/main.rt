@@ -27,10 +27,10 @@ use std::process::ExitCode;
 use std::sync::{Arc, Wait};
 use std::thread::Threads;
 use std::time::Clock;
-use std::{env, fs, io, thread};
+use std::{env, io, thread};
 use system_edges::{
-    Acceptor, Activity, ProcSpawner, RngSecrets, SharedActivity, SharedClient, TcpDoor, UnixDoor,
-    UnixLink, is_pipe, wait_for_end,
+    Acceptor, Activity, Logs, Output, Places, ProcSpawner, RngSecrets, SharedActivity,
+    SharedClient, Starting, TcpDoor, UnixDoor, UnixLink, is_pipe, wait_for_end,
 };
 
 // The status where memory runs out.
@@ -166,35 +166,49 @@ fn keeper_of(rt: &HostRuntime, file: &str) -> SqlKeeper<FileStore<File>> {
     SqlKeeper::of(Connection::open(rt, file))
 }
 
-// Where a server's clients come in, and what its threads share.
+// Where a server's clients come in and what its grains' programs print goes, its port, and what its threads share.
 #[derive(Drop)]
 struct Post {
     clients: Option<Receiver<SharedClient>>,
+    outputs: Option<Sender<Output>>,
+    port: u16,
     activity: SharedActivity,
 }
 
-// The paths of the folder of the sockets, beside a file of rows, for what starts the programs of grains and for the link to them; and
-// the activity for both.
+// What the programs of grains are started with, the folder of their sockets for the link to them, and the activity for that.
 #[derive(Drop)]
-struct Folder {
-    runs: String,
+struct Programs {
+    starting: Starting,
     sockets: String,
-    started: SharedActivity,
     asked: SharedActivity,
 }
 
-fn folder_of(alloc: Global, file: &str, activity: &SharedActivity) -> Result<Folder, AllocError> {
-    let runs = format!(in alloc; "{file}.runs")?;
-    let sockets = runs.clone()?;
-    Ok(Folder {
-        runs,
+// The programs of grains beside a file of rows.
+fn programs_of(
+    rt: &HostRuntime,
+    file: &str,
+    port: u16,
+    outputs: Option<Sender<Output>>,
+    activity: &SharedActivity,
+) -> Result<Programs, AllocError> {
+    let alloc = rt.alloc();
+    let places = Places::beside(rt, alloc, file)?;
+    let sockets = String::from_str(alloc, places.runs())?;
+    places.make(rt);
+    let starting = Starting {
+        places,
+        port,
+        outputs,
+        activity: Arc::try_clone(activity)?,
+    };
+    Ok(Programs {
+        starting,
         sockets,
-        started: Arc::try_clone(activity)?,
         asked: Arc::try_clone(activity)?,
     })
 }
 
-// Serves the clients at a door from the rows of a keeper. The runs of its grains have their sockets in a folder.
+// Serves the clients at a door from the rows of a keeper, with the programs of its grains.
 fn serve_kept<
     'a,
     R: Threads + Wait + Clock + Sync,
@@ -205,7 +219,7 @@ fn serve_kept<
     wait: &'a R,
     words: &[String],
     keeper: SqlKeeper<S>,
-    folder: Folder,
+    programs: Programs,
     door: TcpDoor<'a, R, UnixLink<'a, HostRuntime>>,
     sites: Vec<C>,
 ) -> u8
@@ -214,14 +228,13 @@ where
     requires registered { IsRegistered C.Law.law.tags (map C.tag_of sites.items) }
     requires elsewhere { BeginWithBook words.now → ⊥ }
 {
-    let Folder {
-        runs,
+    let Programs {
+        starting,
         sockets,
-        started,
         asked,
-    } = folder;
+    } = programs;
     let secrets = RngSecrets::new(SysRng::new(rt));
-    let spawner = ProcSpawner::new(rt.alloc(), rt, runs, started);
+    let spawner = ProcSpawner::new(rt.alloc(), rt, wait, starting);
     let (link, held) = (
         UnixLink::new(rt, sockets, asked),
         (keeper, secrets, spawner),
@@ -242,14 +255,16 @@ where
     requires registered { IsRegistered C.Law.law.tags (map C.tag_of sites.items) }
     requires elsewhere { BeginWithBook words.now → ⊥ }
 {
-    let alloc = rt.alloc();
-    let folder = folder_of(alloc, path_of(words), &post.activity)?;
-    let door = TcpDoor::new(wait, alloc, post.clients, post.activity)?;
-
-    // Where it can't be made no run is started, which is answered to whoever asks for one.
-    let _ = fs::create_dir(rt, folder.runs.as_str());
+    let Post {
+        clients,
+        outputs,
+        port,
+        activity,
+    } = post;
+    let programs = programs_of(rt, path_of(words), port, outputs, &activity)?;
+    let door = TcpDoor::new(wait, rt.alloc(), clients, activity)?;
     let keeper = keeper_of(rt, path_of(words));
-    Ok(serve_kept(rt, wait, words, keeper, folder, door, sites))
+    Ok(serve_kept(rt, wait, words, keeper, programs, door, sites))
 }
 
 // The path of a line that has one: its second word.
@@ -347,12 +362,19 @@ struct Tie {
     ends: Receiver<Option<u8>>,
 }
 
+// What a server does on threads of their own: it accepts clients, and logs what its grains' programs print.
+#[derive(Drop)]
+struct Aside {
+    acceptor: Acceptor,
+    logs: Logs,
+}
+
 // The program's words, and what it needs beside the sites of a club. A line that serves is tied to its input where that is a pipe.
 #[derive(Drop)]
 struct Plan {
     words: Vec<String>,
     post: Post,
-    acceptor: Option<Acceptor>,
+    aside: Option<Aside>,
     tie: Option<Tie>,
 }
 
@@ -380,6 +402,20 @@ fn tie_of(
     }))
 }
 
+// What a server does aside, by its port, and where its clients come in.
+fn aside_of(rt: &HostRuntime, port: u16, activity: &SharedActivity) -> io::Result<(Aside, Post)> {
+    let alloc = rt.alloc();
+    let (acceptor, clients) = Acceptor::bind(rt, alloc, port, Arc::try_clone(activity)?)?;
+    let (logs, outputs) = Logs::new(rt, alloc, Arc::try_clone(activity)?)?;
+    let post = Post {
+        clients: Some(clients),
+        outputs: Some(outputs),
+        port: acceptor.port()?,
+        activity: Arc::try_clone(activity)?,
+    };
+    Ok((Aside { acceptor, logs }, post))
+}
+
 // What the program is to do by its words. Where the port can't be bound no client comes in.
 fn plan_of(rt: &HostRuntime) -> Result<Plan, Memory> {
     let alloc = rt.alloc();
@@ -387,17 +423,25 @@ fn plan_of(rt: &HostRuntime) -> Result<Plan, Memory> {
     let line = line_of(alloc, words.as_slice())?;
     let activity = Activity::new(alloc)?;
     let tie = tie_of(rt, &line, &activity)?;
-    let (mut acceptor, mut clients) = (None, None);
+    let (mut aside, mut post) = (
+        None,
+        Post {
+            clients: None,
+            outputs: None,
+            port: 0,
+            activity: Arc::try_clone(&activity)?,
+        },
+    );
     if let Line::Serve { port, .. } = line
-        && let Ok((one, coming)) = Acceptor::bind(rt, alloc, port, Arc::try_clone(&activity)?)
+        && let Ok((beside, open)) = aside_of(rt, port, &activity)
     {
-        acceptor = Some(one);
-        clients = Some(coming);
+        aside = Some(beside);
+        post = open;
     }
     Ok(Plan {
         words,
-        post: Post { clients, activity },
-        acceptor,
+        post,
+        aside,
         tie,
     })
 }
@@ -444,11 +488,12 @@ fn main(rt: HostRuntime) -> ExitCode {
     let Plan {
         words,
         post,
-        acceptor,
+        aside,
         tie,
     } = plan;
-    if let Some(acceptor) = acceptor
-        && thread::spawn(&rt, move || acceptor.run(&rt)).is_err()
+    if let Some(Aside { acceptor, logs }) = aside
+        && (thread::spawn(&rt, move || acceptor.run(&rt)).is_err()
+            || thread::spawn(&rt, move || logs.run(&rt)).is_err())
     {
         return ExitCode::from(NO_MEMORY);
     }

@@ -96,7 +96,7 @@ module _ (law : Law) (count status : ℕ) (old : Outside) (out : Outlet) (keepin
   pub stops_at_login : Tells old.outlet out (login_line login) 0 status → status ≡ 5 → ServesFrom law count old (record old { outlet = out; holds = held }) status
   stops_at_login told five =
       let (added, stay) = logins_stay (opened tables) [] in
-      let none = kept_none old.holds in
+      let none = kept_none (opened tables) old.holds in
       record {
         tables = tables;
         login = login;
@@ -113,12 +113,12 @@ module _ (law : Law) (count status : ℕ) (old : Outside) (out : Outlet) (keepin
       }
 
 -- nothing was told on a history without an entry
-pub kept_same : (holds holds' : Backing) (history : List Event) → holds' ≡ holds → history ≡ [] → HasKept holds holds' history
-kept_same holds holds' history same none =
-    subst (λ (h : Backing). HasKept holds h history) (sym same) (subst (λ (list : List Event). HasKept holds holds list) (sym none) (kept_none holds))
+pub kept_same : (start : State) (holds holds' : Backing) (history : List Event) → holds' ≡ holds → history ≡ [] → HasKept start holds holds' history
+kept_same start holds holds' history same none =
+    subst (λ (h : Backing). HasKept start holds h history) (sym same) (subst (λ (list : List Event). HasKept start holds holds list) (sym none) (kept_none start holds))
 
 -- no connection was served on such a history
-pub serves_none : (law : Law) (start : State) (count : ℕ) (holds holds' : Backing) (history : List Event) (door door' : Doorway) (out : Outlet) → HasKept holds holds' history → history ≡ []
+pub serves_none : (law : Law) (start : State) (count : ℕ) (holds holds' : Backing) (history : List Event) (door door' : Doorway) (out : Outlet) → HasKept start holds holds' history → history ≡ []
     → IsStored holds'.keeping (replay start history).tables → given_and_back door' ≡ given_and_back door → ServesHistory law start count holds holds' door door' out out 7
 serves_none law start count holds holds' history door door' out kept none stored untaken = record {
   history = history;

@@ -1,17 +1,6 @@
 -- What `serve` begins with.
 use Rattle.std.specs.Prelude.{◌≡◌, ◌≢◌, ◌≤◌, ◌⊎◌, ℕ, List, [], Option, None, Some, Ok}
-use Rattle.host_base.specs.Drawing.{Coming, Drawer}
-use Rattle.host_base.specs.Outside.{Rose}
-use Rattle.cloud_keeper.specs.Keeping.{Keeping, RowsFollow}
-use Rattle.cloud_keeper.specs.declared.row.Row.{Row}
-use Rattle.share_graph.specs.declared.state.Tables.{Tables}
-use Rattle.share_graph.specs.WellFormed.{IsWellFormed}
-use Rattle.row_tables.specs.Checks.{GivesTables}
-use Rattle.row_tables.specs.Kept.{AreRowsOf, IsStored}
-use Rattle.row_tables.specs.declared.stored.BadRow.{BadRow}
-use Rattle.first_account.specs.Drawn.{DrewOneAtMost, IsTokenOfNext}
-use Rattle.first_account.specs.First.{HasNoRows, first_tables}
-use Rattle.hub_core.specs.Opening.{AreLoaded, HasBadRow, opened}
+use Rattle.admin_run.specs.Terms.{AreLoaded, AreRowsOf, BadRow, Coming, Drawer, DrewOneAtMost, first_tables, GivesTables, HasBadRow, HasNoRows, IsStored, IsTokenOfNext, IsWellFormed, Keeping, opened, Rose, Row, RowsFollow, Tables}
 
 -- a keeper has rows, where it tells them
 abbrev pub HasSomeRows : Keeping → Type 0

@@ -1,17 +1,7 @@
 -- One connection that is served from the small book.
 use Rattle.std.specs.Prelude.{◌≡◌, ℕ, ◌++◌, List, [], length}
 use Rattle.std.specs.List.{flat_map}
-use Rattle.cloud_keeper.specs.Keeping.{Keeping}
-use Rattle.share_graph.specs.declared.event.Event.{Event}
-use Rattle.share_graph.specs.History.{replay}
-use Rattle.cloud_serve.specs.declared.serve.End.{End}
-use Rattle.cloud_serve.specs.Acts.{added_by}
-use Rattle.cloud_serve.specs.Served.{Wired, Served, acts_in, with_book}
-use Rattle.site_caps.specs.Law.{Law}
-use Rattle.hub_core.specs.Book.{Book, Backing}
-use Rattle.hub_core.specs.Sharing.{book_of}
-use Rattle.row_tables.specs.Kept.{IsStored}
-use Rattle.small_book.specs.SmallBook.{small_book}
+use Rattle.admin_run.specs.Terms.{acts_in, added_by, Backing, Book, book_of, End, Event, IsStored, Keeping, Law, replay, Served, small_book, Wired, with_book}
 
 -- a desk that began with the small book, and what its objects tell
 abbrev pub book_with : Law → List Event → Backing → Book

@@ -1,13 +1,6 @@
 -- What `check` does.
 use Rattle.std.specs.Prelude.{◌≡◌, ℕ, ◌⊎◌, List, Some, Ok, length}
-use Rattle.host_base.specs.Outside.{Outlet, Rose}
-use Rattle.cloud_keeper.specs.Keeping.{Keeping, RowsFollow}
-use Rattle.cloud_keeper.specs.declared.row.Row.{Row}
-use Rattle.share_graph.specs.Checked.{IsChecked}
-use Rattle.share_graph.specs.declared.state.Tables.{Tables}
-use Rattle.row_tables.specs.Checks.{IsBadRow}
-use Rattle.row_tables.specs.TablesRows.{tables_of}
-use Rattle.row_tables.specs.declared.stored.BadRow.{BadRow}
+use Rattle.admin_run.specs.Terms.{BadRow, IsBadRow, IsChecked, Keeping, Outlet, Rose, Row, RowsFollow, Tables, tables_of}
 use Rattle.admin_run.specs.Lines.{counts_line, bad_row_line}
 use Rattle.admin_run.specs.Outside.{Outside, Tells}
 

@@ -8,3 +8,4 @@ pub mod Playing
 pub mod Program
 pub mod Serving
 pub mod Statuses
+pub mod Terms

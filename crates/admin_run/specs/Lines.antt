@@ -1,8 +1,6 @@
 -- The lines that the program prints beside the answers to requests. Each ends with a line feed.
 use Rattle.std.specs.Prelude.{ℕ, ◌++◌, List, length, codes, decimal}
-use Rattle.hex.specs.Hex.{encode_lower}
-use Rattle.sha2.specs.Sha256.{sha256}
-use Rattle.share_graph.specs.declared.state.Tables.{Tables}
+use Rattle.admin_run.specs.Terms.{encode_lower, sha256, Tables}
 
 -- a keeper's rows that state tables: how many there are, and how many of each kind
 unfoldable pub counts_line : ℕ → Tables → List ℕ

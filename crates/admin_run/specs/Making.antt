@@ -1,13 +1,8 @@
 -- What `gen` does.
 use Rattle.std.specs.Prelude.{◌≡◌, ℕ, ◌⊎◌, List, [], Some}
-use Rattle.host_base.specs.Outside.{Inlet, Outlet}
-use Rattle.host_base.specs.InMemory.{is_at_end}
-use Rattle.request_maker.specs.Generated.{generated}
-use Rattle.cloud_serve.specs.declared.serve.End.{End}
+use Rattle.admin_run.specs.Terms.{End, generated, Inlet, is_at_end, Law, Outlet, Wired}
 use Rattle.cloud_serve.specs.declared.serve.End.TheVariants as end
-use Rattle.cloud_serve.specs.Served.{Wired}
 use Rattle.grain_supervise.specs.Line.{Line}
-use Rattle.site_caps.specs.Law.{Law}
 use Rattle.admin_run.specs.Lines.{summary_lines}
 use Rattle.admin_run.specs.Connection.{ServesBook}
 use Rattle.admin_run.specs.Outside.{Outside, DoesNothing, Tells}

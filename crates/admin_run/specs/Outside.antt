@@ -1,10 +1,7 @@
 -- What the program's objects tell, and the lines that it prints.
 use Rattle.std.specs.Prelude.{◌≡◌, ℕ, ◌⊎◌, ◌++◌, List, Option, Some, take, codes}
-use Rattle.host_base.specs.Outside.{Inlet, Outlet, Rose}
+use Rattle.admin_run.specs.Terms.{Backing, Doorway, Inlet, Outlet, Rose, Wired}
 use Rattle.grain_supervise.specs.Line.{Line}
-use Rattle.serve_door.specs.Doors.{Doorway}
-use Rattle.hub_core.specs.Book.{Backing}
-use Rattle.cloud_serve.specs.Served.{Wired}
 
 -- What the program's objects tell: its input and output, the link to the grains, what a desk works with, the clock and the
 -- door.

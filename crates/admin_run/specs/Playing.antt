@@ -1,14 +1,7 @@
 -- What `play` and `grain` do.
 use Rattle.std.specs.Prelude.{◌≡◌, ◌≢◌, ℕ, ◌<◌, ◌⊎◌, List, Some, length}
-use Rattle.host_base.specs.Outside.{Inlet, Outlet, CountStands}
-use Rattle.front_http.specs.Stream.{Requests, IsStream}
-use Rattle.grain_program.specs.declared.grain.GrainEnd.{GrainEnd}
+use Rattle.admin_run.specs.Terms.{CountStands, End, GrainEnd, Inlet, IsStream, Law, limit, Outlet, Prints, Requests, Takes}
 use Rattle.grain_program.specs.declared.grain.GrainEnd.TheVariants as grain_end
-use Rattle.grain_program.specs.Answering.{Prints}
-use Rattle.grain_program.specs.Taking.{Takes}
-use Rattle.cloud_serve.specs.declared.serve.End.{End}
-use Rattle.cloud_serve.specs.Served.{limit}
-use Rattle.site_caps.specs.Law.{Law}
 use Rattle.admin_run.specs.Connection.{ServesBook}
 use Rattle.admin_run.specs.Outside.{Outside, wired}
 use Rattle.admin_run.specs.Statuses.{status_by, status_of_grain, status_of_stream}

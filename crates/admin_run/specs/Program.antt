@@ -3,8 +3,7 @@ use Rattle.std.specs.Prelude.{ℕ, ◌⊎◌, List, String}
 use Rattle.std.specs.declared.alloc.Global.{Global}
 use Rattle.command_line.specs.declared.line.Line.{Line}
 use Rattle.command_line.specs.declared.line.Line.TheVariants as line
-use Rattle.command_line.specs.Words.{IsLine}
-use Rattle.site_caps.specs.Law.{Law}
+use Rattle.admin_run.specs.Terms.{IsLine, Law}
 use Rattle.admin_run.specs.Judging.{ChecksRows}
 use Rattle.admin_run.specs.Making.{Makes}
 use Rattle.admin_run.specs.Outside.{Outside, DoesNothing, TellsUsage}

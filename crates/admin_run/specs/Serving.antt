@@ -1,24 +1,7 @@
 -- What `serve` does, by its two ends.
 use Rattle.std.specs.Prelude.{◌≡◌, ℕ, ◌⊎◌, ◌++◌, List, [], ◌∷◌, Option, None, Some, map, option_map, codes, decimal}
-use Rattle.host_base.specs.Drawing.{Coming}
-use Rattle.host_base.specs.declared.digest.Digest.{Digest}
-use Rattle.host_base.specs.Outside.{Outlet}
-use Rattle.share_graph.specs.declared.event.Event.{Event}
-use Rattle.share_graph.specs.declared.state.State.{State}
-use Rattle.share_graph.specs.declared.state.Tables.{Tables}
-use Rattle.share_graph.specs.History.{replay}
-use Rattle.site_caps.specs.Law.{Law}
-use Rattle.row_tables.specs.Kept.{IsStored}
-use Rattle.desk_orders.specs.Secrets.{DrawsAll}
-use Rattle.hub_core.specs.Book.{Backing, CountsOn}
-use Rattle.hub_core.specs.Opening.{opened}
-use Rattle.shared_hub.specs.Since.{HasKept, SpawnedSince}
-use Rattle.hub_jobs.specs.Jobs.{DoneAtOnce}
-use Rattle.serve_door.specs.Doors.{Connection, Doorway, expecting}
-use Rattle.serve_door.specs.Working.{AreHired, Post, Works, all_together, with_handles}
-use Rattle.serve_door.specs.declared.serving.Stop.{Stop}
+use Rattle.admin_run.specs.Terms.{all_together, AreHired, Backing, Coming, Connection, CountsOn, Digest, DoneAtOnce, Doorway, DrawsAll, Event, expecting, HasKept, IsStored, Law, opened, Outlet, Post, replay, SpawnedSince, State, Stop, Stopped, Tables, with_handles, Works}
 use Rattle.serve_door.specs.declared.serving.Stop.TheVariants as stop
-use Rattle.serve_door.specs.declared.serving.Stopped.{Stopped}
 use Rattle.admin_run.specs.Beginning.{BeginsWith, CannotBegin, DrewLogin}
 use Rattle.admin_run.specs.Outside.{Outside, Tells}
 
@@ -78,7 +61,7 @@ pub record ServesHistory (law : Law) (start : State) (count : ℕ) (holds holds'
     : Type 0 where
   pub history : List Event
   pub stored : IsStored holds'.keeping (replay start history).tables
-  pub kept : HasKept holds holds' history
+  pub kept : HasKept start holds holds' history
   pub ends : EndsServing law start count [] history door door' out out' status
 
 -- the secrets that were drawn: the login's, where there is a first account, and then those of the orders
@@ -98,7 +81,7 @@ pub record ServesFrom (law : Law) (count : ℕ) (old new : Outside) (status : �
   pub added : List Digest
   pub logins_stay : logins (replay (opened tables) history).tables ≡ logins tables ++ added
   pub drew : DrewAll login old.holds.drawer.coming new.holds.drawer.coming
-  pub spawned : SpawnedSince old.holds.spawns new.holds.spawns history
+  pub spawned : SpawnedSince (opened tables) old.holds.spawns new.holds.spawns history
   pub counts : CountsOn old.holds new.holds
   pub ends : EndsServing law (opened tables) count (login_line login) history
       old.doorway new.doorway old.outlet new.outlet status

@@ -1,9 +1,7 @@
 -- The statuses of ends.
 use Rattle.std.specs.Prelude.{ℕ}
-use Rattle.front_http.specs.Stream.{Ending, Done, Last, Cut, Bad}
-use Rattle.grain_program.specs.declared.grain.GrainEnd.{GrainEnd}
+use Rattle.admin_run.specs.Terms.{Bad, Cut, Done, End, Ending, GrainEnd, Last}
 use Rattle.grain_program.specs.declared.grain.GrainEnd.TheVariants as grain_end
-use Rattle.cloud_serve.specs.declared.serve.End.{End}
 use Rattle.cloud_serve.specs.declared.serve.End.TheVariants as end
 
 -- the status of each end of a connection

@@ -10,6 +10,7 @@ use Rattle.share_graph.specs.History.{replay}
 use Rattle.share_graph.specs.WellFormed.{IsWellFormed}
 use Rattle.grain_supervise.specs.Spawning.{Spawns}
 use Rattle.grain_supervise.specs.declared.start.Start.{Start}
+use Rattle.host_base.specs.declared.ids.AppId.{AppId}
 use Rattle.host_base.specs.declared.ids.RunId.{RunId}
 use Rattle.desk_orders.specs.declared.reply.OrderFault.{OrderFault}
 use Rattle.desk_orders.specs.declared.reply.OrderFault.TheVariants as fault
@@ -19,7 +20,7 @@ use Rattle.desk_orders.specs.Commands.{Asked}
 use Rattle.desk_orders.specs.Secrets.{DrawsAll}
 use Rattle.site_caps.specs.Law.{Law}
 use Rattle.hub_core.specs.Book.{Book, Later, TakesNone, IsFoundFor, Placed, IsCounted, Ordered}
-use Rattle.hub_core.specs.Spawning.{Spawned, starts_by, stops_by, token_of}
+use Rattle.hub_core.specs.Spawning.{AreOfApp, Spawned, starts_by, stops_by, token_of}
 use Rattle.cloud_serve.specs.Acts.{Act, added_by, drawn_by, started_by, stopped_by, is_store, is_secrets, is_start, store_failures, secret_failures, start_failures}
 use Rattle.cloud_serve.specs.Effects.{SpawnedOf, OrderedOf}
 use Rattle.host_base.specs.Outside.{Grew}
@@ -87,7 +88,7 @@ spawned_trans a b c xs ys f h = record {
       h.starts (told ++ started_by xs) (f.starts told was)
       ∙ ap (λ (list : List Start). Some list)
       (append_assoc told (started_by xs) (started_by ys)
-      ∙ ap (λ (list : List Start). told ++ list) (sym (flat_map-append (λ (act : Act). starts_by (token_of act.order act.drawn) act.added) xs ys)));
+      ∙ ap (λ (list : List Start). told ++ list) (sym (flat_map-append (λ (act : Act). starts_by act.app (token_of act.order act.drawn) act.added) xs ys)));
   stops = λ told was.
       h.stops (told ++ stopped_by xs) (f.stops told was)
       ∙ ap (λ (list : List RunId). Some list)
@@ -116,29 +117,29 @@ ordered_trans old mid new xs ys f h =
     }
 
 -- an order as an act
-abbrev pub act_of : Asked → ℕ → Result Reply OrderFault → List (List ℕ) → List Event → Act
-act_of order place answer drawn added = record { order = order; place = place; answer = answer; drawn = drawn; added = added }
+abbrev pub act_of : Asked → ℕ → Result Reply OrderFault → List (List ℕ) → List Event → AppId → Act
+act_of order place answer drawn added app = record { order = order; place = place; answer = answer; drawn = drawn; added = added; app = app }
 
-store_one : (old new : Book) (order : Asked) (place : ℕ) (drawn : List (List ℕ)) (added : List Event) (answer : Result Reply OrderFault) → old.holds.keeping.faults ≤ new.holds.keeping.faults → IsCounted old.holds new.holds answer → Grew old.holds.keeping.faults new.holds.keeping.faults (store_failures (act_of order place answer drawn added ∷ []))
-store_one old new order place drawn added (Ok reply) less counted = λ lt. omega (arith, less)
-store_one old new order place drawn added (Err fault.Store) less counted = λ lt. omega (arith, less, counted (omega (arith, less, lt)))
-store_one old new order place drawn added (Err fault.Secrets) less counted = λ lt. omega (arith, less)
-store_one old new order place drawn added (Err fault.Start) less counted = λ lt. omega (arith, less)
-store_one old new order place drawn added (Err fault.Memory) less counted = λ lt. omega (arith, less)
+store_one : (old new : Book) (order : Asked) (place : ℕ) (drawn : List (List ℕ)) (added : List Event) (app : AppId) (answer : Result Reply OrderFault) → old.holds.keeping.faults ≤ new.holds.keeping.faults → IsCounted old.holds new.holds answer → Grew old.holds.keeping.faults new.holds.keeping.faults (store_failures (act_of order place answer drawn added app ∷ []))
+store_one old new order place drawn added app (Ok reply) less counted = λ lt. omega (arith, less)
+store_one old new order place drawn added app (Err fault.Store) less counted = λ lt. omega (arith, less, counted (omega (arith, less, lt)))
+store_one old new order place drawn added app (Err fault.Secrets) less counted = λ lt. omega (arith, less)
+store_one old new order place drawn added app (Err fault.Start) less counted = λ lt. omega (arith, less)
+store_one old new order place drawn added app (Err fault.Memory) less counted = λ lt. omega (arith, less)
 
-secret_one : (old new : Book) (order : Asked) (place : ℕ) (drawn : List (List ℕ)) (added : List Event) (answer : Result Reply OrderFault) → old.holds.drawer.faults ≤ new.holds.drawer.faults → IsCounted old.holds new.holds answer → Grew old.holds.drawer.faults new.holds.drawer.faults (secret_failures (act_of order place answer drawn added ∷ []))
-secret_one old new order place drawn added (Ok reply) less counted = λ lt. omega (arith, less)
-secret_one old new order place drawn added (Err fault.Secrets) less counted = λ lt. omega (arith, less, counted (omega (arith, less, lt)))
-secret_one old new order place drawn added (Err fault.Store) less counted = λ lt. omega (arith, less)
-secret_one old new order place drawn added (Err fault.Start) less counted = λ lt. omega (arith, less)
-secret_one old new order place drawn added (Err fault.Memory) less counted = λ lt. omega (arith, less)
+secret_one : (old new : Book) (order : Asked) (place : ℕ) (drawn : List (List ℕ)) (added : List Event) (app : AppId) (answer : Result Reply OrderFault) → old.holds.drawer.faults ≤ new.holds.drawer.faults → IsCounted old.holds new.holds answer → Grew old.holds.drawer.faults new.holds.drawer.faults (secret_failures (act_of order place answer drawn added app ∷ []))
+secret_one old new order place drawn added app (Ok reply) less counted = λ lt. omega (arith, less)
+secret_one old new order place drawn added app (Err fault.Secrets) less counted = λ lt. omega (arith, less, counted (omega (arith, less, lt)))
+secret_one old new order place drawn added app (Err fault.Store) less counted = λ lt. omega (arith, less)
+secret_one old new order place drawn added app (Err fault.Start) less counted = λ lt. omega (arith, less)
+secret_one old new order place drawn added app (Err fault.Memory) less counted = λ lt. omega (arith, less)
 
-start_one : (old new : Book) (order : Asked) (place : ℕ) (drawn : List (List ℕ)) (added : List Event) (answer : Result Reply OrderFault) → old.holds.spawns.faults ≤ new.holds.spawns.faults → IsCounted old.holds new.holds answer → Grew old.holds.spawns.faults new.holds.spawns.faults (start_failures (act_of order place answer drawn added ∷ []))
-start_one old new order place drawn added (Ok reply) less counted = λ lt. omega (arith, less)
-start_one old new order place drawn added (Err fault.Start) less counted = λ lt. omega (arith, less, counted (omega (arith, less, lt)))
-start_one old new order place drawn added (Err fault.Store) less counted = λ lt. omega (arith, less)
-start_one old new order place drawn added (Err fault.Secrets) less counted = λ lt. omega (arith, less)
-start_one old new order place drawn added (Err fault.Memory) less counted = λ lt. omega (arith, less)
+start_one : (old new : Book) (order : Asked) (place : ℕ) (drawn : List (List ℕ)) (added : List Event) (app : AppId) (answer : Result Reply OrderFault) → old.holds.spawns.faults ≤ new.holds.spawns.faults → IsCounted old.holds new.holds answer → Grew old.holds.spawns.faults new.holds.spawns.faults (start_failures (act_of order place answer drawn added app ∷ []))
+start_one old new order place drawn added app (Ok reply) less counted = λ lt. omega (arith, less)
+start_one old new order place drawn added app (Err fault.Start) less counted = λ lt. omega (arith, less, counted (omega (arith, less, lt)))
+start_one old new order place drawn added app (Err fault.Store) less counted = λ lt. omega (arith, less)
+start_one old new order place drawn added app (Err fault.Secrets) less counted = λ lt. omega (arith, less)
+start_one old new order place drawn added app (Err fault.Memory) less counted = λ lt. omega (arith, less)
 
 -- Where the history grew by no more than what an order added, it is that: the entries before are those that were seen.
 alone_one : (seen now before added rest more : List Event) → now ≡ (before ++ added) ++ rest → now ≡ seen ++ more → length seen ≤ length before → length now ≡ length seen + length added → now ≡ seen ++ added
@@ -150,35 +151,35 @@ alone_one seen now before added rest more is also less long =
     whole ∙ ap (λ (zs : List Event). zs ++ added) same
 
 -- what the spawner was told of one order
-spawned_one : (old new : Spawns) (order : Asked) (place : ℕ) (answer : Result Reply OrderFault) (drawn : List (List ℕ)) (added : List Event) → Spawned old new (token_of order drawn) added → SpawnedOf old new (act_of order place answer drawn added ∷ [])
-spawned_one old new order place answer drawn added is = record {
-  starts = λ told was. is.starts told was ∙ ap (λ (list : List Start). Some (told ++ list)) (sym (append-nil (starts_by (token_of order drawn) added)));
+spawned_one : (old new : Spawns) (order : Asked) (place : ℕ) (answer : Result Reply OrderFault) (drawn : List (List ℕ)) (added : List Event) (app : AppId) → Spawned old new app (token_of order drawn) added → SpawnedOf old new (act_of order place answer drawn added app ∷ [])
+spawned_one old new order place answer drawn added app is = record {
+  starts = λ told was. is.starts told was ∙ ap (λ (list : List Start). Some (told ++ list)) (sym (append-nil (starts_by app (token_of order drawn) added)));
   stops = λ told was. is.stops told was ∙ ap (λ (list : List RunId). Some (told ++ list)) (sym (append-nil (stops_by added)));
 }
 
 -- one order
-pub ordered_one : (old new : Book) (order : Asked) (place : ℕ) (answer : Result Reply OrderFault) → (o : Ordered old new order place answer) → OrderedOf old new (act_of order place answer o.drawn o.added ∷ [])
+pub ordered_one : (old new : Book) (order : Asked) (place : ℕ) (answer : Result Reply OrderFault) → (o : Ordered old new order place answer) → OrderedOf old new (act_of order place answer o.drawn o.added o.app ∷ [])
 ordered_one old new order place answer o =
     let placed = o.placed in
-    let added : added_by (act_of order place answer o.drawn o.added ∷ []) ≡ o.added = append-nil o.added in
+    let added : added_by (act_of order place answer o.drawn o.added o.app ∷ []) ≡ o.added = append-nil o.added in
     let all : length new.seen ≡ length placed.before + length o.added + length placed.rest = ap length placed.seen ∙ length-append (placed.before ++ o.added) placed.rest ∙ ap (λ (n : ℕ). n + length placed.rest) (length-append placed.before o.added) in
     let less : length old.seen ≤ length placed.before = omega (arith, placed.low_is, placed.place_is) in
     record {
       later = o.later;
       accepted = o.accepted ∙ ap (λ (zs : List Event). old.accepted + length zs) (sym added);
       draws = subst (λ (ds : List (List ℕ)). DrawsAll old.holds.drawer.coming new.holds.drawer.coming ds) (sym (append-nil o.drawn)) o.draws;
-      spawned = spawned_one old.holds.spawns new.holds.spawns order place answer o.drawn o.added o.spawned;
-      store = store_one old new order place o.drawn o.added answer o.later.counts.store o.counted;
-      secrets = secret_one old new order place o.drawn o.added answer o.later.counts.secrets o.counted;
-      starts = start_one old new order place o.drawn o.added answer o.later.counts.starts o.counted;
+      spawned = spawned_one old.holds.spawns new.holds.spawns order place answer o.drawn o.added o.app o.spawned;
+      store = store_one old new order place o.drawn o.added o.app answer o.later.counts.store o.counted;
+      secrets = secret_one old new order place o.drawn o.added o.app answer o.later.counts.secrets o.counted;
+      starts = start_one old new order place o.drawn o.added o.app answer o.later.counts.starts o.counted;
       grows = omega (arith, all, less, ap length added);
       alone = λ same. alone_one old.seen new.seen placed.before o.added placed.rest o.later.more placed.seen o.later.seen less (omega (arith, same, ap length added)) ∙ ap (λ (zs : List Event). old.seen ++ zs) (sym added);
     }
 
 -- what stood at a place stands there later too
-pub placed_later : (old new : Book) (low lower : ℕ) (order : Asked) (place : ℕ) (answer : Result Reply OrderFault) (drawn : List (List ℕ)) (added : List Event) → Later old new → lower ≤ low
-    → Placed low old order place answer drawn added → Placed lower new order place answer drawn added
-placed_later old new low lower order place answer drawn added later less p = record {
+pub placed_later : (old new : Book) (low lower : ℕ) (order : Asked) (place : ℕ) (answer : Result Reply OrderFault) (drawn : List (List ℕ)) (added : List Event) (app : AppId) → Later old new → lower ≤ low
+    → Placed low old order place answer drawn added app → Placed lower new order place answer drawn added app
+placed_later old new low lower order place answer drawn added app later less p = record {
   before = p.before;
   rest = p.rest ++ later.more;
   seen = later.seen ∙ ap (λ (xs : List Event). xs ++ later.more) p.seen ∙ append_assoc (p.before ++ added) p.rest later.more;
@@ -190,7 +191,8 @@ placed_later old new low lower order place answer drawn added later less p = rec
       (subst (λ (start : State). IsFoundFor old.law (replay start p.before) order answer p.found) (sym later.start) p.found_is);
   lawful = subst (λ (law : Law). IsAnswer law (replay new.start p.before) place p.found order answer drawn added) (sym later.law)
       (subst (λ (start : State). IsAnswer old.law (replay start p.before) place p.found order answer drawn added) (sym later.start) p.lawful);
+  apps = subst (λ (start : State). AreOfApp (replay start p.before) app added) (sym later.start) p.apps;
 }
 
-pub placed_within : (book : Book) (low : ℕ) (order : Asked) (place : ℕ) (answer : Result Reply OrderFault) (drawn : List (List ℕ)) (added : List Event) → Placed low book order place answer drawn added → place + length added ≤ length book.seen
-placed_within book low order place answer drawn added p = omega (arith, ap length p.seen, length-append (p.before ++ added) p.rest, length-append p.before added, p.place_is)
+pub placed_within : (book : Book) (low : ℕ) (order : Asked) (place : ℕ) (answer : Result Reply OrderFault) (drawn : List (List ℕ)) (added : List Event) (app : AppId) → Placed low book order place answer drawn added app → place + length added ≤ length book.seen
+placed_within book low order place answer drawn added app p = omega (arith, ap length p.seen, length-append (p.before ++ added) p.rest, length-append p.before added, p.place_is)

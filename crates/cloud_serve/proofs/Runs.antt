@@ -29,7 +29,7 @@ use Rattle.cloud_serve.proofs.Orders.{ordered_refl, ordered_trans, placed_later,
 -- an order that was made stays so when more is seen
 made_later : (old new : Book) → Later old new → (low : ℕ) (order : Asked) (act : Act) → IsMade old low order act → IsMade new low order act
 made_later old new later low order act m =
-    record { order_is = m.order_is; placed = placed_later old new low low order act.place act.answer act.drawn act.added later (omega arith) m.placed }
+    record { order_is = m.order_is; placed = placed_later old new low low order act.place act.answer act.drawn act.added act.app later (omega arith) m.placed }
 
 abbrev makes_later : (old new : Book) → Later old new → (low : ℕ) (order : Asked) (turn : Turn) → MakesOne old low order turn → MakesOne new low order turn
 makes_later old new later low order turn m = record { act = m.act; acts_are = m.acts_are; made = made_later old new later low order m.act m.made; ends = m.ends }
@@ -46,7 +46,7 @@ both_later old new later low first second turn m = record {
 }
 
 made_within : (book : Book) (low : ℕ) (order : Asked) (act : Act) (turn : Turn) → IsMade book low order act → EndsWith act turn → turn.reached ≤ length book.seen
-made_within book low order act turn m ends = omega (arith, ends.reached_is, placed_within book low order act.place act.answer act.drawn act.added m.placed)
+made_within book low order act turn m ends = omega (arith, ends.reached_is, placed_within book low order act.place act.answer act.drawn act.added act.app m.placed)
 
 keyed_later : (old new : Book) → Later old new → (low : ℕ) (key : Key) (passed : Request) (turn : Turn) → IsKeyed old low key passed turn → IsKeyed new low key passed turn
 keyed_later old new later low key passed turn is = record {

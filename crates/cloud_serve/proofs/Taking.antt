@@ -201,13 +201,13 @@ abbrev turn_with : (request : Request) (acts : List Act) (act : Act) → List �
 turn_with request acts act text = record { request = request; place = act.place; reached = past act; asked = []; acts = acts; answer = text }
 
 made_here : (old new last : Book) (low : ℕ) (order : Asked) (place : ℕ) (answer : Result Reply OrderFault) → low ≤ length old.seen → Later new last → (o : Ordered old new order place answer)
-    → IsMade last low order (act_of order place answer o.drawn o.added)
-made_here old new last low order place answer less later o = record { order_is = refl; placed = placed_later new last (length old.seen) low order place answer o.drawn o.added later less o.placed }
+    → IsMade last low order (act_of order place answer o.drawn o.added o.app)
+made_here old new last low order place answer less later o = record { order_is = refl; placed = placed_later new last (length old.seen) low order place answer o.drawn o.added o.app later less o.placed }
 
 abbrev makes_one : (old new : Book) (low : ℕ) (request : Request) (order : Asked) (place : ℕ) (answer : Result Reply OrderFault) (text : List ℕ) → low ≤ length old.seen → (o : Ordered old new order place answer)
-    → MakesOne new low order (turn_with request (act_of order place answer o.drawn o.added ∷ []) (act_of order place answer o.drawn o.added) text)
+    → MakesOne new low order (turn_with request (act_of order place answer o.drawn o.added o.app ∷ []) (act_of order place answer o.drawn o.added o.app) text)
 makes_one old new low request order place answer text less o = record {
-  act = act_of order place answer o.drawn o.added;
+  act = act_of order place answer o.drawn o.added o.app;
   acts_are = refl;
   made = made_here old new new low order place answer less (later_refl new) o;
   ends = record { place_is = refl; reached_is = refl; unasked = refl };
@@ -217,7 +217,7 @@ makes_one old new low request order place answer text less o = record {
 pub answers_ordered : (old new : Book) (line : Line) (counted low last : ℕ) (request : Request) (order : Asked) (place : ℕ) (answer : Result Reply OrderFault) (text : List ℕ) → low ≤ length old.seen → Shows request (showing.Wants order)
     → Ordered old new order place answer → AnswersOrder answer (wants_head request) text → TookTurn old new line line counted counted low last request place text
 answers_ordered old new line counted low last request order place answer text less r o is =
-    let act : Act = act_of order place answer o.drawn o.added in
+    let act : Act = act_of order place answer o.drawn o.added o.app in
     record {
       turn = turn_with request (act ∷ []) act text;
       request_is = refl;
@@ -233,7 +233,7 @@ answers_ordered old new line counted low last request order place answer text le
 pub breaks_ordered : (old new : Book) (line : Line) (counted low : ℕ) (request : Request) (order : Asked) (place : ℕ) (answer : Result Reply OrderFault) → low ≤ length old.seen → Shows request (showing.Wants order)
     → Ordered old new order place answer → BreaksOff old new line line counted counted low request
 breaks_ordered old new line counted low request order place answer less r o =
-    let act : Act = act_of order place answer o.drawn o.added in
+    let act : Act = act_of order place answer o.drawn o.added o.app in
     record {
       turn = turn_with request (act ∷ []) act [];
       request_is = refl;
@@ -247,7 +247,7 @@ breaks_ordered old new line counted low request order place answer less r o =
 pub answers_stopped : (old new : Book) (line : Line) (counted low last : ℕ) (request : Request) (first second : Asked) (place : ℕ) (answer : Result Reply OrderFault) (text : List ℕ) → low ≤ length old.seen
     → Shows request (showing.Opens first second) → Ordered old new first place answer → is_done answer ≡ false → AnswersOrder answer (wants_head request) text → TookTurn old new line line counted counted low last request place text
 answers_stopped old new line counted low last request first second place answer text less r o undone is =
-    let act : Act = act_of first place answer o.drawn o.added in
+    let act : Act = act_of first place answer o.drawn o.added o.app in
     record {
       turn = turn_with request (act ∷ []) act text;
       request_is = refl;
@@ -263,7 +263,7 @@ answers_stopped old new line counted low last request first second place answer 
 pub breaks_stopped : (old new : Book) (line : Line) (counted low : ℕ) (request : Request) (first second : Asked) (place : ℕ) (answer : Result Reply OrderFault) → low ≤ length old.seen
     → Shows request (showing.Opens first second) → Ordered old new first place answer → BreaksOff old new line line counted counted low request
 breaks_stopped old new line counted low request first second place answer less r o =
-    let act : Act = act_of first place answer o.drawn o.added in
+    let act : Act = act_of first place answer o.drawn o.added o.app in
     record {
       turn = turn_with request (act ∷ []) act [];
       request_is = refl;
@@ -277,28 +277,28 @@ module _ (old mid new : Book) (low : ℕ) (request : Request) (first second : As
     (f : Ordered old mid first before done) (o : Ordered mid new second place answer) where
   -- both orders, one after the other
   abbrev both : List Act
-  both = act_of first before done f.drawn f.added ∷ act_of second place answer o.drawn o.added ∷ []
+  both = act_of first before done f.drawn f.added f.app ∷ act_of second place answer o.drawn o.added o.app ∷ []
 
-  abbrev makes_both : (text : List ℕ) → is_done done ≡ true → MakesBoth new low first second (turn_with request both (act_of second place answer o.drawn o.added) text)
+  abbrev makes_both : (text : List ℕ) → is_done done ≡ true → MakesBoth new low first second (turn_with request both (act_of second place answer o.drawn o.added o.app) text)
   makes_both text is = record {
-    before = act_of first before done f.drawn f.added;
-    act = act_of second place answer o.drawn o.added;
+    before = act_of first before done f.drawn f.added f.app;
+    act = act_of second place answer o.drawn o.added o.app;
     acts_are = refl;
     first_made = made_here old mid new low first before done less o.later f;
     done = is;
-    made = made_here mid new new (before + length f.added) second place answer (placed_within mid (length old.seen) first before done f.drawn f.added f.placed) (later_refl new) o;
+    made = made_here mid new new (before + length f.added) second place answer (placed_within mid (length old.seen) first before done f.drawn f.added f.app f.placed) (later_refl new) o;
     ends = record { place_is = refl; reached_is = refl; unasked = refl };
   }
 
   ordered_both : OrderedOf old new both
-  ordered_both = ordered_trans old mid new (act_of first before done f.drawn f.added ∷ []) (act_of second place answer o.drawn o.added ∷ [])
+  ordered_both = ordered_trans old mid new (act_of first before done f.drawn f.added f.app ∷ []) (act_of second place answer o.drawn o.added o.app ∷ [])
       (ordered_one old mid first before done f) (ordered_one mid new second place answer o)
 
   -- the first of two orders was carried out, and the second answered
   pub answers_opened : (line : Line) (counted last : ℕ) (text : List ℕ) → Shows request (showing.Opens first second) → is_done done ≡ true → AnswersOrder answer (wants_head request) text
       → TookTurn old new line line counted counted low last request place text
   answers_opened line counted last text r is text_is = record {
-    turn = turn_with request both (act_of second place answer o.drawn o.added) text;
+    turn = turn_with request both (act_of second place answer o.drawn o.added o.app) text;
     request_is = refl;
     place_is = refl;
     answer_is = refl;
@@ -311,7 +311,7 @@ module _ (old mid new : Book) (low : ℕ) (request : Request) (first second : As
   -- both were given, and memory ran out
   pub breaks_opened : (line : Line) (counted : ℕ) → Shows request (showing.Opens first second) → is_done done ≡ true → BreaksOff old new line line counted counted low request
   breaks_opened line counted r is = record {
-    turn = turn_with request both (act_of second place answer o.drawn o.added) [];
+    turn = turn_with request both (act_of second place answer o.drawn o.added o.app) [];
     request_is = refl;
     begun = inr (showing.Opens first second, r, inr (makes_both [] is));
     asked_of = asked_none line;

@@ -1,22 +1,18 @@
 -- The orders that a request made.
 use Rattle.std.specs.Prelude.{ℕ, Bool, true, false, List, Result, Err, count_by}
 use Rattle.std.specs.List.{flat_map}
-use Rattle.share_graph.specs.declared.event.Event.{Event}
-use Rattle.desk_orders.specs.declared.reply.OrderFault.{OrderFault}
+use Rattle.cloud_serve.specs.Terms.{AppId, Asked, Event, OrderFault, Reply, RunId, Start, starts_by, stops_by, token_of}
 use Rattle.desk_orders.specs.declared.reply.OrderFault.TheVariants as fault
-use Rattle.desk_orders.specs.declared.reply.Reply.{Reply}
-use Rattle.desk_orders.specs.Commands.{Asked}
-use Rattle.grain_supervise.specs.declared.start.Start.{Start}
-use Rattle.host_base.specs.declared.ids.RunId.{RunId}
-use Rattle.hub_core.specs.Spawning.{starts_by, stops_by, token_of}
 
--- An order with all that came of it: its place, the answer, the secrets drawn for it, and what it added, one entry or none.
+-- An order with all that came of it: its place, the answer, the secrets drawn for it, what it added, one entry or none, and
+-- the application whose program a run was started by.
 pub record Act : Type 0 where
   pub order : Asked
   pub place : ℕ
   pub answer : Result Reply OrderFault
   pub drawn : List (List ℕ)
   pub added : List Event
+  pub app : AppId
 
 abbrev pub added_by : List Act → List Event
 added_by acts = flat_map (λ act. act.added) acts
@@ -26,7 +22,7 @@ drawn_by acts = flat_map (λ act. act.drawn) acts
 
 -- the starts and the stops that what was added wants, in their order
 abbrev pub started_by : List Act → List Start
-started_by acts = flat_map (λ act. starts_by (token_of act.order act.drawn) act.added) acts
+started_by acts = flat_map (λ act. starts_by act.app (token_of act.order act.drawn) act.added) acts
 
 abbrev pub stopped_by : List Act → List RunId
 stopped_by acts = flat_map (λ act. stops_by act.added) acts

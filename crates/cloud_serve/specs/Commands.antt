@@ -1,17 +1,9 @@
 -- What the routes of the desk and of running grains, and their bodies, ask for.
 use Rattle.std.specs.Prelude.{ℕ, true, false, List, Option, Some, None, Result, Ok, Err}
-use Rattle.host_base.specs.declared.digest.Digest.{Digest}
-use Rattle.host_base.specs.declared.ids.GrainId.{GrainId}
-use Rattle.share_graph.specs.declared.desk.Caller.{Caller}
+use Rattle.cloud_serve.specs.Terms.{account_body, BodyFault, Caller, child_body, choose_body, claim_body, Command, Digest, grain_body, GrainId, manifest_body, mark_body, plain_body, query_body, redeem_body, Route, save_body, share_body, Showing, tab_body, token_body}
 use Rattle.share_graph.specs.declared.desk.Caller.TheVariants as caller
-use Rattle.desk_bodies.specs.Bodies.{account_body, child_body, grain_body, manifest_body, mark_body, plain_body, redeem_body, share_body, tab_body, token_body}
-use Rattle.desk_bodies.specs.Bodies.{choose_body, claim_body, query_body, save_body}
-use Rattle.desk_bodies.specs.declared.fault.BodyFault.{BodyFault}
-use Rattle.desk_orders.specs.declared.order.Command.{Command}
 use Rattle.desk_orders.specs.declared.order.Command.TheVariants as command
-use Rattle.front_http.specs.declared.route.Route.{Route}
 use Rattle.front_http.specs.declared.route.Route.TheVariants as route
-use Rattle.cloud_serve.specs.declared.showing.Showing.{Showing}
 use Rattle.cloud_serve.specs.declared.showing.Showing.TheVariants as showing
 
 -- a caller wants one command

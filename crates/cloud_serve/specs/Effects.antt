@@ -1,12 +1,6 @@
 -- What a connection does to the link and the desk.
 use Rattle.std.specs.Prelude.{◌≡◌, ℕ, ◌+◌, ◌≤◌, ◌++◌, List, Some, count_by, is_none, length}
-use Rattle.host_base.specs.Outside.{Grew}
-use Rattle.grain_supervise.specs.declared.ask.Ask.{Ask}
-use Rattle.grain_supervise.specs.Line.{Line}
-use Rattle.grain_supervise.specs.Spawning.{Spawns}
-use Rattle.desk_orders.specs.Secrets.{DrawsAll}
-use Rattle.hub_core.specs.Book.{Book, Later}
-use Rattle.hub_core.specs.Spawning.{WasTold}
+use Rattle.cloud_serve.specs.Terms.{Ask, Book, DrawsAll, Grew, Later, Line, Spawns, WasTold}
 use Rattle.cloud_serve.specs.Acts.{Act, added_by, drawn_by, started_by, stopped_by, store_failures, secret_failures, start_failures}
 
 -- how many asks failed
@@ -19,8 +13,8 @@ pub record AskedOf (before after : Line) (asked : List Ask) : Type 0 where
   pub counts : before.faults ≤ after.faults
   pub counted : Grew before.faults after.faults (failures asked)
 
--- The spawner was told what these orders added and no more: for each run that was started, one start whose token is the
--- text of the secret that was drawn, and for each that was stopped, one stop.
+-- The spawner was told what these orders added and no more: for each run that was started, one start of its grain's
+-- application, whose token is the text of the secret that was drawn, and for each that was stopped, one stop.
 abbrev pub SpawnedOf : Spawns → Spawns → List Act → Type 0
 SpawnedOf before after acts = WasTold before after (started_by acts) (stopped_by acts)
 

@@ -1,7 +1,8 @@
 pub mod Acts
 pub mod Commands
-pub mod Routes
-pub mod Turns
 pub mod Effects
-pub mod Served
 pub mod Inner
+pub mod Routes
+pub mod Served
+pub mod Terms
+pub mod Turns

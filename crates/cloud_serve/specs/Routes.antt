@@ -1,14 +1,9 @@
 -- What a request shows, and so how it is answered.
 use Rattle.std.specs.Prelude.{◌≡◌, ◌⊎◌, ℕ, List, ◌∷◌, Option, Some, None, Result, Ok, Err}
-use Rattle.host_base.specs.declared.digest.Digest.{Digest}
+use Rattle.cloud_serve.specs.Terms.{BodyFault, Digest, IsRoute, IsUse, Request, Route, Showing}
 use Rattle.host_base.specs.declared.key.Key.TheVariants as key
-use Rattle.host_base.specs.declared.request.Request.{Request}
-use Rattle.front_http.specs.declared.route.Route.{Route}
 use Rattle.front_http.specs.declared.route.Route.TheVariants as route
-use Rattle.front_http.specs.Routes.{IsRoute, IsUse}
-use Rattle.desk_bodies.specs.declared.fault.BodyFault.{BodyFault}
 use Rattle.desk_bodies.specs.declared.fault.BodyFault.TheVariants as fault
-use Rattle.cloud_serve.specs.declared.showing.Showing.{Showing}
 use Rattle.cloud_serve.specs.declared.showing.Showing.TheVariants as showing
 use Rattle.cloud_serve.specs.Commands.{asked_at}
 

@@ -1,18 +1,10 @@
 -- What serving a connection comes to: its turns, what was in hand at the end, and the table of ends.
 use Rattle.std.specs.Prelude.{◌≡◌, ◌⊎◌, ℕ, ◌<◌, ◌++◌, true, false, List, [], ◌∷◌, Option, Some, length, take, map}
 use Rattle.std.specs.List.{flat_map}
-use Rattle.host_base.specs.Outside.{Inlet, Outlet, Rose}
-use Rattle.host_base.specs.declared.request.Request.{Request}
-use Rattle.front_http.specs.declared.refusal.Refusal.{Refusal}
-use Rattle.front_http.specs.Stream.{Requests, Ending, Done, Last, Cut, Bad, IsStream}
-use Rattle.grain_supervise.specs.declared.ask.Ask.{Ask}
-use Rattle.grain_supervise.specs.Line.{Line}
-use Rattle.cloud_serve.specs.declared.serve.End.{End}
+use Rattle.cloud_serve.specs.Terms.{Ask, Bad, Book, Cut, Done, End, Ending, Inlet, IsStream, Last, Line, memory_text, Outlet, Refusal, refusal_status, refused_text, Request, Requests, Rose, wants_head}
 use Rattle.cloud_serve.specs.declared.serve.End.TheVariants as end
-use Rattle.hub_core.specs.Book.{Book}
 use Rattle.cloud_serve.specs.Acts.{Act}
 use Rattle.cloud_serve.specs.Effects.{AskedOf, OrderedOf}
-use Rattle.reply_texts.specs.Texts.{wants_head, refusal_status, refused_text, memory_text}
 use Rattle.cloud_serve.specs.Turns.{Turn, IsLawful, IsBegun, AreLawful}
 
 -- what the source, the sink and the link of a connection tell

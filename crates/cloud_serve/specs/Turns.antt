@@ -1,40 +1,18 @@
 -- What one request comes to: its turn, and when a turn is lawful.
 use Rattle.std.specs.Prelude.{◌≡◌, ◌≢◌, ℕ, ◌+◌, ◌⊎◌, Bool, true, false, List, [], ◌∷◌, Option, Some, None, Result, Ok, Err, length, codes}
-use Rattle.host_base.specs.declared.key.Key.{Key}
-use Rattle.host_base.specs.declared.permit.Permit.{Permit}
-use Rattle.host_base.specs.declared.request.Request.{Request}
+use Rattle.cloud_serve.specs.Terms.{Ask, Asked, Book, command_text, denial_text, done_text, fault_text, GivesText, grain_text, Handed, Judged, Key, Law, Made, options_text, OrderFault, own_text, Permit, Placed, RelayFault, Relays, Reply, Request, Showing, site_text, SiteFault, Verdict, wants_head}
 use Rattle.host_base.specs.declared.verdict.Denial.TheVariants as denial
-use Rattle.host_base.specs.declared.verdict.Verdict.{Verdict}
 use Rattle.host_base.specs.declared.verdict.Verdict.TheVariants as verdict
-use Rattle.bridge_headers.specs.Text.{grain_text}
-use Rattle.bridge_headers.specs.Relay.{Relays}
-use Rattle.bridge_headers.specs.declared.fault.RelayFault.{RelayFault}
 use Rattle.bridge_headers.specs.declared.fault.RelayFault.TheVariants as fault
-use Rattle.grain_supervise.specs.declared.ask.Ask.{Ask}
-use Rattle.cloud_serve.specs.declared.showing.Showing.{Showing}
 use Rattle.cloud_serve.specs.declared.showing.Showing.TheVariants as showing
-use Rattle.share_graph.specs.declared.desk.Made.{Made}
 use Rattle.share_graph.specs.declared.refusal.Refusal.TheVariants as refusal
-use Rattle.desk_orders.specs.declared.reply.OrderFault.{OrderFault}
 use Rattle.desk_orders.specs.declared.reply.OrderFault.TheVariants as order_fault
-use Rattle.desk_orders.specs.declared.reply.Reply.{Reply}
 use Rattle.desk_orders.specs.declared.reply.Reply.TheVariants as reply
-use Rattle.desk_orders.specs.Commands.{Asked}
-use Rattle.site_caps.specs.Law.{Law}
-use Rattle.site_caps.specs.declared.fault.SiteFault.{SiteFault}
 use Rattle.site_caps.specs.declared.fault.SiteFault.TheVariants as site_fault
-use Rattle.hub_core.specs.Book.{Book, Judged, Placed}
-use Rattle.site_caps.specs.Answering.{GivesText}
-use Rattle.reply_texts.specs.declared.done.Handed.{Handed}
 use Rattle.reply_texts.specs.declared.done.Handed.TheVariants as handed
 use Rattle.reply_texts.specs.declared.faults.OwnFault.TheVariants as own
-use Rattle.reply_texts.specs.Done.{done_text}
-use Rattle.reply_texts.specs.Faults.{fault_text}
-use Rattle.reply_texts.specs.Options.{options_text}
-use Rattle.reply_texts.specs.Refusals.{command_text}
 use Rattle.cloud_serve.specs.Acts.{Act}
 use Rattle.cloud_serve.specs.Routes.{Shows}
-use Rattle.reply_texts.specs.Texts.{wants_head, own_text, denial_text, site_text}
 
 -- One request and all that came of it: its place in the history, how far the connection has counted the history then,
 -- what was asked of the link, the orders that it made, and the answer.
@@ -127,7 +105,7 @@ is_done _ = false
 -- THE ORDER is made: its answer is lawful at its place, and what it adds is the entry at that place.
 pub record IsMade (book : Book) (low : ℕ) (order : Asked) (act : Act) : Type 0 where
   pub order_is : act.order ≡ order
-  pub placed : Placed low book order act.place act.answer act.drawn act.added
+  pub placed : Placed low book order act.place act.answer act.drawn act.added act.app
 
 -- how far the connection counts the history once an order was made
 abbrev pub past : Act → ℕ

@@ -118,7 +118,8 @@ pub fn compare_told(
     };
     let mut came = Vec::new(alloc);
     for start in spawner.starts() {
-        let line = format!(in alloc; "start {} {} ", start.run.0, start.grain.0)?;
+        let (run, grain, app) = (start.run.0, start.grain.0, start.app.0);
+        let line = format!(in alloc; "start {run} {grain} {app} ")?;
         came.extend_from_slice(line.as_bytes())?;
         came.extend_from_slice(start.token.as_slice())?;
         came.extend_from_slice(b"\r\n")?;

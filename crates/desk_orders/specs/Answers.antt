@@ -1,18 +1,10 @@
 -- THE LAWFUL ANSWERS of an order, once for all commands.
 use Rattle.std.specs.Prelude.{◌≡◌, ◌⊎◌, ℕ, Bool, false, List, [], ◌∷◌, Option, Some, None, Result, Ok, Err}
-use Rattle.desk_base.specs.Terms.{Event, IsOfTables, Made, Refusal, State}
-use Rattle.share_graph.specs.History.{IsOfRuns}
-use Rattle.desk_base.specs.Accepting.{Ready, WantsSecret, Accepts, IsRefusal}
-use Rattle.desk_base.specs.Made.{nothing_made}
-use Rattle.desk_base.specs.Steps.{Keeps}
-use Rattle.desk_orders.specs.declared.order.Command.{Command}
+use Rattle.desk_orders.specs.Terms.{Accepts, Command, Event, IsOfRuns, IsOfTables, IsRefusal, Keeps, Law, Made, nothing_made, OrderFault, Ready, Refusal, Reply, State, WantsSecret}
 use Rattle.desk_orders.specs.Commands.{Asked, lists, secret_use}
-use Rattle.desk_orders.specs.declared.reply.OrderFault.{OrderFault}
 use Rattle.desk_orders.specs.declared.reply.OrderFault.TheVariants as fault
-use Rattle.desk_orders.specs.declared.reply.Reply.{Reply}
 use Rattle.desk_orders.specs.declared.reply.Reply.TheVariants as reply
 use Rattle.desk_orders.specs.Orders.{RowOf}
-use Rattle.site_caps.specs.Law.{Law}
 use Rattle.desk_orders.specs.Sites.{ListsBy}
 use Rattle.desk_orders.specs.Secrets.{secret_text, shown_by, text_digest}
 

@@ -1,11 +1,7 @@
 -- What there is to know of commands beside their rows.
 use Rattle.std.specs.Prelude.{◌≡◌, Bool, true, false, Option, Some, None, is_some}
-use Rattle.desk_base.specs.Terms.{Caller, is_handle, IsSoundManifest}
-use Rattle.desk_base.specs.Calling.{ByLogin, ByBearer, ByEither, ByRun}
-use Rattle.session_desk.specs.Calling.{NamesGrain}
-use Rattle.desk_orders.specs.declared.order.Command.{Command}
+use Rattle.desk_orders.specs.Terms.{ByBearer, ByEither, ByLogin, ByRun, Caller, Command, is_handle, IsSoundManifest, NamesGrain, SecretUse}
 use Rattle.desk_orders.specs.declared.order.Command.TheVariants as command
-use Rattle.desk_orders.specs.declared.secrets.SecretUse.{SecretUse}
 use Rattle.desk_orders.specs.declared.secrets.SecretUse.TheVariants as secret_uses
 
 -- a caller's command

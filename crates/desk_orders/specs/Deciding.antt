@@ -1,11 +1,6 @@
 -- What is decided of an order before anything outside is asked.
 use Rattle.std.specs.Prelude.{ℕ}
-use Rattle.desk_base.specs.Terms.{Digest, EventFits, IsUnused, State}
-use Rattle.desk_base.specs.Accepting.{Ready}
-use Rattle.desk_base.specs.Fitting.{StartsNoRun}
-use Rattle.desk_base.specs.Outcomes.{with_digest, draft_step}
-use Rattle.desk_base.specs.Steps.{Step, Refuses, Keeps, Makes, Plain}
-use Rattle.desk_orders.specs.declared.deciding.Decision.{Decision}
+use Rattle.desk_orders.specs.Terms.{Decision, Digest, draft_step, EventFits, IsUnused, Keeps, Makes, Plain, Ready, Refuses, StartsNoRun, State, Step, with_digest}
 use Rattle.desk_orders.specs.declared.deciding.Decision.TheVariants as decision
 
 -- by the row of its command, at n entries: what is ready

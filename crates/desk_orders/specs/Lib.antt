@@ -1,7 +1,8 @@
+pub mod Answers
 pub mod Commands
+pub mod Deciding
+pub mod Listing
 pub mod Orders
 pub mod Secrets
 pub mod Sites
-pub mod Listing
-pub mod Deciding
-pub mod Answers
+pub mod Terms

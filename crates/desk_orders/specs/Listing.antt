@@ -1,13 +1,9 @@
 -- An aid for the contracts of the functions that list what may be chosen: the row's answer, and the list, for an order that asks.
 use Rattle.std.specs.Prelude.{List, None, Result, Ok, Err}
-use Rattle.desk_base.specs.Terms.{DeskFault, State}
+use Rattle.desk_orders.specs.Terms.{DeskFault, Keeps, Law, Listed, nothing_made, Refuses, State}
 use Rattle.share_graph.specs.declared.desk.DeskFault.TheVariants as fault
-use Rattle.desk_base.specs.Made.{nothing_made}
-use Rattle.desk_base.specs.Steps.{Refuses, Keeps}
-use Rattle.saved_refs.specs.declared.listed.Listed.{Listed}
 use Rattle.desk_orders.specs.Commands.{Asked}
 use Rattle.desk_orders.specs.Orders.{RowOf}
-use Rattle.site_caps.specs.Law.{Law}
 use Rattle.desk_orders.specs.Sites.{ListsBy}
 
 abbrev pub IsListed : Law → State → Asked → Result (List Listed) DeskFault → Type 0

@@ -1,13 +1,6 @@
 -- What the machine makes of an order: by the row of its command. Nothing above this definition speaks of a command.
 use Rattle.std.specs.Prelude.{Bool, true, false, Option}
-use Rattle.desk_base.specs.Terms.{Caller, State}
-use Rattle.account_desk.specs.Commands.{AddAccount, SetAdmin, SetEnabled, AddApp, NewGrain, Trash}
-use Rattle.session_desk.specs.Commands.{StartRun, StopRun, OpenSession, CloseSession}
-use Rattle.share_desk.specs.Commands.{Share, MakeToken, Child, Redeem, Revoke}
-use Rattle.saved_refs.specs.Commands.{Choose, Claim, Save, Restore, DropSaved}
-use Rattle.saved_refs.specs.Options.{Options}
-use Rattle.desk_base.specs.Steps.{Step}
-use Rattle.desk_orders.specs.declared.order.Command.{Command}
+use Rattle.desk_orders.specs.Terms.{AddAccount, AddApp, Caller, Child, Choose, Claim, CloseSession, Command, DropSaved, MakeToken, NewGrain, OpenSession, Options, Redeem, Restore, Revoke, Save, SetAdmin, SetEnabled, Share, StartRun, State, Step, StopRun, Trash}
 use Rattle.desk_orders.specs.declared.order.Command.TheVariants as command
 use Rattle.desk_orders.specs.Commands.{Asked}
 

@@ -1,11 +1,6 @@
 -- The secrets that are drawn for an order, and the digests by which they are known.
 use Rattle.std.specs.Prelude.{◌≡◌, ℕ, List, [], ◌∷◌, Option, Some, None}
-use Rattle.sha2.specs.Sha256.{sha256}
-use Rattle.desk_base.specs.Terms.{Digest}
-use Rattle.host_base.specs.Drawing.{Coming, Draws}
-use Rattle.share_tokens.specs.Texts.{token_text_of, key_text_of}
-use Rattle.desk_orders.specs.declared.order.Command.{Command}
-use Rattle.desk_orders.specs.declared.secrets.SecretUse.{SecretUse}
+use Rattle.desk_orders.specs.Terms.{Coming, Command, Digest, Draws, key_text_of, SecretUse, sha256, token_text_of}
 use Rattle.desk_orders.specs.declared.secrets.SecretUse.TheVariants as secret_uses
 use Rattle.desk_orders.specs.Commands.{secret_use}
 

@@ -1,22 +1,8 @@
 -- What the sites tell of an order, and what is listed of them.
 use Rattle.std.specs.Prelude.{◌≡◌, ◌⊎◌, ◌++◌, ◌∷◌, [], ℕ, Bool, List, Option, Some, None, Contains, IsTrue, option_map, map, filter}
 use Rattle.std.specs.List.{filter_map}
-use Rattle.desk_base.specs.Terms.{Account, Caller, GrainId, IsOne, Offer, State}
-use Rattle.powerbox_match.specs.Descriptor.{DescriptorData}
-use Rattle.powerbox_match.specs.Matching.{match_of, same_quality}
-use Rattle.powerbox_match.specs.declared.choices.Choice.{Choice}
-use Rattle.powerbox_match.specs.declared.value.Quality.{Quality}
-use Rattle.powerbox_match.specs.declared.value.Quality.TheVariants.{Preferred, Acceptable}
+use Rattle.desk_orders.specs.Terms.{Acceptable, Account, AreOptions, Caller, Choice, Command, DescriptorData, GrainId, HasNoOffer, HasOffer, IsCaller, IsOne, IsSites, Law, Listed, match_of, Offer, Preferred, Quality, same_quality, secret_of, SiteOffer, State}
 use Rattle.share_graph.specs.declared.desk.Offer.TheVariants as offer
-use Rattle.site_caps.specs.Finding.{HasOffer, HasNoOffer}
-use Rattle.site_caps.specs.Law.{Law}
-use Rattle.site_caps.specs.Sites.{IsSites}
-use Rattle.site_caps.specs.declared.offer.SiteOffer.{SiteOffer}
-use Rattle.desk_base.specs.Calling.{IsCaller}
-use Rattle.desk_base.specs.Wording.{secret_of}
-use Rattle.saved_refs.specs.Options.{AreOptions}
-use Rattle.saved_refs.specs.declared.listed.Listed.{Listed}
-use Rattle.desk_orders.specs.declared.order.Command.{Command}
 use Rattle.desk_orders.specs.declared.order.Command.TheVariants as command
 
 -- whether the caller's account is an admin

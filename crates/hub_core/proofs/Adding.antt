@@ -1,9 +1,10 @@
 -- What adding an entry comes to: what the outside is told, what the history keeps, and what its keeper has.
 use Rattle.std.proofs.Common.{◌≡◌, ℕ, ◌+◌, ◌<◌, ◌≤◌, ◌++◌, Bool, true, false, if◌then◌else◌, List, [], ◌∷◌, Option, Some, None, Result, Ok, Err, length, refl, sym, ◌∙◌, ap, subst, arith, append-nil, length-append}
+use Rattle.std.proofs.lemmas.List.Elements.{All-contains, Contains-push}
 use Rattle.std.specs.Prelude.{⊤}
 use Rattle.cloud_keeper.specs.Keeping.{Keeping, RowsFollow}
 use Rattle.cloud_keeper.specs.declared.row.Row.{Row}
-use Rattle.desk_base.specs.Terms.{after, Event, EventFits, is_open_of, IsOfTables, IsWellFormed, replay, Root, RunId}
+use Rattle.desk_base.specs.Terms.{after, AppId, Event, EventFits, HasGrain, is_open_of, IsOfTables, IsWellFormed, replay, Root, Run, RunId}
 use Rattle.desk_base.specs.Terms.{Session, State, Tables, tables_after}
 use Rattle.desk_orders.specs.declared.reply.OrderFault.{OrderFault}
 use Rattle.grain_supervise.specs.Spawning.{Spawns}
@@ -21,19 +22,25 @@ use Rattle.hub_core.specs.Sharing.{KeepsPast}
 use Rattle.hub_core.specs.Spawning.{Spawned}
 
 -- a spawner that wasn't told anything was told what no entry wants
-pub told_nothing : (old new : Spawns) (token : List ℕ) → new.starts ≡ old.starts → new.stops ≡ old.stops
-    → Spawned old new token []
-told_nothing old new token starts stops = record {
+pub told_nothing : (old new : Spawns) (app : AppId) (token : List ℕ) → new.starts ≡ old.starts → new.stops ≡ old.stops
+    → Spawned old new app token []
+told_nothing old new app token starts stops = record {
   starts = λ told was. starts ∙ was ∙ ap (λ (xs : List Start). Some xs) (sym (append-nil told));
   stops = λ told was. stops ∙ was ∙ ap (λ (xs : List RunId). Some xs) (sym (append-nil told));
 }
 
 -- and so it was told what an event of the tables wants
-pub wants_nothing : (spawns : Spawns) (e : Event) (token : List ℕ) → IsOfTables e
-    → Spawned spawns spawns token (e ∷ [])
-wants_nothing spawns (event.RunStarted run) token is = absurd is
-wants_nothing spawns (event.RunStopped r) token is = absurd is
-wants_nothing spawns e token is = told_nothing spawns spawns token refl refl
+pub wants_nothing : (spawns : Spawns) (e : Event) (app : AppId) (token : List ℕ) → IsOfTables e
+    → Spawned spawns spawns app token (e ∷ [])
+wants_nothing spawns (event.RunStarted run) app token is = absurd is
+wants_nothing spawns (event.RunStopped r) app token is = absurd is
+wants_nothing spawns e app token is = told_nothing spawns spawns app token refl refl
+
+-- the grain of a run that is started is there
+pub grain_there : (s : State) (e : Event) (run : Run) → e ≡ event.RunStarted run → EventFits s e → HasGrain s.tables run.grain
+grain_there s e run is fits =
+    let now : EventFits s (event.RunStarted run) = rw is at fits in
+    All-contains (λ (x : Run). HasGrain s.tables x.grain) (s.runs ++ run ∷ []) run now.formed.rooted.runs (Contains-push s.runs run)
 
 -- a keeper that wasn't called has the rows that it had
 pub follows_self : (k : Keeping) (result : Result ⊤ OrderFault) → RowsFollow k k (kept_by None result)

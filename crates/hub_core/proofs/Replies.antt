@@ -6,7 +6,7 @@ use Rattle.desk_base.specs.Accepting.{Ready}
 use Rattle.desk_base.specs.Fitting.{StartsNoRun}
 use Rattle.desk_base.specs.Outcomes.{Completes, HasClash, draft_step, with_digest}
 use Rattle.desk_base.specs.Steps.{Makes, Drawn}
-use Rattle.desk_base.specs.Terms.{Digest, Event, HasDigest, IsUnused, Made, Refusal, replay}
+use Rattle.desk_base.specs.Terms.{AppId, Digest, Event, HasDigest, IsUnused, Made, Refusal, replay}
 use Rattle.desk_base.specs.Terms.{State}
 use Rattle.desk_base.specs.declared.outcome.Draft.{Draft}
 use Rattle.share_graph.specs.declared.event.Event.TheVariants as event
@@ -23,13 +23,18 @@ use Rattle.site_caps.specs.Law.{Law}
 use Rattle.hub_core.specs.Book.{Backing, CountsOn, IsCounted, IsFoundFor}
 use Rattle.hub_core.specs.Inner.{CanMeet, OrderedBy, Told, entry_of, replied}
 use Rattle.hub_core.specs.Sharing.{Sharing}
-use Rattle.hub_core.specs.Spawning.{HasToken, HaveToken, Spawned, token_of}
+use Rattle.hub_core.specs.Spawning.{IsOfApp, HasToken, AreOfApp, HaveToken, Spawned, token_of}
 use Rattle.hub_core.proofs.Adding.{told_nothing}
 
 -- the entry that an event is has its token
 entry_token : (token : List ℕ) (e : Event) → HasToken token e → (result : Result ⊤ OrderFault) → HaveToken token (entry_of e result)
 entry_token token e has (Ok done) = (has, tt)
 entry_token token e has (Err why) = tt
+
+-- and its application
+entry_app : (s : State) (app : AppId) (e : Event) → IsOfApp s app e → (result : Result ⊤ OrderFault) → AreOfApp s app (entry_of e result)
+entry_app s app e has (Ok done) = (has, tt)
+entry_app s app e has (Err why) = tt
 
 -- an event that starts no run has any token
 pub no_start : (token : List ℕ) (e : Event) → StartsNoRun e → HasToken token e
@@ -102,14 +107,16 @@ module _ (law : Law) (found : Option Bool) (old : Sharing) (order : Asked) where
       × DrawsAll old.holds.drawer.coming holds.drawer.coming drawn
 
   -- the order's place is the end of the history
-  ordered : (new : Sharing) (answer : Result Reply OrderFault) (drawn : List (List ℕ)) (added : List Event)
+  ordered : (new : Sharing) (answer : Result Reply OrderFault) (drawn : List (List ℕ)) (added : List Event) (app : AppId)
       → new.start ≡ old.start → new.history ≡ old.history ++ added → Stores old.holds new
       → CountsOn old.holds new.holds → DrawsAll old.holds.drawer.coming new.holds.drawer.coming drawn
-      → Spawned old.holds.spawns new.holds.spawns (token_of order drawn) added → HaveToken (token_of order drawn) added
+      → Spawned old.holds.spawns new.holds.spawns app (token_of order drawn) added → HaveToken (token_of order drawn) added
+      → AreOfApp (replay old.start old.history) app added
       → Lawful answer drawn added → IsCounted old.holds new.holds answer → OrderedBy law found old new order answer
-  ordered new answer drawn added start entries stored counts draws spawned tokens lawful counted formed found_is = record {
+  ordered new answer drawn added app start entries stored counts draws spawned tokens apps lawful counted formed found_is = record {
     drawn = drawn;
     added = added;
+    app = app;
     later = record { law = refl; start = start; more = added; seen = entries; counts = counts; stored = stored };
     placed = record {
       before = old.history;
@@ -121,6 +128,7 @@ module _ (law : Law) (found : Option Bool) (old : Sharing) (order : Asked) where
       found = found;
       found_is = rw start found_is;
       lawful = rw start lawful;
+      apps = rw start apps;
     };
     accepted = ap length entries ∙ length-append old.history added;
     draws = draws;
@@ -134,9 +142,9 @@ module _ (law : Law) (found : Option Bool) (old : Sharing) (order : Asked) where
       → Lawful answer drawn [] → IsCounted old.holds holds answer
       → OrderedBy law found old (record old { holds = holds }) order answer
   unchanged holds drawn (others, counts, draws) answer lawful counted =
-      ordered (record old { holds = holds }) answer drawn [] refl (sym (append-nil old.history)) (λ has. rw others has)
+      ordered (record old { holds = holds }) answer drawn [] (record { 0 = 0 }) refl (sym (append-nil old.history)) (λ has. rw others has)
       (record { store = rw others (omega arith); secrets = counts; starts = rw others (omega arith) }) draws
-      (told_nothing old.holds.spawns holds.spawns (token_of order drawn) (rw others refl) (rw others refl)) tt lawful counted
+      (told_nothing old.holds.spawns holds.spawns (record { 0 = 0 }) (token_of order drawn) (rw others refl) (rw others refl)) tt tt lawful counted
 
   -- nothing was drawn either
   pub unmoved : (answer : Result Reply OrderFault) → Lawful answer [] [] → IsCounted old.holds old.holds answer
@@ -146,16 +154,17 @@ module _ (law : Law) (found : Option Bool) (old : Sharing) (order : Asked) where
   -- a change was carried out, or a fault kept it from being
   pub changed : (holds : Backing) (drawn : List (List ℕ)) → Drew holds drawn → lists order.command ≡ false
       → (new : Sharing) (e : Event) (made : Made) (result : Result ⊤ OrderFault) → new.start ≡ old.start
-      → new.history ≡ old.history ++ entry_of e result → Told holds new.holds e (token_of order drawn) result
-      → HasToken (token_of order drawn) e → Stores holds new → AcceptsWith (replay old.start old.history) (length old.history) found order drawn e made
+      → new.history ≡ old.history ++ entry_of e result → (app : AppId) → IsOfApp (replay old.start old.history) app e
+      → Told holds new.holds e app (token_of order drawn) result → HasToken (token_of order drawn) e → Stores holds new → AcceptsWith (replay old.start old.history) (length old.history) found order drawn e made
       → OrderedBy law found old new order (replied made (shown_text order.command drawn) result)
-  changed holds drawn (others, counts, draws) asks new e made result start entries told token stored is =
-      let tells : Told (record old.holds { drawer = holds.drawer }) new.holds e (token_of order drawn) result = rw others at told in
+  changed holds drawn (others, counts, draws) asks new e made result start entries app has told token stored is =
+      let tells : Told (record old.holds { drawer = holds.drawer }) new.holds e app (token_of order drawn) result = rw others at told in
       let text = shown_text order.command drawn in
-      ordered new (replied made text result) drawn (entry_of e result) start entries
+      ordered new (replied made text result) drawn (entry_of e result) app start entries
       (subst (λ (h : Backing). Stores h new) others stored)
       (record { store = tells.counts.store; secrets = omega arith; starts = tells.counts.starts })
       (rw tells.undrawn draws) tells.spawned (entry_token (token_of order drawn) e token result)
+      (entry_app (replay old.start old.history) app e has result)
       (carried law (replay old.start old.history) (length old.history) found order drawn e made asks is result tells.meets)
       (counted_so old.holds new.holds holds.drawer e made text result tells.meets tells.counted)
 

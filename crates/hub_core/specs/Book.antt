@@ -1,20 +1,8 @@
 -- What a desk tells; the verdict on a key, and the answer to an order, at one place of its history.
 use Rattle.std.specs.Prelude.{◌≡◌, ℕ, Bool, ◌+◌, ◌≤◌, ◌++◌, List, Option, Result, Err, length}
-use Rattle.host_base.specs.Drawing.{Drawer}
-use Rattle.desk_base.specs.Terms.{Event, IsWellFormed, Key, replay, Rose, State, Verdict}
-use Rattle.cloud_keeper.specs.Keeping.{Keeping}
-use Rattle.grain_supervise.specs.Spawning.{Spawns}
-use Rattle.session_table.specs.Verdict.{IsVerdict}
-use Rattle.desk_orders.specs.Commands.{Asked}
-use Rattle.desk_orders.specs.declared.reply.OrderFault.{OrderFault}
+use Rattle.hub_core.specs.Terms.{AppId, Asked, Drawer, DrawsAll, Event, IsAnswer, IsFoundBy, IsStored, IsVerdict, IsWellFormed, Keeping, Key, Law, OrderFault, replay, Reply, Rose, Spawns, State, Verdict}
 use Rattle.desk_orders.specs.declared.reply.OrderFault.TheVariants as fault
-use Rattle.desk_orders.specs.declared.reply.Reply.{Reply}
-use Rattle.desk_orders.specs.Answers.{IsAnswer}
-use Rattle.desk_orders.specs.Secrets.{DrawsAll}
-use Rattle.site_caps.specs.Law.{Law}
-use Rattle.desk_orders.specs.Sites.{IsFoundBy}
-use Rattle.hub_core.specs.Spawning.{HaveToken, Spawned, Untold, token_of}
-use Rattle.row_tables.specs.Kept.{IsStored}
+use Rattle.hub_core.specs.Spawning.{AreOfApp, HaveToken, Spawned, Untold, token_of}
 
 -- What the objects that a desk works with tell: the keeper of its rows, the secrets that are drawn for it, and the
 -- spawner of its runs.
@@ -75,9 +63,10 @@ IsFoundFor law s order (Err fault.Memory) found = Unit {0}
 IsFoundFor law s order answer found = IsFoundBy law s order.caller order.command found
 
 -- The answer to an order at one place of what was seen, at least `low`: it is lawful by the state there, which is well
--- formed, with what the sites have of what the order chooses, and what the order adds is the entry at that place.
+-- formed, with what the sites have of what the order chooses, and what the order adds is the entry at that place. A run
+-- that it starts is of a grain of this application there.
 pub record Placed (low : ℕ) (book : Book) (order : Asked) (place : ℕ) (answer : Result Reply OrderFault)
-    (drawn : List (List ℕ)) (added : List Event) : Type 0 where
+    (drawn : List (List ℕ)) (added : List Event) (app : AppId) : Type 0 where
   pub before : List Event
   pub rest : List Event
   pub seen : book.seen ≡ (before ++ added) ++ rest
@@ -87,6 +76,7 @@ pub record Placed (low : ℕ) (book : Book) (order : Asked) (place : ℕ) (answe
   pub found : Option Bool
   pub found_is : IsFoundFor book.law (replay book.start before) order answer found
   pub lawful : IsAnswer book.law (replay book.start before) place found order answer drawn added
+  pub apps : AreOfApp (replay book.start before) app added
 
 -- a fault that is answered was counted
 abbrev pub IsCounted : Backing → Backing → Result Reply OrderFault → Type 0
@@ -96,15 +86,16 @@ IsCounted old new (Err fault.Start) = Rose old.spawns.faults new.spawns.faults
 IsCounted old new _ = Unit {0}
 
 -- An order was answered: at a place that isn't before what was seen, with the secrets that were drawn for it and the
--- entries that it added, which are the commands that were accepted; the spawner was told what these want and no more, and
--- a run that they start has the digest of the token that it was told.
+-- entries that it added, which are the commands that were accepted; the spawner was told what these want and no more: of
+-- a run that they start, its grain's application, and the token whose digest it has.
 pub record Ordered (old new : Book) (order : Asked) (place : ℕ) (answer : Result Reply OrderFault) : Type 0 where
   pub drawn : List (List ℕ)
   pub added : List Event
+  pub app : AppId
   pub later : Later old new
-  pub placed : Placed (length old.seen) new order place answer drawn added
+  pub placed : Placed (length old.seen) new order place answer drawn added app
   pub accepted : new.accepted ≡ old.accepted + length added
   pub draws : DrawsAll old.holds.drawer.coming new.holds.drawer.coming drawn
-  pub spawned : Spawned old.holds.spawns new.holds.spawns (token_of order drawn) added
+  pub spawned : Spawned old.holds.spawns new.holds.spawns app (token_of order drawn) added
   pub tokens : HaveToken (token_of order drawn) added
   pub counted : IsCounted old.holds new.holds answer

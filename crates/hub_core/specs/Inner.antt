@@ -1,18 +1,8 @@
 -- Aids for the contracts of private functions. No public contract stands on them.
 use Rattle.std.specs.Prelude.{◌≡◌, ℕ, ⊤, Bool, List, [], ◌∷◌, Option, Some, None, Result, Ok, Err, IfErr, length}
-use Rattle.cloud_keeper.specs.Keeping.{Keeping}
-use Rattle.cloud_keeper.specs.declared.row.Row.{Row}
-use Rattle.desk_base.specs.Terms.{Event, EventFits, IsOfTables, IsWellFormed, Made, replay, State, Tables}
-use Rattle.desk_base.specs.Terms.{tables_after}
-use Rattle.desk_orders.specs.Commands.{Asked}
-use Rattle.desk_orders.specs.declared.reply.OrderFault.{OrderFault}
+use Rattle.hub_core.specs.Terms.{AppId, AreRowsOf, Asked, Event, EventFits, IsOfRuns, IsOfTables, IsWellFormed, Keeping, Law, Made, OrderFault, replay, Reply, Row, Spawns, State, Tables, tables_after, with_row}
 use Rattle.desk_orders.specs.declared.reply.OrderFault.TheVariants as fault
-use Rattle.desk_orders.specs.declared.reply.Reply.{Reply}
 use Rattle.desk_orders.specs.declared.reply.Reply.TheVariants as reply
-use Rattle.grain_supervise.specs.Spawning.{Spawns}
-use Rattle.row_tables.specs.Kept.{AreRowsOf, with_row}
-use Rattle.share_graph.specs.History.{IsOfRuns}
-use Rattle.site_caps.specs.Law.{Law}
 use Rattle.hub_core.specs.Book.{Backing, CountsOn, IsCounted, IsFoundFor, Ordered}
 use Rattle.hub_core.specs.Sharing.{Sharing, book_of}
 use Rattle.hub_core.specs.Spawning.{Spawned}
@@ -30,21 +20,21 @@ CanMeet e fault.Secrets = ⊥
 CanMeet e fault.Memory = Unit {0}
 
 -- The outside was told what an event wants, or nothing, for a fault that the event can meet and that was counted.
-pub record Told (old new : Backing) (e : Event) (token : List ℕ) (result : Result ⊤ OrderFault) : Type 0 where
-  pub spawned : Spawned old.spawns new.spawns token (entry_of e result)
+pub record Told (old new : Backing) (e : Event) (app : AppId) (token : List ℕ) (result : Result ⊤ OrderFault) : Type 0 where
+  pub spawned : Spawned old.spawns new.spawns app token (entry_of e result)
   pub undrawn : new.drawer ≡ old.drawer
   pub counts : CountsOn old new
   pub meets : IfErr result (CanMeet e)
   pub counted : IfErr result (λ why. IsCounted old new (Err why))
 
 -- the same where the spawner alone was called, and where the keeper alone was, for an event of the tables
-abbrev pub ToldSpawner : Spawns → Spawns → Event → List ℕ → Result ⊤ OrderFault → Type 0
-ToldSpawner old new e token result =
-    (holds : Backing) → Told (record holds { spawns = old }) (record holds { spawns = new }) e token result
+abbrev pub ToldSpawner : Spawns → Spawns → Event → AppId → List ℕ → Result ⊤ OrderFault → Type 0
+ToldSpawner old new e app token result =
+    (holds : Backing) → Told (record holds { spawns = old }) (record holds { spawns = new }) e app token result
 
 abbrev pub ToldKeeper : Keeping → Keeping → Result ⊤ OrderFault → Type 0
-ToldKeeper old new result = (holds : Backing) (e : Event) (token : List ℕ) → IsOfTables e
-    → Told (record holds { keeping = old }) (record holds { keeping = new }) e token result
+ToldKeeper old new result = (holds : Backing) (e : Event) (app : AppId) (token : List ℕ) → IsOfTables e
+    → Told (record holds { keeping = old }) (record holds { keeping = new }) e app token result
 
 -- the row of an event, where it has one, is of the tables
 abbrev pub HasItsRow : Event → Option Row → Type 0

@@ -1,6 +1,7 @@
 pub mod Book
-pub mod Spawning
-pub mod Sharing
+pub mod Inner
 pub mod Opening
 pub mod Revoking
-pub mod Inner
+pub mod Sharing
+pub mod Spawning
+pub mod Terms

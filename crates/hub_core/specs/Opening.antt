@@ -1,10 +1,6 @@
 -- What a history begins with that is opened on the rows of a keeper.
 use Rattle.std.specs.Prelude.{◌≡◌, List, [], Some, Ok}
-use Rattle.desk_base.specs.Terms.{State, Tables}
-use Rattle.cloud_keeper.specs.declared.row.Row.{Row}
-use Rattle.cloud_keeper.specs.Keeping.{Keeping}
-use Rattle.row_tables.specs.Checks.{GivesTables, IsBadRow}
-use Rattle.row_tables.specs.declared.stored.BadRow.{BadRow}
+use Rattle.hub_core.specs.Terms.{BadRow, GivesTables, IsBadRow, Keeping, Row, State, Tables}
 
 -- the state that a server begins with: the tables, without sessions, runs and handles
 abbrev pub opened : Tables → State

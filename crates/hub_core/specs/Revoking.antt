@@ -1,20 +1,11 @@
 -- What a revocation takes away: from nodes, and from the keys that stand for them.
 use Rattle.std.specs.Prelude.{◌≡◌, ◌⊎◌, ◌++◌, ◌∷◌, [], ◌<◌, ◌↔◌, ℕ, List, Contains, false}
-use Rattle.desk_base.specs.Terms.{App, Denial, Event, GrainId, Grant, GrantId, Handle, HasRunToken, IsAppOf}
-use Rattle.desk_base.specs.Terms.{IsBearerOf, IsHandleOf, IsOneOf, Key, Node, replay, Run, Session, State, Tables}
-use Rattle.desk_base.specs.Terms.{Verdict}
+use Rattle.hub_core.specs.Terms.{App, behind_session, Denial, Derivation, Event, GrainId, Grant, GrantId, Handle, HasKey, HasRunToken, HoldsWithout, IsAppOf, IsBearerOf, IsHandleOf, IsOneOf, Key, LeavesTheRest, names_at, Node, node_behind, Open, Perm, Permit, replay, RevokesExactly, Run, Session, ShutsOut, State, Tables, Uses, Verdict}
 use Rattle.host_base.specs.declared.key.Key.TheVariants as key
-use Rattle.host_base.specs.declared.permit.Permit.{Permit}
 use Rattle.host_base.specs.declared.verdict.Denial.TheVariants as denial
 use Rattle.host_base.specs.declared.verdict.Verdict.TheVariants as verdict
 use Rattle.share_graph.specs.declared.event.Event.TheVariants as event
-use Rattle.share_graph.specs.declared.facts.Fact.TheVariants.{Open, Perm}
 use Rattle.share_graph.specs.declared.facts.Node.TheVariants as node
-use Rattle.share_graph.specs.Derivation.{Derivation, HoldsWithout, Uses}
-use Rattle.share_graph.specs.Keys.{HasKey}
-use Rattle.session_table.specs.Standing.{behind_session, node_behind}
-use Rattle.session_table.specs.Verdict.{names_at}
-use Rattle.state_step.specs.Losing.{RevokesExactly, ShutsOut, LeavesTheRest}
 
 -- THE LAW OF REVOKING for a history that grew by an entry: where the entry revokes a grant, a fact is held from there on
 -- exactly where it had a derivation before that doesn't use the grant.

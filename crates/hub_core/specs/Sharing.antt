@@ -1,8 +1,6 @@
 -- One value that holds a history: what it began with, its entries, and the objects beside it.
 use Rattle.std.specs.Prelude.{◌≡◌, ◌+◌, ◌<◌, ◌≤◌, List, length}
-use Rattle.desk_base.specs.Terms.{Event, IsWellFormed, replay, State}
-use Rattle.live_access.specs.Kept.{Kept, IsSolvedFor}
-use Rattle.site_caps.specs.Law.{Law}
+use Rattle.hub_core.specs.Terms.{Event, IsSolvedFor, IsWellFormed, Kept, Law, replay, State}
 use Rattle.hub_core.specs.Book.{Book, Backing}
 
 -- a history: the state that it began with, and its entries

@@ -17,6 +17,7 @@ ghost use Rattle.hub_core.specs.Sharing.{book_of, sharing_of, state_of};
 
 use crate::held::{Held, Holding};
 use crate::history::History;
+use crate::telling::app_of;
 use desk_base::Draft;
 use desk_orders::{
     Decision, Order, OrderFault, Reply, decide, found_of, list_options, lists, secret_text,
@@ -89,7 +90,8 @@ fn answer_drawn<H: Holding>(
     match draft.complete(history.state(), digest) {
         Err(refusal) => Ok(Reply::Refused(refusal)),
         Ok((event, made)) => {
-            let added = history.add(alloc, held, event, text.as_slice());
+            let app = app_of(history.state(), &event);
+            let added = history.add(alloc, held, event, app, text.as_slice());
             replied(made, shown_text(order, text), added)
         }
     }
@@ -120,7 +122,8 @@ fn answer_found<H: Holding>(
         Decision::Same(made) => Ok(Reply::Made(made, None)),
         Decision::Draft(draft) => answer_drawn(alloc, history, held, found, order, draft),
         Decision::Change(event, made) => {
-            let added = history.add(alloc, held, event, &[]);
+            let app = app_of(history.state(), &event);
+            let added = history.add(alloc, held, event, app, &[]);
             replied(made, None, added)
         }
         Decision::Memory => Err(OrderFault::Memory),

@@ -13,7 +13,7 @@ use crate::held::{Held, Holding};
 use crate::telling::tell;
 use cloud_keeper::Row;
 use desk_orders::OrderFault;
-use host_base::Memory;
+use host_base::{AppId, Memory};
 use least_access::Solved;
 use live_access::{Region, Solution, solve};
 use row_tables::row_after;
@@ -186,19 +186,21 @@ impl History {
     }
 
     /// Adds an entry: first all room is taken, in the history, in the state and in what is solved; then the spawner or the keeper is
-    /// told; and then the event happens and its region is solved again. Where one of them fails or memory runs out, all is as before.
+    /// told, of a run that starts with its grain's application; and then the event happens and its region is solved again. Where one
+    /// of them fails or memory runs out, all is as before.
     pub fn add<H: Holding>(
         &mut self,
         alloc: Global,
         held: &mut Held<H>,
         event: Event,
+        app: AppId,
         token: &[u8],
     ) -> Result<(), OrderFault>
         requires fits { EventFits (state_of self.old) event }
         requires room { length self.old.entries < 1000000 }
         ensures start { self.new.start ≡ self.old.start }
         ensures entries { self.new.entries ≡ self.old.entries ++ entry_of event result }
-        ensures told { Told held.old held.new event token.now result }
+        ensures told { Told held.old held.new event app token.now result }
         ensures stored { IsStored held.old.keeping (state_of self.old).tables
             → IsStored held.new.keeping (state_of self.new).tables }
     {
@@ -208,7 +210,7 @@ impl History {
             row,
             region,
         } = make_ready(alloc, &self.state, &mut self.solution, &event)?;
-        match tell(alloc, held, &event, row, token) {
+        match tell(alloc, held, &event, row, app, token) {
             Ok(()) => {
                 happen(
                     &mut self.state,

@@ -1,7 +1,9 @@
 //! What is told outwards of an event.
 
-ghost use Rattle.std.specs.Prelude.{ℕ, List, Some};
+ghost use Rattle.std.specs.Prelude.{◌≡◌, ℕ, List, Some, option_map};
 ghost use Rattle.cloud_keeper.specs.Keeping.{RowsFollow};
+ghost use Rattle.desk_base.specs.Terms.{EventFits, HasGrain, row};
+ghost use Rattle.hub_core.specs.Spawning.{IsOfApp};
 ghost use Rattle.share_graph.specs.declared.event.Event.TheVariants as event;
 ghost use Rattle.hub_core.specs.Inner.{HasItsRow, Told, ToldKeeper, ToldSpawner, kept_by};
 
@@ -9,21 +11,48 @@ use crate::held::{Held, Holding};
 use cloud_keeper::{KeepFault, Keeper, Row};
 use desk_orders::OrderFault;
 use grain_supervise::{Spawner, StartFault};
-use host_base::RunId;
-use share_graph::{Event, Run};
+use host_base::{AppId, GrainId, RunId};
+use share_graph::{Event, Run, State, grain};
 use std::alloc::Global;
 
-// Starts a run, and hands it its token.
+// The application of a grain that is there.
+fn app_behind(state: &State, number: GrainId) -> AppId
+    requires { HasGrain state.now.tables number }
+    ensures { option_map (λ grain. grain.app) (row state.now.tables.grains number.0) ≡ Some result }
+{
+    match grain(&state.tables, number) {
+        Some(grain) => grain.app,
+        None => unreachable!(),
+    }
+}
+
+/// The application of the grain whose run an event starts. Of an event that starts none nobody asks for it.
+pub fn app_of(state: &State, event: &Event) -> AppId
+    requires { EventFits state.now event.now }
+    ensures { IsOfApp state.now result event.now }
+{
+    match event {
+        Event::RunStarted(run) => app_behind(state, run.grain),
+        Event::AccountAdded(_) | Event::AppAdded(_) | Event::GrainAdded(_) => AppId(0),
+        Event::GrantAdded(_) | Event::Claimed(_, _) | Event::SavedAdded(_) => AppId(0),
+        Event::AdminSet(_, _) | Event::EnabledSet(_, _) | Event::TrashedSet(_, _) => AppId(0),
+        Event::GrantRevoked(_) | Event::SavedDropped(_) | Event::RunStopped(_) => AppId(0),
+        Event::SessionOpened(_) | Event::SessionClosed(_) | Event::HandleMade(_) => AppId(0),
+    }
+}
+
+// Starts a run, by the program of an application, and hands it its token.
 fn start<P: Spawner>(
     alloc: Global,
     spawner: &mut P,
     run: &Run,
+    app: AppId,
     token: &[u8],
 ) -> Result<(), OrderFault>
-    ensures { ToldSpawner (P.spawns spawner.old) (P.spawns spawner.new) (event.RunStarted run.now) token.now
-        result }
+    ensures { ToldSpawner (P.spawns spawner.old) (P.spawns spawner.new) (event.RunStarted run.now) app
+        token.now result }
 {
-    match spawner.start(alloc, run.num, run.grain, token) {
+    match spawner.start(alloc, run.num, run.grain, app, token) {
         Ok(()) => Ok(()),
         Err(StartFault::StartFailed) => Err(OrderFault::Start),
         Err(StartFault::Memory) => Err(OrderFault::Memory),
@@ -32,8 +61,8 @@ fn start<P: Spawner>(
 
 // Stops a run.
 fn stop<P: Spawner>(alloc: Global, spawner: &mut P, run: RunId) -> Result<(), OrderFault>
-    ensures { (token : List ℕ) → ToldSpawner (P.spawns spawner.old) (P.spawns spawner.new)
-        (event.RunStopped run) token result }
+    ensures { (app : AppId) (token : List ℕ) → ToldSpawner (P.spawns spawner.old) (P.spawns spawner.new)
+        (event.RunStopped run) app token result }
 {
     match spawner.stop(alloc, run) {
         Ok(()) => Ok(()),
@@ -42,18 +71,19 @@ fn stop<P: Spawner>(alloc: Global, spawner: &mut P, run: RunId) -> Result<(), Or
     }
 }
 
-// Tells the spawner what an event wants of it: to start the run that it starts, with its token, or to stop the one that it stops.
-// Where that fails nothing was started or stopped.
+// Tells the spawner what an event wants of it: to start the run that it starts, by its grain's application and with its token, or to
+// stop the one that it stops. Where that fails nothing was started or stopped.
 fn tell_spawner<P: Spawner>(
     alloc: Global,
     spawner: &mut P,
     event: &Event,
+    app: AppId,
     token: &[u8],
 ) -> Result<(), OrderFault>
-    ensures { ToldSpawner (P.spawns spawner.old) (P.spawns spawner.new) event.now token.now result }
+    ensures { ToldSpawner (P.spawns spawner.old) (P.spawns spawner.new) event.now app token.now result }
 {
     match event {
-        Event::RunStarted(run) => start(alloc, spawner, run, token),
+        Event::RunStarted(run) => start(alloc, spawner, run, app, token),
         Event::RunStopped(num) => stop(alloc, spawner, *num),
         Event::AccountAdded(_) | Event::AppAdded(_) | Event::GrainAdded(_) => Ok(()),
         Event::GrantAdded(_) | Event::Claimed(_, _) | Event::SavedAdded(_) => Ok(()),
@@ -82,14 +112,15 @@ pub fn tell<H: Holding>(
     held: &mut Held<H>,
     event: &Event,
     row: Option<Row>,
+    app: AppId,
     token: &[u8],
 ) -> Result<(), OrderFault>
     requires { HasItsRow event.now row }
-    ensures told { Told held.old held.new event.now token.now result }
+    ensures told { Told held.old held.new event.now app token.now result }
     ensures rows { RowsFollow held.old.keeping held.new.keeping (kept_by row result) }
 {
     match row {
         Some(row) => keep(alloc, &mut held.keeper, &row),
-        None => tell_spawner(alloc, &mut held.spawner, event, token),
+        None => tell_spawner(alloc, &mut held.spawner, event, app, token),
     }
 }

@@ -153,7 +153,7 @@ where
     requires few { vec_len jobs ≤ 65536 }
     requires ready { All J.ready jobs.items }
     ensures start { result.locked.start ≡ locked.start }
-    ensures kept { HasKept locked.holds result.locked.holds result.locked.history }
+    ensures kept { HasKept locked.start locked.holds result.locked.holds result.locked.history }
     ensures done { IfOk result.outcome (λ _. DoneAtOnce J.does C.Law.law locked.start result.locked.history
         jobs.items result.jobs.items) }
     ensures none { OnErr result.outcome ((result.jobs ≡ jobs) × (result.locked.history ≡ [])) }
@@ -192,7 +192,7 @@ where
     requires few { vec_len jobs ≤ 65536 }
     requires ready { All J.ready jobs.items }
     ensures start { result.locked.start ≡ locked.start }
-    ensures kept { HasKept locked.holds result.locked.holds result.locked.history }
+    ensures kept { HasKept locked.start locked.holds result.locked.holds result.locked.history }
     ensures done { IfOk result.outcome (λ _. DoneAtOnce J.does C.Law.law locked.start result.locked.history
         jobs.items result.jobs.items) }
     ensures none { OnErr result.outcome ((result.jobs ≡ jobs) × (result.locked.history ≡ [])) }

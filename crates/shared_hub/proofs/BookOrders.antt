@@ -12,6 +12,7 @@ use Rattle.desk_orders.specs.declared.reply.Reply.TheVariants as reply
 use Rattle.epoch_gate.specs.Books.{Acts, count}
 use Rattle.hub_core.specs.Book.{Ordered}
 use Rattle.hub_core.specs.Sharing.{Sharing, book_of}
+use Rattle.hub_core.specs.Spawning.{AreOfApp}
 use Rattle.shared_hub.specs.Wanting.{AnswersOrder, faults_of}
 
 same_front : (xs ys zs ws : List Event) → xs ++ ys ≡ zs ++ ws → length xs ≡ length zs → xs ≡ zs
@@ -43,6 +44,13 @@ module _ (law : Law) (old new : Sharing) (order : Asked) (answer : Result Reply 
       let none : p.rest ≡ [] = nil_from_length p.rest (omega (arith, long, o.accepted, p.place_is)) in
       rw (p.seen, none, append-nil, same) refl
 
+  -- a run that it starts is of its grain's application in the state before
+  pub apps_at : (o : Ordered (book_of law old) (book_of law new) order (length old.history) answer) → AreOfApp (replay old.start old.history) o.app o.added
+  apps_at o =
+      let p = o.placed in
+      let same : old.history ≡ p.before = same_front old.history o.later.more p.before (o.added ++ p.rest) (sym o.later.seen ∙ p.seen ∙ append_assoc p.before o.added p.rest) p.place_is in
+      rw (same, ← o.later.start) p.apps
+
   abbrev Answers : List Event → Type 0
   Answers added = AnswersOrder law (replay old.start old.history) (length old.history) order answer added (faults_of answer)
 
@@ -63,6 +71,8 @@ module _ (law : Law) (old new : Sharing) (order : Asked) (answer : Result Reply 
           found_is = rw (same, ← o.later.start) p.found_is;
           lawful = rw (same, ← o.later.start, ← p.place_is) p.lawful;
           faults_are = refl;
+          app = o.app;
+          apps = apps_at o;
           tokens = o.tokens;
         },
       )

@@ -120,6 +120,7 @@ module _ (law : Law) (start : State) (old new : Passing Event Verdict) where
   ordered_at place order answer (faults, counts, (before, added, seen, begins, place_is, orders, lawful)) = record {
     drawn = lawful.drawn;
     added = added;
+    app = lawful.app;
     later = later_by (begins.0 ++ added) faults (seen ∙ ap (λ w. w ++ added) (sym begins.1) ∙ append_assoc old.seen begins.0 added) counts;
     placed = record {
       before = before;
@@ -131,6 +132,7 @@ module _ (law : Law) (start : State) (old new : Passing Event Verdict) where
       found = lawful.found;
       found_is = lawful.found_is;
       lawful = subst (λ n. IsAnswer law (replay start before) n lawful.found order answer lawful.drawn added) (sym place_is) lawful.lawful;
+      apps = lawful.apps;
     };
     accepted = orders;
     draws = draws_unknown lawful.drawn;

@@ -2,7 +2,7 @@
 use Rattle.std.proofs.Common.{◌≡◌, ℕ, ◌++◌, List, [], ◌∷◌, Option, Some, Result, length, refl, sym, ◌∙◌, ap, subst, arith, append_assoc, append-nil}
 use Rattle.std.specs.List.{flat_map}
 use Rattle.host_base.specs.Drawing.{Coming}
-use Rattle.desk_base.specs.Terms.{Event, Run, RunId}
+use Rattle.desk_base.specs.Terms.{after, AppId, Event, replay, RunId, State}
 use Rattle.share_graph.specs.declared.event.Event.TheVariants as event
 use Rattle.grain_supervise.specs.Spawning.{Spawns}
 use Rattle.grain_supervise.specs.declared.start.Start.{Start}
@@ -13,9 +13,9 @@ use Rattle.desk_orders.specs.declared.reply.Reply.{Reply}
 use Rattle.site_caps.specs.Law.{Law}
 use Rattle.hub_core.specs.Book.{Backing, Ordered}
 use Rattle.hub_core.specs.Sharing.{Sharing, book_of}
-use Rattle.hub_core.specs.Spawning.{HaveToken, Spawned, starts_by, stops_by, stops_of, token_of}
-use Rattle.shared_hub.specs.Since.{AreStartsOf, HasKept, SpawnedSince, runs_started, started_by}
-use Rattle.shared_hub.proofs.BookOrders.{adds_to}
+use Rattle.hub_core.specs.Spawning.{AreOfApp, HasToken, HaveToken, IsOfApp, Spawned, starts_by, starts_of, stops_by, stops_of, token_of}
+use Rattle.shared_hub.specs.Since.{AreStartsOf, HasKept, IsStartOf, SpawnedSince}
+use Rattle.shared_hub.proofs.BookOrders.{adds_to, apps_at}
 
 drawn_both : (a b c : Option Coming) (xs ys : List (List ℕ)) → DrawsAll a b xs → DrawsAll b c ys → DrawsAll a c (xs ++ ys)
 drawn_both a b c [] ys same draws = subst (λ (x : Option Coming). DrawsAll x c ys) same draws
@@ -25,40 +25,35 @@ both_maps : {X Y : Type 0} (f : X → List Y) (xs ys : List X) → flat_map f (x
 both_maps f [] ys = refl
 both_maps f (x ∷ xs) ys = ap (λ more. f x ++ more) (both_maps f xs ys) ∙ sym (append_assoc (f x) (flat_map f xs) (flat_map f ys))
 
-starts_both : (runs more : List Run) (starts others : List Start) → AreStartsOf runs starts → AreStartsOf more others → AreStartsOf (runs ++ more) (starts ++ others)
-starts_both [] more [] others none are = are
-starts_both [] more (s ∷ starts) others is are = absurd is
-starts_both (r ∷ runs) more [] others is are = absurd is
-starts_both (r ∷ runs) more (s ∷ starts) others (num, grain, token, rest) are = (num, grain, token, starts_both runs more starts others rest are)
+starts_both : (s : State) (xs ys : List Event) (starts others : List Start) → AreStartsOf s xs starts → AreStartsOf (replay s xs) ys others → AreStartsOf s (xs ++ ys) (starts ++ others)
+starts_both s [] ys starts others none are = subst (λ (zs : List Start). AreStartsOf s ys (zs ++ others)) (sym none) are
+starts_both s (e ∷ xs) ys starts others (first, rest, joined, one, more) are = (
+  first,
+  rest ++ others,
+  ap (λ (zs : List Start). zs ++ others) joined ∙ append_assoc first rest others,
+  one,
+  starts_both (after s e) xs ys rest others more are,
+)
 
--- what entries want of the spawner are the starts of the runs that they start
-started_entries : (token : List ℕ) (entries : List Event) → HaveToken token entries → AreStartsOf (runs_started entries) (starts_by token entries)
-started_entries token [] has = tt
-started_entries token (event.RunStarted run ∷ more) (is, has) = (refl, refl, is, started_entries token more has)
-started_entries token (event.AccountAdded x ∷ more) (is, has) = started_entries token more has
-started_entries token (event.AppAdded x ∷ more) (is, has) = started_entries token more has
-started_entries token (event.GrainAdded x ∷ more) (is, has) = started_entries token more has
-started_entries token (event.GrantAdded x ∷ more) (is, has) = started_entries token more has
-started_entries token (event.SavedAdded x ∷ more) (is, has) = started_entries token more has
-started_entries token (event.AdminSet x y ∷ more) (is, has) = started_entries token more has
-started_entries token (event.EnabledSet x y ∷ more) (is, has) = started_entries token more has
-started_entries token (event.TrashedSet x y ∷ more) (is, has) = started_entries token more has
-started_entries token (event.GrantRevoked x ∷ more) (is, has) = started_entries token more has
-started_entries token (event.Claimed x y ∷ more) (is, has) = started_entries token more has
-started_entries token (event.SavedDropped x ∷ more) (is, has) = started_entries token more has
-started_entries token (event.RunStopped x ∷ more) (is, has) = started_entries token more has
-started_entries token (event.SessionOpened x ∷ more) (is, has) = started_entries token more has
-started_entries token (event.SessionClosed x ∷ more) (is, has) = started_entries token more has
-started_entries token (event.HandleMade x ∷ more) (is, has) = started_entries token more has
+-- what an event wants of the spawner is the start of the run that it starts
+started : (s : State) (app : AppId) (token : List ℕ) (e : Event) → HasToken token e → IsOfApp s app e → IsStartOf s e (starts_of e app token)
+started s app token (event.RunStarted run) has is = (_, refl, refl, refl, is, has)
+started s app token e has is = refl
 
-spawned_more : (old mid new : Spawns) (token : List ℕ) (entries added : List Event) → SpawnedSince old mid entries → Spawned mid new token added → HaveToken token added → SpawnedSince old new (entries ++ added)
-spawned_more old mid new token entries added since told has = record {
+-- and so it is of entries
+started_entries : (s : State) (app : AppId) (token : List ℕ) (entries : List Event) → HaveToken token entries → AreOfApp s app entries → AreStartsOf s entries (starts_by app token entries)
+started_entries s app token [] has are = refl
+started_entries s app token (e ∷ more) (has, haves) (is, are) =
+    (starts_of e app token, starts_by app token more, refl, started s app token e has is, started_entries (after s e) app token more haves are)
+
+spawned_more : (s : State) (old mid new : Spawns) (app : AppId) (token : List ℕ) (entries added : List Event) → SpawnedSince s old mid entries → Spawned mid new app token added
+    → HaveToken token added → AreOfApp (replay s entries) app added → SpawnedSince s old new (entries ++ added)
+spawned_more s old mid new app token entries added since told has are = record {
   starts = λ before is.
-      (let (starts, now, are) = since.starts before is in (
-        starts ++ starts_by token added,
-        told.starts (before ++ starts) now ∙ ap (λ (xs : List Start). Some xs) (append_assoc before starts (starts_by token added)),
-        subst (λ (runs : List Run). AreStartsOf runs (starts ++ starts_by token added)) (sym (both_maps started_by entries added))
-            (starts_both (runs_started entries) (runs_started added) starts (starts_by token added) are (started_entries token added has)),
+      (let (starts, now, first) = since.starts before is in (
+        starts ++ starts_by app token added,
+        told.starts (before ++ starts) now ∙ ap (λ (xs : List Start). Some xs) (append_assoc before starts (starts_by app token added)),
+        starts_both s entries added starts (starts_by app token added) first (started_entries (replay s entries) app token added has are),
       ));
   stops = λ before is.
       told.stops (before ++ stops_by entries) (since.stops before is)
@@ -66,20 +61,20 @@ spawned_more old mid new token entries added since told has = record {
 }
 
 -- nothing yet
-pub kept_none : (holds : Backing) → HasKept holds holds []
-kept_none holds = record {
+pub kept_none : (start : State) (holds : Backing) → HasKept start holds holds []
+kept_none start holds = record {
   counts = record { store = omega arith; secrets = omega arith; starts = omega arith };
   drawn = [];
   draws = refl;
   spawned = record {
-    starts = λ before is. ([], is ∙ ap (λ (xs : List Start). Some xs) (sym (append-nil before)), tt);
+    starts = λ before is. ([], is ∙ ap (λ (xs : List Start). Some xs) (sym (append-nil before)), refl);
     stops = λ before is. is ∙ ap (λ (xs : List RunId). Some xs) (sym (append-nil before));
   };
 }
 
 -- and once an order was answered
 pub kept_more : (law : Law) (began : Backing) (old new : Sharing) (order : Asked) (answer : Result Reply OrderFault)
-    → Ordered (book_of law old) (book_of law new) order (length old.history) answer → HasKept began old.holds old.history → HasKept began new.holds new.history
+    → Ordered (book_of law old) (book_of law new) order (length old.history) answer → HasKept old.start began old.holds old.history → HasKept old.start began new.holds new.history
 kept_more law began old new order answer o kept = record {
   counts = record {
     store = omega (arith, kept.counts.store, o.later.counts.store);
@@ -88,6 +83,7 @@ kept_more law began old new order answer o kept = record {
   };
   drawn = kept.drawn ++ o.drawn;
   draws = drawn_both began.drawer.coming old.holds.drawer.coming new.holds.drawer.coming kept.drawn o.drawn kept.draws o.draws;
-  spawned = subst (λ (history : List Event). SpawnedSince began.spawns new.holds.spawns history) (sym (adds_to law old new order answer o))
-      (spawned_more began.spawns old.holds.spawns new.holds.spawns (token_of order o.drawn) old.history o.added kept.spawned o.spawned o.tokens);
+  spawned = subst (λ (history : List Event). SpawnedSince old.start began.spawns new.holds.spawns history) (sym (adds_to law old new order answer o))
+      (spawned_more old.start began.spawns old.holds.spawns new.holds.spawns o.app (token_of order o.drawn) old.history o.added kept.spawned o.spawned o.tokens
+      (apps_at law old new order answer o));
 }

@@ -1,6 +1,6 @@
 -- What is wanted of a history that many threads share, and what is told of it.
 use Rattle.std.specs.Prelude.{◌≡◌, Bool, true, false, ℕ, List, [], Option, None, Result, Err, length}
-use Rattle.desk_base.specs.Terms.{Event, IsWellFormed, Key, replay, State, Verdict}
+use Rattle.desk_base.specs.Terms.{AppId, Event, IsWellFormed, Key, replay, State, Verdict}
 use Rattle.session_table.specs.Verdict.{IsVerdict}
 use Rattle.site_caps.specs.Answering.{GivesText}
 use Rattle.site_caps.specs.Law.{Law}
@@ -12,7 +12,7 @@ use Rattle.desk_orders.specs.declared.reply.Reply.{Reply}
 use Rattle.epoch_gate.specs.declared.book.Faults.{Faults}
 use Rattle.hub_core.specs.Book.{IsFoundFor}
 use Rattle.hub_core.specs.Sharing.{Sharing}
-use Rattle.hub_core.specs.Spawning.{HaveToken, token_of}
+use Rattle.hub_core.specs.Spawning.{AreOfApp, HaveToken, token_of}
 use Rattle.shared_hub.specs.declared.history.Told.{Told}
 use Rattle.shared_hub.specs.declared.history.Told.TheVariants as told
 use Rattle.shared_hub.specs.declared.history.Wanted.{Wanted}
@@ -46,7 +46,8 @@ ShowsVerdict start history key verdict = IsWellFormed (replay start history) × 
 
 -- An order is answered lawfully at a state with n entries, with what the sites have of what it chooses and with secrets
 -- that were drawn for it; it adds these entries, and met the fault that its answer
--- tells. The state is well formed. A run that is started has the digest of the secret's text.
+-- tells. The state is well formed. A run that is started is of a grain of this application, and has the digest of the
+-- secret's text.
 pub record AnswersOrder (law : Law) (s : State) (n : ℕ) (order : Asked) (answer : Result Reply OrderFault)
     (added : List Event) (faults : Faults) : Type 0 where
   pub formed : IsWellFormed s
@@ -55,6 +56,8 @@ pub record AnswersOrder (law : Law) (s : State) (n : ℕ) (order : Asked) (answe
   pub found_is : IsFoundFor law s order answer found
   pub lawful : IsAnswer law s n found order answer drawn added
   pub faults_are : faults ≡ faults_of answer
+  pub app : AppId
+  pub apps : AreOfApp s app added
   pub tokens : HaveToken (token_of order drawn) added
 
 -- WHAT IS TOLD of what is wanted, by what a history began with and its entries before: an order's answer, or what a site

@@ -3,7 +3,7 @@
 ghost use Rattle.std.specs.Prelude.{◌≡◌, ◌≤◌, [], length};
 ghost use Rattle.desk_base.specs.Terms.{replay};
 ghost use Rattle.epoch_gate.specs.Books.{Acts};
-ghost use Rattle.hub_core.specs.Book.{Backing};
+ghost use Rattle.hub_core.specs.Sharing.{Sharing};
 ghost use Rattle.shared_hub.specs.Since.{HasKept};
 ghost use Rattle.shared_hub.specs.Wanting.{AnswersOrder, faults_of};
 
@@ -55,8 +55,9 @@ fn answer<H: Holding, C: SiteDriver + Drop>(
         AnswersOrder C.Law.law (replay locked.old.start locked.old.history) (length locked.old.history)
         order result.1 added (faults_of result.1)) }
     ensures short { length locked.new.history ≤ 1000000 }
-    ensures kept { (began : Backing) → HasKept began locked.old.holds locked.old.history
-        → HasKept began locked.new.holds locked.new.history }
+    ensures kept { (began : Sharing) → locked.old.start ≡ began.start
+        → HasKept began.start began.holds locked.old.holds locked.old.history
+        → HasKept began.start began.holds locked.new.holds locked.new.history }
 {
     let answer = locked.order(alloc, order);
     (locked.entries() != before, answer)
@@ -92,7 +93,7 @@ impl<H: Holding, C: SiteDriver> Model for SharedHistory<H, C> {
 
     ghost view = { λ shared. record { began = shared.began.value; history = shared.locked.history; holds = shared.locked.holds } };
 
-    ghost invariant = { λ shared. (shared.locked.start ≡ shared.began.value.start) × HasKept shared.began.value.holds shared.locked.holds shared.locked.history };
+    ghost invariant = { λ shared. (shared.locked.start ≡ shared.began.value.start) × HasKept shared.began.value.start shared.began.value.holds shared.locked.holds shared.locked.history };
 }
 
 impl<H: Holding, C: SiteDriver + Drop> SharedHistory<H, C> {
@@ -112,7 +113,7 @@ impl<H: Holding, C: SiteDriver + Drop> SharedHistory<H, C> {
           history = self.history;
           holds = self.holds;
         } }
-        ensures kept { HasKept self.began.holds result.holds result.history }
+        ensures kept { HasKept self.began.start self.began.holds result.holds result.history }
     {
         let SharedHistory { locked, began: _ } = self;
         locked

@@ -198,6 +198,11 @@ impl Acceptor {
         Ok((acceptor, clients))
     }
 
+    /// The port.
+    pub fn port(&self) -> io::Result<u16> {
+        Ok(self.listener.local_addr()?.port())
+    }
+
     // Takes all connections that wait at the port. Where there is no descriptor for another one, the one that has been silent longest is closed.
     fn accept_all(&mut self, now: Instant) {
         for _ in 0..MOST_WAITING {

@@ -5,7 +5,7 @@ use crate::socket::is_socket;
 use mio::unix::SourceFd;
 use mio::{Events, Interest, Poll, Token};
 use std::alloc::Global;
-use std::io::{ErrorKind, Read, Write};
+use std::io::{ErrorKind, PipeReader, Read, Write};
 use std::net::Net;
 use std::os::fd::AsRawFd;
 use std::process::{Child, OpenProcess};
@@ -20,10 +20,10 @@ const READY: &[u8; 6] = b"ready\n";
 const STEP: u64 = 5;
 
 // Waits until something is there to be read, or its end, for so long at the most.
-fn is_readable<R: Net, S: AsRawFd>(
+fn is_readable<R: Net>(
     rt: &R,
     alloc: Global,
-    output: &S,
+    output: &PipeReader,
     most: Duration,
 ) -> io::Result<bool> {
     let mut poll = Poll::new(rt)?;
@@ -36,10 +36,10 @@ fn is_readable<R: Net, S: AsRawFd>(
 }
 
 // Reads a child's line, for a limited time.
-fn read_line<R: Net + Clock, S: Read + AsRawFd>(
+fn read_line<R: Net + Clock>(
     rt: &R,
     alloc: Global,
-    output: &mut S,
+    output: &mut PipeReader,
 ) -> io::Result<[u8; READY.len()]> {
     let start = Instant::now(rt)?;
     let mut line = [0; READY.len()];
@@ -64,26 +64,21 @@ fn read_line<R: Net + Clock, S: Read + AsRawFd>(
     Ok(line)
 }
 
-/// Writes the token and a line feed to a child's input, waits for its line, and looks whether its socket is there. The input stays
-/// open, so that the child notices where this program is gone.
+/// Writes the token and a line feed to a child's input, waits for the line that it says, and looks whether its socket is there. The
+/// input stays open, so that the child notices where this program is gone.
 pub fn greet<R: Files + Net + Clock, P: OpenProcess>(
     rt: &R,
     alloc: Global,
     path: &str,
     child: &mut Child<P>,
+    said: &mut PipeReader,
     token: &[u8],
-) -> io::Result<()>
-where
-    P::Stdout: AsRawFd,
-{
+) -> io::Result<()> {
     if let Some(input) = &mut child.stdin {
         input.write_all(token)?;
         input.write_all(b"\n")?;
     }
-    let line = match &mut child.stdout {
-        Some(output) => read_line(rt, alloc, output)?,
-        None => [0; READY.len()],
-    };
+    let line = read_line(rt, alloc, said)?;
     if line == *READY && is_socket(rt, path) {
         Ok(())
     } else {

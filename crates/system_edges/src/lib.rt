@@ -1,7 +1,7 @@
 //! The edges to the system, which tell nothing of what passes through them: the acceptor of a port of this machine, the doors at
 //! it, and the door on a Unix socket; what starts and stops the programs of grains, and the link to them; and secrets from the
-//! system's randomness. A run's program listens at a socket `run-N.sock`, N its number, in one folder. What waits has a time limit
-//! (`limits`).
+//! system's randomness. A run's program listens at a socket `run-N.sock`, N its number, in one folder, and what it prints is logged.
+//! What waits has a time limit (`limits`).
 #![tactic(auto)]
 
 mod acceptor;
@@ -13,6 +13,8 @@ mod client_source;
 mod input_end;
 mod limits;
 mod lingering;
+mod logs;
+mod places;
 mod plan;
 mod proc_spawner;
 mod rng_secrets;
@@ -27,7 +29,9 @@ pub use client::{Client, SharedClient};
 pub use client_sink::ClientSink;
 pub use client_source::ClientSource;
 pub use input_end::{is_pipe, wait_for_end};
-pub use proc_spawner::ProcSpawner;
+pub use logs::{Logs, Output};
+pub use places::Places;
+pub use proc_spawner::{ProcSpawner, Starting};
 pub use rng_secrets::RngSecrets;
 pub use tcp_door::TcpDoor;
 pub use unix_door::UnixDoor;

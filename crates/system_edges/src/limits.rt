@@ -43,6 +43,9 @@ pub const MOST_STARTING: u64 = 5_000;
 /// How long a run's program may take to end by itself once its input has ended. Orders wait meanwhile.
 pub const MOST_STOPPING: u64 = 1_000;
 
+/// How many bytes a log of a program may have; the one before it is kept too.
+pub const MOST_LOG: u64 = 524_288;
+
 /// How long and how much is read of a client that still sends after its last answer, so that it reads that answer.
 pub const MOST_LINGERING: u64 = 1_000;
 

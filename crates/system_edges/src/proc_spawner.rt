@@ -4,33 +4,55 @@ ghost use Rattle.grain_supervise.specs.Spawning.{Spawns};
 
 use crate::activity::{Count, SharedActivity};
 use crate::child::{end, greet};
-use crate::socket::{is_memory, remove_socket, socket_path};
+use crate::logs::Output;
+use crate::places::Places;
+use crate::socket::{is_memory, remove_socket};
+use crossbeam_channel::Sender;
 use grain_supervise::{Spawner, StartFault};
-use host_base::{GrainId, RunId};
+use host_base::{AppId, GrainId, RunId};
 use std::alloc::Global;
+use std::env::Env;
+use std::io::PipeReader;
 use std::marker::Model;
 use std::net::Net;
-use std::os::fd::AsRawFd;
 use std::process::{Child, Command, OpenProcess, Processes, Stdio};
 use std::rt::Files;
+use std::sync::Wait;
 use std::time::Clock;
 use std::{env, io};
 
 /// How many connections a run's program takes.
 const CONNECTIONS: &str = "1000000000";
 
-/// Starts each run as this program itself with the words `grain DIR/run-N.sock 1000000000`, N the run's number, and ends it. A run is
-/// started once that program has said `ready` and its socket is there. What is started and stopped isn't told. When the spawner is
-/// dropped it ends all that still run.
-pub struct ProcSpawner<'a, R: Processes + Files + Alloc + Net + Clock> {
+/// Where programs are looked for, where this one isn't told.
+const USUAL_PATH: &str = "/usr/local/bin:/usr/bin:/bin";
+
+/// What programs are started with, beside what they are.
+#[derive(Drop)]
+pub struct Starting {
+    /// The folders beside the server's file.
+    pub places: Places,
+    /// The server's port, for whoever acts for a grain.
+    pub port: u16,
+    /// Where what they print is given to.
+    pub outputs: Option<Sender<Output>>,
+    pub activity: SharedActivity,
+}
+
+/// Starts each run by the program of its grain's application, or by this program itself where there is none, with the words
+/// `grain DIR/run-N.sock 1000000000`, N the run's number, in the grain's folder, and ends it. A run is started once that program has
+/// said `ready` and its socket is there. What is started and stopped isn't told. When the spawner is dropped it ends all that still
+/// run.
+pub struct ProcSpawner<'a, R: Processes + Files + Alloc + Net + Clock + Env, W: Wait> {
     rt: &'a R,
-    dir: String,
-    activity: SharedActivity,
+    wait: &'a W,
+    starting: Starting,
     running: Vec<(RunId, Child<R::Started>)>,
     faults: u64,
 }
 
-impl<'a, R: Processes + Files + Alloc + Net + Clock> Model for ProcSpawner<'a, R> {
+impl<'a, R: Processes + Files + Alloc + Net + Clock + Env, W: Wait> Model
+    for ProcSpawner<'a, R, W> {
     ghost use Rattle.std.specs.Prelude.{None};
     ghost use Rattle.grain_supervise.specs.Spawning.{Spawns};
 
@@ -39,29 +61,98 @@ impl<'a, R: Processes + Files + Alloc + Net + Clock> Model for ProcSpawner<'a, R
     ghost view = { λ s. record { faults = s.faults; starts = None; stops = None } };
 }
 
-// Starts the program of a run whose socket is at this path; one that doesn't come up is ended.
-fn launch<R: Processes + Files + Alloc + Net + Clock>(
+// A run that is to be started.
+#[derive(Clone, Copy)]
+struct NewRun {
+    run: RunId,
+    grain: GrainId,
+    app: AppId,
+}
+
+// The ends of the pipes by which this program hears what another one prints.
+#[derive(Drop)]
+struct Heard {
+    said: PipeReader,
+    complained: PipeReader,
+}
+
+// The program of a run, with its words, its folder, a small environment, and pipes for what it prints.
+fn command_of<R: Files + Alloc + Env>(
     alloc: Global,
     rt: &R,
-    path: &str,
-    token: &[u8],
-) -> io::Result<Child<R::Started>>
-where
-    <R::Started as OpenProcess>::Stdout: AsRawFd,
-{
-    let mut command = Command::new(alloc, env::current_exe(rt)?)?;
+    starting: &Starting,
+    new: NewRun,
+    socket: &str,
+) -> io::Result<(Command, Heard)> {
+    let folder = starting.places.folder(rt, alloc, new.grain)?;
+    let mut command = Command::new(alloc, starting.places.program(rt, alloc, new.app)?)?;
     command.arg("grain")?;
-    command.arg(path)?;
+    command.arg(socket)?;
     command.arg(CONNECTIONS)?;
+    command.env_clear();
+    match env::var(rt, "PATH") {
+        Ok(path) => command.env("PATH", path)?,
+        Err(_) => command.env("PATH", USUAL_PATH)?,
+    };
+    let port = starting.port;
+    command.env("LANG", "C.UTF-8")?;
+    command.env("HOME", folder.as_str())?;
+    command.env("LUMBYTE_SERVER", format!(in alloc; "127.0.0.1:{port}")?)?;
+    command.current_dir(folder)?;
+    let (said, saying) = io::pipe(rt)?;
+    let (complained, complaining) = io::pipe(rt)?;
     command.stdin(Stdio::piped());
-    command.stdout(Stdio::piped());
-    command.stderr(Stdio::null());
+    command.stdout(Stdio::from(saying));
+    command.stderr(Stdio::from(complaining));
+    Ok((command, Heard { said, complained }))
+}
+
+// Has what a program prints from now on logged. Where that can't be done it is closed, and the program goes on.
+fn log<W: Wait>(
+    alloc: Global,
+    wait: &W,
+    starting: &Starting,
+    grain: GrainId,
+    heard: Heard,
+) -> io::Result<()> {
+    let Some(outputs) = &starting.outputs else {
+        return Ok(());
+    };
+    let Heard { said, complained } = heard;
+    for pipe in [said, complained] {
+        let log = starting.places.log(alloc, grain)?;
+        let _ = outputs.try_send(wait, Output { pipe, log });
+    }
+    Ok(())
+}
+
+// Starts the program of a run whose socket is at this path; one that doesn't come up is ended.
+fn launch<R: Processes + Files + Alloc + Net + Clock + Env, W: Wait>(
+    alloc: Global,
+    rt: &R,
+    wait: &W,
+    starting: &Starting,
+    new: NewRun,
+    token: &[u8],
+) -> io::Result<Child<R::Started>> {
+    let socket = starting.places.socket(alloc, new.run)?;
+    let (mut command, mut heard) = command_of(alloc, rt, starting, new, socket.as_str())?;
     let mut child = command.spawn(rt)?;
-    match greet(rt, alloc, path, &mut child, token) {
+    drop(command);
+    let greeted = greet(
+        rt,
+        alloc,
+        socket.as_str(),
+        &mut child,
+        &mut heard.said,
+        token,
+    );
+    let logged = log(alloc, wait, starting, new.grain, heard);
+    match greeted.and(logged) {
         Ok(()) => Ok(child),
         Err(error) => {
             let _ = end(rt, &mut child);
-            remove_socket(rt, path);
+            remove_socket(rt, socket.as_str());
             Err(error)
         }
     }
@@ -75,24 +166,21 @@ fn place_of<P: OpenProcess>(running: &[(RunId, Child<P>)], run: RunId) -> Option
 }
 
 // A run that is there already isn't started again.
-fn try_start<R: Processes + Files + Alloc + Net + Clock>(
+fn try_start<R: Processes + Files + Alloc + Net + Clock + Env, W: Wait>(
     alloc: Global,
     rt: &R,
-    dir: &str,
+    wait: &W,
+    starting: &Starting,
     running: &mut Vec<(RunId, Child<R::Started>)>,
-    run: RunId,
+    new: NewRun,
     token: &[u8],
-) -> io::Result<()>
-where
-    <R::Started as OpenProcess>::Stdout: AsRawFd,
-{
-    if place_of(running, run).is_some() {
+) -> io::Result<()> {
+    if place_of(running, new.run).is_some() {
         return Err(io::Error::from(io::ErrorKind::AlreadyExists));
     }
     running.reserve(1)?;
-    let path = socket_path(alloc, dir, run)?;
-    let child = launch(alloc, rt, path.as_str(), token)?;
-    match running.push((run, child)) {
+    let child = launch(alloc, rt, wait, starting, new, token)?;
+    match running.push((new.run, child)) {
         Ok(()) => Ok(()),
         Err(_) => unreachable!(),
     }
@@ -102,11 +190,11 @@ where
 fn try_stop<R: Processes + Files + Alloc + Net + Clock>(
     alloc: Global,
     rt: &R,
-    dir: &str,
+    places: &Places,
     running: &mut Vec<(RunId, Child<R::Started>)>,
     run: RunId,
 ) -> io::Result<()> {
-    let path = socket_path(alloc, dir, run)?;
+    let path = places.socket(alloc, run)?;
     if let Some(at) = place_of(running, run) {
         end(rt, &mut running[at].1)?;
         running.swap_remove(at);
@@ -115,15 +203,15 @@ fn try_stop<R: Processes + Files + Alloc + Net + Clock>(
     Ok(())
 }
 
-impl<'a, R: Processes + Files + Alloc + Net + Clock> ProcSpawner<'a, R> {
-    /// A spawner that started nothing yet, with the folder of the sockets.
-    pub fn new(alloc: Global, rt: &'a R, dir: String, activity: SharedActivity) -> Self
+impl<'a, R: Processes + Files + Alloc + Net + Clock + Env, W: Wait> ProcSpawner<'a, R, W> {
+    /// A spawner that started nothing yet.
+    pub fn new(alloc: Global, rt: &'a R, wait: &'a W, starting: Starting) -> Self
         ensures { result ≡ record { faults = 0; starts = None; stops = None } }
     {
         ProcSpawner {
             rt,
-            dir,
-            activity,
+            wait,
+            starting,
             running: Vec::new(alloc),
             faults: 0,
         }
@@ -150,47 +238,48 @@ fn fault_of(faults: &mut u64, activity: &SharedActivity, error: &io::Error) -> S
     StartFault::StartFailed
 }
 
-impl<'a, R: Processes + Files + Alloc + Net + Clock> Spawner for ProcSpawner<'a, R>
-where
-    <R::Started as OpenProcess>::Stdout: AsRawFd,
-{
+impl<'a, R: Processes + Files + Alloc + Net + Clock + Env, W: Wait> Spawner
+    for ProcSpawner<'a, R, W> {
     ghost spawns = { λ s. s };
 
     fn start(
         &mut self,
         alloc: Global,
         run: RunId,
-        _grain: GrainId,
+        grain: GrainId,
+        app: AppId,
         token: &[u8],
     ) -> Result<(), StartFault> {
-        let dir = self.dir.as_str();
-        match try_start(alloc, self.rt, dir, &mut self.running, run, token) {
+        let new = NewRun { run, grain, app };
+        let (starting, running) = (&self.starting, &mut self.running);
+        match try_start(alloc, self.rt, self.wait, starting, running, new, token) {
             Ok(()) => Ok(()),
-            Err(error) => Err(fault_of(&mut self.faults, &self.activity, &error)),
+            Err(error) => Err(fault_of(&mut self.faults, &self.starting.activity, &error)),
         }
     }
 
     fn stop(&mut self, alloc: Global, run: RunId) -> Result<(), StartFault> {
-        let dir = self.dir.as_str();
-        match try_stop(alloc, self.rt, dir, &mut self.running, run) {
+        let places = &self.starting.places;
+        match try_stop(alloc, self.rt, places, &mut self.running, run) {
             Ok(()) => Ok(()),
-            Err(error) => Err(fault_of(&mut self.faults, &self.activity, &error)),
+            Err(error) => Err(fault_of(&mut self.faults, &self.starting.activity, &error)),
         }
     }
 }
 
-impl<'a, R: Processes + Files + Alloc + Net + Clock> Drop for ProcSpawner<'a, R> {
+impl<'a, R: Processes + Files + Alloc + Net + Clock + Env, W: Wait> Drop for ProcSpawner<'a, R, W> {
     fn drop(self) {
         let ProcSpawner {
             rt,
-            dir,
-            activity: _,
+            wait: _,
+            starting,
             running,
             faults: _,
         } = self;
+        let alloc = *running.allocator();
         for (run, mut child) in running {
             let _ = end(rt, &mut child);
-            if let Ok(path) = socket_path(*dir.allocator(), dir.as_str(), run) {
+            if let Ok(path) = starting.places.socket(alloc, run) {
                 remove_socket(rt, path.as_str());
             }
         }

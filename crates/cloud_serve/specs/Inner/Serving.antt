@@ -1,20 +1,11 @@
 -- An aid for the contracts of the private functions that serve a connection.
 use Rattle.std.specs.Prelude.{◌≡◌, ℕ, ◌+◌, ◌<◌, ◌≤◌, ◌⊎◌, ◌++◌, true, false, List, [], ◌∷◌, Some, Result, Ok, Err, length, take, map}
 use Rattle.std.specs.List.{flat_map}
-use Rattle.host_base.specs.Outside.{Inlet, Outlet, Rose}
-use Rattle.host_base.specs.declared.request.Request.{Request}
-use Rattle.front_http.specs.declared.fault.FrontFault.{FrontFault}
+use Rattle.cloud_serve.specs.Terms.{Book, End, FrontFault, Inlet, IsRemaining, IsStream, Line, memory_text, Outlet, Reading, Refusal, refusal_status, refused_text, Request, Requests, Rose}
 use Rattle.front_http.specs.declared.fault.FrontFault.TheVariants as fault
-use Rattle.front_http.specs.declared.refusal.Refusal.{Refusal}
 use Rattle.front_http.specs.declared.refusal.Refusal.TheVariants as refusal
-use Rattle.front_http.specs.Reading.{Reading, IsRemaining}
-use Rattle.front_http.specs.Stream.{Requests, IsStream}
-use Rattle.grain_supervise.specs.Line.{Line}
-use Rattle.cloud_serve.specs.declared.serve.End.{End}
 use Rattle.cloud_serve.specs.declared.serve.End.TheVariants as end
-use Rattle.hub_core.specs.Book.{Book}
 use Rattle.cloud_serve.specs.Effects.{AskedOf, OrderedOf}
-use Rattle.reply_texts.specs.Texts.{refusal_status, refused_text, memory_text}
 use Rattle.cloud_serve.specs.Turns.{Turn, IsLawful, AreLawful}
 use Rattle.cloud_serve.specs.Served.{World, all_answered, EndsLast, InHand, request_in, asked_in, acts_in, text_in, IsLawfulIn, HandAt, CauseAt, StreamAt, WrittenAt, CountAt, limit, Splits}
 

@@ -1,22 +1,6 @@
 -- Aids for the contracts of the private functions that take a turn.
 use Rattle.std.specs.Prelude.{◌≡◌, ℕ, ◌+◌, ◌⊎◌, Bool, List, [], ◌∷◌, Option, Some, Result, Ok, Err, length}
-use Rattle.host_base.specs.declared.bytes.Memory.{Memory}
-use Rattle.host_base.specs.declared.ids.GrainId.{GrainId}
-use Rattle.host_base.specs.declared.ids.RunId.{RunId}
-use Rattle.host_base.specs.declared.key.Key.{Key}
-use Rattle.host_base.specs.declared.permit.Permit.{Permit}
-use Rattle.host_base.specs.declared.request.Request.{Request}
-use Rattle.bridge_headers.specs.Text.{grain_text}
-use Rattle.grain_supervise.specs.declared.ask.Ask.{Ask}
-use Rattle.grain_supervise.specs.Line.{Line}
-use Rattle.site_caps.specs.Law.{Law}
-use Rattle.site_caps.specs.declared.fault.SiteFault.{SiteFault}
-use Rattle.cloud_serve.specs.declared.turn.Answered.{Answered}
-use Rattle.hub_core.specs.Book.{Book}
-use Rattle.site_caps.specs.Answering.{GivesText}
-use Rattle.desk_bodies.specs.Answers.{Answers}
-use Rattle.desk_bodies.specs.declared.fault.BodyFault.{BodyFault}
-use Rattle.cloud_serve.specs.declared.showing.Showing.{Showing}
+use Rattle.cloud_serve.specs.Terms.{Answered, Answers, Ask, BodyFault, Book, GivesText, grain_text, GrainId, Key, Law, Line, Memory, Permit, Request, RunId, Showing, SiteFault}
 use Rattle.cloud_serve.specs.declared.showing.Showing.TheVariants as showing
 use Rattle.cloud_serve.specs.Routes.{Shows}
 use Rattle.cloud_serve.specs.Effects.{AskedOf, OrderedOf}

@@ -24,7 +24,7 @@ returns-in-Err-clause-serves g c =
     let door = g.W.Door.Door.doorway c.args.door in
     let back = c.in-Err.ensures.back in
     serves_none g.C.Law.SiteLaw.law c.args.locked.start c.args.count c.args.locked.holds c.into_held-held.result c.args.locked.history door _ _
-    (kept_same c.args.locked.holds c.into_held-held.result c.args.locked.history c.into_held-held.ensures.held c.requires.empty) c.requires.empty c.into_held-held.ensures.stored
+    (kept_same c.args.locked.start c.args.locked.holds c.into_held-held.result c.args.locked.history c.into_held-held.ensures.held c.requires.empty) c.requires.empty c.into_held-held.ensures.stored
     (ap (λ d. given_and_back (g.W.Door.Door.doorway d)) back ∙ ap given_and_back c.expect.ensures ∙ expecting_same door c.args.count)
 
 pub do_at_once-locked-requires-send-J : goal.do_at_once-locked-requires-send-J
@@ -55,7 +55,7 @@ returns-then-is_err-clause-serves g c =
     let history = done.result.locked.history in
     let held = c.into_held-held-2.result in
     serves_none g.C.Law.SiteLaw.law c.args.locked.start c.args.count c.args.locked.holds held history door _ _
-    (subst (λ (h : Backing). HasKept c.args.locked.holds h history) (sym c.into_held-held-2.ensures.held) done.ensures.kept) none.1
+    (subst (λ (h : Backing). HasKept c.args.locked.start c.args.locked.holds h history) (sym c.into_held-held-2.ensures.held) done.ensures.kept) none.1
     (subst (λ (s : State). IsStored held.keeping (replay s history).tables) done.ensures.start c.into_held-held-2.ensures.stored)
     (ap given_and_back (c.dismiss-door.ensures.door hired.handles hired.main (ap (λ jobs. jobs.items) none.0 ∙ hired.all))
     ∙ handles_same hired.main.doorway hired.handles ∙ ap given_and_back hired.main_is ∙ expecting_same door c.args.count)
@@ -74,7 +74,7 @@ returns-clause-serves g c =
     record {
       history = history;
       stored = subst (λ (s : State). IsStored held.keeping (replay s history).tables) jobs.ensures.start c.into_held-held-2.ensures.stored;
-      kept = subst (λ (h : Backing). HasKept c.args.locked.holds h history) (sym c.into_held-held-2.ensures.held) jobs.ensures.kept;
+      kept = subst (λ (h : Backing). HasKept c.args.locked.start c.args.locked.holds h history) (sym c.into_held-held-2.ensures.held) jobs.ensures.kept;
       ends = inr (record {
         before = c.in-Ok.workers.items;
         handles = last.handles;

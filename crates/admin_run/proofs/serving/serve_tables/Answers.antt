@@ -9,7 +9,7 @@ pub returns-in-Err-clause-serves : goal.returns-in-Err-clause-serves
 returns-in-Err-clause-serves g c = rw (← c.world.view_is, c.joined-world.ensures)
     (let same = c.in-Err.ensures.err in
     let stored = rw (← c.world.view_is) at c.requires.stored in
-    serves_none g.C.Law.SiteLaw.law (opened c.args.tables) c.args.count _ c.in-Err.held [] _ _ _ (kept_same _ _ [] same refl) refl
+    serves_none g.C.Law.SiteLaw.law (opened c.args.tables) c.args.count _ c.in-Err.held [] _ _ _ (kept_same _ _ _ [] same refl) refl
     (subst (λ (h : Backing). IsStored h.keeping c.args.tables) (sym same) stored) refl)
 
 pub serve_history-status-requires-clause-order : goal.serve_history-status-requires-clause-order

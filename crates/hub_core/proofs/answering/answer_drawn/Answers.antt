@@ -4,6 +4,11 @@ use Rattle.hub_core.specs.Sharing.{sharing_of}
 use Rattle.hub_core.proofs.Replies.{changed, clashed, completed, drafted, unchanged}
 use Rattle.hub_core.proofs.answering.answer_drawn.Goals as goal
 
+pub app_of-app-requires : goal.app_of-app-requires
+app_of-app-requires g c =
+    let made = c.in-Ok-complete.ensures in
+    rw (c.state-in-Ok-complete.ensures.value, made.0) (c.requires.fits c.in-Ok-text_of.digest (rw (← c.state.ensures.value) made.2))
+
 pub add-added-requires-clause-fits : goal.add-added-requires-clause-fits
 add-added-requires-clause-fits g c =
     let made = c.in-Ok-complete.ensures in
@@ -35,7 +40,8 @@ returns-in-Ok-complete g c = rw (c.replied.ensures, c.shown_text.ensures, c.in-O
     changed law c.args.found (sharing_of c.args.history.now c.args.held.now) c.args.order.now c.draw.new.held
     (c.in-Ok.secret ∷ []) (c.draw.ensures.others, c.draw.ensures.counts, (_, c.in-Ok.ensures.drawn, refl)) c.requires.asks
     (sharing_of c.add-added.new.self c.add-added.new.held) c.in-Ok-complete.event c.in-Ok-complete.made c.add-added.result
-    c.add-added.ensures.start c.add-added.ensures.entries
+    c.add-added.ensures.start c.add-added.ensures.entries c.app_of-app.result
+    (rw (← c.state-in-Ok-complete.ensures.value) c.app_of-app.ensures)
     (rw (← (c.as_slice.ensures.value ∙ c.in-Ok-text_of.ensures.0)) c.add-added.ensures.told)
     (rw c.in-Ok-complete.ensures.0 (drafted _ c.args.draft.event c.in-Ok-text_of.digest c.in-Ok-text_of.ensures.1)) c.add-added.ensures.stored
     (completed _ _ c.args.found c.args.order.now c.in-Ok.secret c.args.draft c.in-Ok-text_of.digest c.in-Ok-complete.event

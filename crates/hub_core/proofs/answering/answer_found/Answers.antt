@@ -26,7 +26,8 @@ pub returns-in-Change : goal.returns-in-Change
 returns-in-Change g c = λ law. rw c.replied.ensures
     (changed law c.args.found (sharing_of c.args.history.now c.args.held.now) c.args.order.now c.args.held.now []
     (refl, omega arith, refl) c.requires.asks (sharing_of c.add-added.new.self c.add-added.new.held) c.in-Change.event
-    c.in-Change.made c.add-added.result c.add-added.ensures.start c.add-added.ensures.entries c.add-added.ensures.told
+    c.in-Change.made c.add-added.result c.add-added.ensures.start c.add-added.ensures.entries c.app_of-app.result
+    (rw (← c.state-in-Change.ensures.value) c.app_of-app.ensures) c.add-added.ensures.told
     (no_start [] c.in-Change.event c.in-Change.ensures.fits.1) c.add-added.ensures.stored (rw (← c.state.ensures.value, ← c.count-count.ensures.value) c.in-Change.ensures.decided))
 
 pub returns-in-Memory : goal.returns-in-Memory

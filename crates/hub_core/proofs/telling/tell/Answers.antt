@@ -6,7 +6,7 @@ pub returns-in-Some-clause-told : goal.returns-in-Some-clause-told
 returns-in-Some-clause-told g c =
     let inside = c.held.inside in
     let holds : Backing = record { keeping = g.H.Keeper.Keeper.keeping inside.keeper; drawer = g.H.Secrets.Secrets.drawer inside.secrets; spawns = g.H.Spawner.Spawner.spawns inside.spawner } in
-    rw (← c.held.view_is) (c.keep.ensures.told holds c.args.event.now c.args.token.now (rw c.in-Some.is at c.requires))
+    rw (← c.held.view_is) (c.keep.ensures.told holds c.args.event.now c.args.app c.args.token.now (rw c.in-Some.is at c.requires))
 
 pub returns-in-None-clause-told : goal.returns-in-None-clause-told
 returns-in-None-clause-told g c =

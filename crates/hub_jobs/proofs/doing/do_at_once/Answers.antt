@@ -6,4 +6,5 @@ use Rattle.hub_jobs.proofs.doing.do_at_once.Goals as goal
 
 pub returns-in_default-clause-kept : goal.returns-in_default-clause-kept
 returns-in_default-clause-kept g c =
-    subst (λ (h : List Event). HasKept c.args.locked.holds c.args.locked.holds h) (sym c.requires.empty) (kept_none c.args.locked.holds)
+    let locked = c.args.locked in
+    subst (λ (h : List Event). HasKept locked.start locked.holds locked.holds h) (sym c.requires.empty) (kept_none locked.start locked.holds)

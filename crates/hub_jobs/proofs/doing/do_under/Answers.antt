@@ -11,7 +11,7 @@ use Rattle.hub_jobs.proofs.doing.do_under.Goals as goal
 
 pub returns-clause-kept : goal.returns-clause-kept
 returns-clause-kept g c =
-    subst (λ (s : Sharing). HasKept s.holds c.into_locked.result.holds c.into_locked.result.history) (c.in-Ok.ensures.start ∙ sym c.requires.start) c.into_locked.ensures.kept
+    subst (λ (s : Sharing). HasKept s.start s.holds c.into_locked.result.holds c.into_locked.result.history) (c.in-Ok.ensures.start ∙ sym c.requires.start) c.into_locked.ensures.kept
 
 pub returns-clause-done : goal.returns-clause-done
 returns-clause-done g c =

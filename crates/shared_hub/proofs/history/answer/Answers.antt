@@ -12,5 +12,5 @@ returns-clause-acts g c =
     c.order-answer.ensures.ordered
 
 pub returns-clause-kept : goal.returns-clause-kept
-returns-clause-kept g c = λ began kept.
-    kept_more g.C.Law.SiteLaw.law began c.args.locked.now c.order-answer.new.self c.args.order c.order-answer.result c.order-answer.ensures.ordered kept
+returns-clause-kept g c = λ began same kept. rw (← same)
+    (kept_more g.C.Law.SiteLaw.law began.holds c.args.locked.now c.order-answer.new.self c.args.order c.order-answer.result c.order-answer.ensures.ordered (rw same kept))

@@ -1,14 +1,14 @@
 use Rattle.std.proofs.Common.{List, ap, subst, sym}
 use Rattle.desk_base.specs.Terms.{Event}
-use Rattle.hub_core.specs.Book.{Backing}
 use Rattle.hub_core.specs.Sharing.{Sharing}
 use Rattle.shared_hub.specs.Since.{HasKept}
 use Rattle.shared_hub.proofs.Since.{kept_none}
 use Rattle.shared_hub.proofs.history.SharedHistory.new.Goals as goal
 
 pub invariant_of-result : goal.invariant_of-result
-invariant_of-result g c = (
-  ap (λ (sharing : Sharing). sharing.start) (sym c.of-began.ensures),
-  subst (λ (began : Backing). HasKept began c.args.locked.holds c.args.locked.history) (ap (λ (sharing : Sharing). sharing.holds) (sym c.of-began.ensures))
-      (subst (λ (history : List Event). HasKept c.args.locked.holds c.args.locked.holds history) (sym c.requires) (kept_none c.args.locked.holds)),
-)
+invariant_of-result g c =
+    let locked = c.args.locked in (
+      ap (λ (sharing : Sharing). sharing.start) (sym c.of-began.ensures),
+      subst (λ (began : Sharing). HasKept began.start began.holds locked.holds locked.history) (sym c.of-began.ensures)
+          (subst (λ (history : List Event). HasKept locked.start locked.holds locked.holds history) (sym c.requires) (kept_none locked.start locked.holds)),
+    )
