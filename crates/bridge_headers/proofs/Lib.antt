@@ -1,4 +1,5 @@
 pub mod ClientLines
+pub mod CookieLemmas
 pub mod FramingLemmas
 pub mod HeadLemmas
 pub mod LineLemmas

@@ -22,12 +22,12 @@ any_at p f [] i d within passes = absurd (omega arith)
 any_at p f (x ∷ xs) zero d within passes = ap (λ (b : Bool). b || list_any p (map f xs)) passes
 any_at p f (x ∷ xs) (suc i) d within passes = or_true (p (f x)) (list_any p (map f xs)) (any_at p f xs i d (omega arith) passes)
 
--- the lines that are passed on of one line more
-passed-more : (names : List (List ℕ)) (lines : List HeaderLine) (line : HeaderLine) → lines_text (passed names (lines ++ line ∷ [])) ≡ lines_text (passed names lines) ++ lines_text (passed names (line ∷ []))
-passed-more names lines line =
-    ap (λ kept. lines_text (map lower_line kept)) (filter-append (λ sent. is_passed names sent.0) lines (line ∷ []))
-    ∙ ap lines_text (map-append lower_line (filter (λ sent. is_passed names sent.0) lines) (filter (λ sent. is_passed names sent.0) (line ∷ [])))
-    ∙ flat_map-append line_text (passed names lines) (passed names (line ∷ []))
+-- the lines that are passed on of more lines
+pub passed-append : (names : List (List ℕ)) (lines more : List HeaderLine) → lines_text (passed names (lines ++ more)) ≡ lines_text (passed names lines) ++ lines_text (passed names more)
+passed-append names lines more =
+    ap (λ kept. lines_text (map lower_line kept)) (filter-append (λ sent. is_passed names sent.0) lines more)
+    ∙ ap lines_text (map-append lower_line (filter (λ sent. is_passed names sent.0) lines) (filter (λ sent. is_passed names sent.0) more))
+    ∙ flat_map-append line_text (passed names lines) (passed names more)
 
 -- pieces that were appended one after another
 pub one_line : (new old : List ℕ) (line : HeaderLine) → new ≡ old ++ line_text line → new ≡ old ++ lines_text (line ∷ [])
@@ -58,5 +58,5 @@ is_listed name (x ∷ xs) low same =
 pub passed_next : (names : List (List ℕ)) (new mid old : List ℕ) (lines more : List HeaderLine) (line : HeaderLine) → more ≡ lines ++ line ∷ [] → mid ≡ old ++ lines_text (passed names lines)
     → new ≡ mid ++ lines_text (passed names (line ∷ [])) → new ≡ old ++ lines_text (passed names more)
 passed_next names new mid old lines more line is first second =
-    second ∙ ap (λ (xs : List ℕ). xs ++ lines_text (passed names (line ∷ []))) first ∙ append_assoc old _ _ ∙ ap (λ (xs : List ℕ). old ++ xs) (sym (passed-more names lines line))
+    second ∙ ap (λ (xs : List ℕ). xs ++ lines_text (passed names (line ∷ []))) first ∙ append_assoc old _ _ ∙ ap (λ (xs : List ℕ). old ++ xs) (sym (passed-append names lines (line ∷ [])))
     ∙ ap (λ (ls : List HeaderLine). old ++ lines_text (passed names ls)) (sym is)

@@ -1,3 +1,4 @@
+pub mod Cookies
 pub mod Lines
 pub mod Relay
 pub mod Spans

@@ -1,5 +1,5 @@
 -- The relay of a grain's answer.
-use Rattle.std.specs.Prelude.{◌≡◌, ℕ, ◌+◌, ◌++◌, ◌==◌, ◌||◌, ◌&&◌, Bool, List, [], ◌∷◌, Option, Some, None, Result, Ok, Err, length, take, drop, map, filter, min, nat_eq, nat_le, nat_lt, unwrap_or, codes, decimal, if◌then◌else◌}
+use Rattle.std.specs.Prelude.{◌≡◌, ℕ, ◌+◌, ◌++◌, ◌==◌, ◌||◌, ◌&&◌, not, Bool, List, [], ◌∷◌, Option, Some, None, Result, Ok, Err, length, take, drop, map, filter, min, nat_eq, nat_le, nat_lt, unwrap_or, codes, decimal, if◌then◌else◌}
 use Rattle.std.specs.List.{list_any, starts_with}
 use Rattle.std.specs.Option.{option_map}
 use Rattle.std.specs.Str.{all_ascii_digits}
@@ -12,6 +12,7 @@ use Rattle.bridge_headers.specs.declared.stated.Stated.TheVariants.{Nothing, Byt
 use Rattle.bridge_headers.specs.declared.fault.RelayFault.{RelayFault}
 use Rattle.bridge_headers.specs.declared.fault.RelayFault.TheVariants.{BadAnswer, NoLength}
 use Rattle.bridge_headers.specs.Lines.{HeaderLine, lines_text, same_name, states_length, passed}
+use Rattle.bridge_headers.specs.Cookies.{is_foreign}
 
 -- how long the shortest run is that ends with CR LF CR LF, if there is one
 abbrev pub run_length : List ℕ → Option ℕ
@@ -76,9 +77,13 @@ end_by head (Bytes n) = if list_any states_encoding head.lines then Err NoLength
 abbrev pub end_of : Head → Result ℕ RelayFault
 end_of head = if is_relayed head.status then end_by head (stated head.lines) else Err (BadAnswer 0)
 
--- the names of the answer's lines that are passed on
+-- the names of the answer's lines that may be passed on
 abbrev pub answer_names : List (List ℕ)
 answer_names = codes "content-type" ∷ codes "content-language" ∷ codes "content-encoding" ∷ codes "content-disposition" ∷ codes "content-range" ∷ codes "accept-ranges" ∷ codes "location" ∷ codes "set-cookie" ∷ []
+
+-- the answer's lines that are passed on: those of these names but for cookies of other hosts, in their order
+abbrev pub answer_lines : List HeaderLine → List HeaderLine
+answer_lines lines = passed answer_names (filter (λ line. not (is_foreign line)) lines)
 
 -- the status line, with the phrase that the code has, if it has one
 abbrev pub status_line : ℕ → List ℕ
@@ -90,7 +95,7 @@ length_lines status n = if is_bodiless status then [] else (codes "Content-Lengt
 
 -- the lines that a client gets of an answer with a body of that length
 abbrev pub relay_lines : Head → ℕ → List HeaderLine
-relay_lines head n = length_lines head.status n ++ passed answer_names head.lines
+relay_lines head n = length_lines head.status n ++ answer_lines head.lines
 
 -- what a client gets of an answer of that head and body
 abbrev pub relay_text : Head → List ℕ → Bool → List ℕ

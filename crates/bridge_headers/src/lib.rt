@@ -2,6 +2,7 @@
 #![tactic(auto)]
 
 mod asked;
+mod cookies;
 mod fault;
 mod framing;
 mod head;

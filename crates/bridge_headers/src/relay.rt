@@ -1,10 +1,11 @@
-ghost use Rattle.std.specs.Prelude.{◌≡◌, ◌≢◌, ℕ, ◌<◌, ◌≤◌, ◌++◌, List, [], All, IfErr, IfOk, OnOk, Some, Result, Ok, Err, length, map, take, unwrap_or};
+ghost use Rattle.std.specs.Prelude.{◌≡◌, ◌≢◌, ℕ, ◌<◌, ◌≤◌, ◌++◌, ◌∷◌, List, [], All, IfErr, IfOk, OnOk, Some, Result, Ok, Err, length, map, take, unwrap_or};
 ghost use Rattle.http.specs.StatusCode.{reason_phrase};
 ghost use Rattle.httparse.specs.Spans.{header_bytes, IsHeaderWithin};
-ghost use Rattle.bridge_headers.specs.Lines.{lines_text, passed};
-ghost use Rattle.bridge_headers.specs.Relay.{Relays, answer_names, length_lines, relay, relay_text as text_of, status_line};
+ghost use Rattle.bridge_headers.specs.Lines.{lines_text};
+ghost use Rattle.bridge_headers.specs.Relay.{Relays, answer_lines, length_lines, relay, relay_text as text_of, status_line};
 ghost use Rattle.bridge_headers.specs.Spans.{head_of};
 
+use crate::cookies::is_foreign_cookie;
 use crate::fault::RelayFault;
 use crate::framing::{end_of, is_bodiless};
 use crate::head::{HeadSpans, read_head, run_end};
@@ -15,7 +16,7 @@ use httparse::spans::HeaderSpan;
 use itoa::Buffer;
 use std::alloc::Global;
 
-// The names of the answer's lines that are passed on.
+// The names of the answer's lines that may be passed on.
 const ANSWER_NAMES: [&str; 8] = [
     "content-type",
     "content-language",
@@ -69,15 +70,26 @@ fn put_length(text: &mut Vec<u8>, status: u16, length: usize) -> Result<(), Memo
     }
 }
 
+// Appends a line of an answer, if it is passed on.
+fn put_answer_line(text: &mut Vec<u8>, name: &[u8], value: &[u8]) -> Result<(), Memory>
+    ensures { OnOk result (text.new.items
+        ≡ text.old.items ++ lines_text (answer_lines ((name.now, value.now) ∷ []))) }
+{
+    if is_foreign_cookie(name, value) {
+        Ok(())
+    } else {
+        put_passed(text, &ANSWER_NAMES, name, value)
+    }
+}
+
 fn put_answer_lines(text: &mut Vec<u8>, head: &[u8], fields: &[HeaderSpan]) -> Result<(), Memory>
     requires { All (IsHeaderWithin (length head.now)) fields.now }
     ensures { OnOk result (text.new.items
-        ≡ text.old.items ++ lines_text
-        (passed answer_names (map (header_bytes head.now) fields.now))) }
+        ≡ text.old.items ++ lines_text (answer_lines (map (header_bytes head.now) fields.now))) }
 {
     for field in fields {
         let (name, value) = (field.name.of(head), field.value.of(head));
-        put_passed(text, &ANSWER_NAMES, name, value)?;
+        put_answer_line(text, name, value)?;
     }
     Ok(())
 }

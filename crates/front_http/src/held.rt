@@ -43,6 +43,14 @@ impl Held {
         &self.list[self.start..]
     }
 
+    /// How many bytes there are.
+    pub fn count(&self) -> usize
+        ensures count { result ≡ length self.now }
+        ensures few { result ≤ 1069056 }
+    {
+        self.list.len() - self.start
+    }
+
     /// Lets go of the first bytes.
     pub fn skip(&mut self, count: usize)
         requires { count ≤ length self.old }

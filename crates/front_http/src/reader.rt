@@ -66,6 +66,15 @@ impl RequestReader {
         }
     }
 
+    /// How many bytes were taken from the input and belong to no request that was handed out: a head, a body and a piece at the
+    /// most, whatever came.
+    pub fn held(&self) -> u64
+        ensures held { result ≡ length self.now.held }
+        ensures few { result ≤ 1069056 }
+    {
+        self.held.count() as u64
+    }
+
     // Looks at the bytes that are held.
     fn see(&mut self, alloc: Global) -> Result<Seen, Memory>
         ensures same { self.new ≡ self.old }

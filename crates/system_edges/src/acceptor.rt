@@ -1,6 +1,6 @@
 //! The acceptor of a port: it keeps the connections that are silent, and gives out those whose first byte is there.
 
-use crate::activity::{Activity, Count, SharedActivity};
+use crate::activity::{Activity, SharedActivity};
 use crate::client::{Client, SharedClient};
 use crate::limits::{
     MOST_EVENTS, MOST_READY, MOST_SILENT, MOST_STILL, MOST_WAITING, TELLING, TURN, millis,
@@ -82,8 +82,8 @@ impl Waiters {
             && place.is_some()
         {
             *place = None;
-            activity.take_one(Count::Waiting);
-            activity.add_one(Count::Silent);
+            activity.waiting.take_one();
+            activity.silent.add_one();
         }
     }
 
@@ -118,7 +118,7 @@ impl Waiters {
         {
             registry.register(&mut stream, Token(at), Interest::READABLE)?;
             *place = Some(Waiting { stream, since });
-            activity.add_one(Count::Waiting);
+            activity.waiting.add_one();
         }
         Ok(())
     }
@@ -126,7 +126,7 @@ impl Waiters {
     // Takes a connection out.
     fn release(&mut self, registry: &Registry, activity: &Activity, at: usize) -> Option<Silent> {
         let mut waiting = self.places.get_mut(at)?.take()?;
-        activity.take_one(Count::Waiting);
+        activity.waiting.take_one();
         match registry.deregister(&mut waiting.stream) {
             Ok(()) => Some(waiting.stream),
             Err(_) => None,
@@ -243,7 +243,7 @@ impl Acceptor {
                 && let Some(stream) = self.waiters.release(registry, activity, at)
                 && let Ok(client) = client_of(self.alloc, stream)
             {
-                activity.add_one(Count::Silent);
+                activity.silent.add_one();
                 client.end();
                 give(rt, &self.ready, activity, client);
             }
@@ -295,9 +295,9 @@ impl Acceptor {
 
 // Gives a client to a worker, or closes the connection where too many wait for one.
 fn give<R: Wait>(rt: &R, ready: &Sender<SharedClient>, activity: &Activity, client: SharedClient) {
-    activity.add_one(Count::Waiting);
+    activity.waiting.add_one();
     if ready.try_send(rt, client).is_err() {
-        activity.take_one(Count::Waiting);
-        activity.add_one(Count::TurnedAway);
+        activity.waiting.take_one();
+        activity.turned_away.add_one();
     }
 }

@@ -1,6 +1,6 @@
 //! What the programs of runs print, in logs of a bounded size.
 
-use crate::activity::SharedActivity;
+use crate::activity::{Activity, SharedActivity};
 use crate::limits::{MOST_EVENTS, MOST_LOG, TURN, millis};
 use crossbeam_channel::{Receiver, Sender, bounded};
 use mio::unix::SourceFd;
@@ -70,8 +70,20 @@ impl Output {
         registry.reregister(&mut SourceFd(&descriptor), Token(at), Interest::READABLE)
     }
 
-    // Takes what is there of it, and logs that; whether it goes on. What can't be logged is let go of.
-    fn take<R: Files>(&mut self, rt: &R, alloc: Global, piece: &mut [u8]) -> bool {
+    // Waits for it no more. Where that fails it isn't waited for, or it is closed next.
+    fn leave(&self, registry: &Registry) {
+        let descriptor = self.pipe.as_raw_fd();
+        let _ = registry.deregister(&mut SourceFd(&descriptor));
+    }
+
+    // Takes what is there of it, and logs that; whether it goes on. What can't be logged is counted, and let go of.
+    fn take<R: Files>(
+        &mut self,
+        rt: &R,
+        alloc: Global,
+        activity: &Activity,
+        piece: &mut [u8],
+    ) -> bool {
         let count = match self.pipe.read(piece) {
             Ok(count) => count,
             Err(_) => 0,
@@ -82,7 +94,9 @@ impl Output {
         if piece.is_empty() {
             return false;
         }
-        let _ = append(rt, alloc, self.log.as_str(), piece);
+        if append(rt, alloc, self.log.as_str(), piece).is_err() {
+            activity.log_faults.add_one();
+        }
         true
     }
 }
@@ -125,43 +139,49 @@ impl Logs {
         Ok(())
     }
 
-    // Keeps all outputs that have come. One that can't be kept is closed.
+    // Keeps all outputs that have come. One that can't be kept is counted and closed.
     fn keep_coming<R: Wait>(&mut self, rt: &R) {
         for _ in 0..MOST_COMING {
             match self.coming.try_recv(rt) {
                 Ok(output) => {
-                    let _ = self.keep(output);
+                    if self.keep(output).is_err() {
+                        self.activity.log_faults.add_one();
+                    }
                 }
                 Err(_) => return,
             }
         }
     }
 
-    // Logs what is there of the output at a place; whether it goes on.
-    fn log<R: Files>(&mut self, rt: &R, at: usize) -> bool {
-        match self.outputs.get_mut(at) {
-            Some(Some(output)) => {
-                output.take(rt, self.alloc, self.piece.as_mut_slice())
-                    && output.watch_again(self.poll.registry(), at).is_ok()
+    // Logs what is there of the outputs that were reported. One that has ended leaves its place.
+    fn log_ready<R: Files>(&mut self, rt: &R) {
+        for event in self.events.iter() {
+            let (at, registry) = (event.token().0, self.poll.registry());
+            let Some(place) = self.outputs.get_mut(at) else {
+                continue;
+            };
+            let goes_on = match place {
+                Some(output) => {
+                    let piece = self.piece.as_mut_slice();
+                    let goes_on = output.take(rt, self.alloc, &self.activity, piece)
+                        && output.watch_again(registry, at).is_ok();
+                    if !goes_on {
+                        output.leave(registry);
+                    }
+                    goes_on
+                }
+                None => true,
+            };
+            if !goes_on {
+                *place = None;
             }
-            _ => true,
         }
     }
 
     // Waits for what is printed, for a turn at the most, and logs it.
     fn turn<R: Files + Wait>(&mut self, rt: &R) -> io::Result<()> {
         self.poll.poll(&mut self.events, Some(millis(TURN)))?;
-        for number in 0..MOST_EVENTS {
-            let Some(event) = self.events.iter().nth(number) else {
-                break;
-            };
-            let at = event.token().0;
-            if !self.log(rt, at)
-                && let Some(place) = self.outputs.get_mut(at)
-            {
-                *place = None;
-            }
-        }
+        self.log_ready(rt);
         self.keep_coming(rt);
         Ok(())
     }

@@ -2,7 +2,7 @@ ghost use Rattle.std.specs.Prelude.{◌≡◌, ◌<◌, ◌≤◌, length, IfSom
 ghost use Rattle.host_base.specs.Outside.{Rose};
 ghost use Rattle.grain_supervise.specs.Spawning.{Spawns};
 
-use crate::activity::{Count, SharedActivity};
+use crate::activity::SharedActivity;
 use crate::child::{end, greet};
 use crate::logs::Output;
 use crate::places::Places;
@@ -234,7 +234,7 @@ fn fault_of(faults: &mut u64, activity: &SharedActivity, error: &io::Error) -> S
         return StartFault::Memory;
     }
     *faults = faults.saturating_add(1);
-    activity.add_one(Count::SpawnFaults);
+    activity.spawn_faults.add_one();
     StartFault::StartFailed
 }
 

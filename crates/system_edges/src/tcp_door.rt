@@ -1,7 +1,7 @@
 ghost use Rattle.std.specs.Prelude.{◌≡◌, None, IfOk, IfSome};
 ghost use Rattle.serve_door.specs.Doors.{IsFreshInlet, IsFreshOutlet};
 
-use crate::activity::{Count, SharedActivity};
+use crate::activity::SharedActivity;
 use crate::client::SharedClient;
 use crate::client_sink::ClientSink;
 use crate::client_source::ClientSource;
@@ -85,7 +85,7 @@ impl<'a, R: Wait + Clock, L> TcpDoor<'a, R, L> {
     {
         let clients = self.clients.as_ref()?;
         let client = clients.recv(self.rt).ok()?;
-        self.activity.take_one(Count::Waiting);
+        self.activity.waiting.take_one();
         self.halves(client).ok()
     }
 }
@@ -128,7 +128,7 @@ impl<'a, R: Wait + Clock, L: Link + Drop> Door for TcpDoor<'a, R, L> {
             return Err(NoneCame::Ended);
         }
         if let Some(pair) = self.next() {
-            self.activity.add_one(Count::Serving);
+            self.activity.serving.add_one();
             return Ok(pair);
         }
         if self.activity.is_ending() {
@@ -148,11 +148,11 @@ impl<'a, R: Wait + Clock, L: Link + Drop> Door for TcpDoor<'a, R, L> {
     ) {
         let _ = (link, desk);
         let activity = &self.activity;
-        activity.take_one(Count::Serving);
-        activity.add_one(Count::Served);
-        activity.add(Count::Answered, end.served);
-        activity.add(Count::InputFaults, input.faults());
-        activity.add(Count::OutputFaults, output.faults());
+        activity.serving.take_one();
+        activity.served.add_one();
+        activity.answered.add(end.served);
+        activity.input_faults.add(input.faults());
+        activity.output_faults.add(output.faults());
         if let Some(client) = input.into_unended() {
             close_slowly(self.rt, &client.stream);
         }

@@ -1,7 +1,7 @@
 ghost use Rattle.std.specs.Prelude.{◌≡◌, None, IfOk};
 ghost use Rattle.grain_supervise.specs.Line.{Line, fresh_line};
 
-use crate::activity::{Count, SharedActivity};
+use crate::activity::SharedActivity;
 use crate::limits::{MOST_ASKING, late, millis};
 use crate::socket::{is_memory, socket_path};
 use grain_supervise::{AskFault, Link};
@@ -152,7 +152,7 @@ impl<'a, R: Net + Clock> Link for UnixLink<'a, R> {
                     return Err(AskFault::Memory);
                 }
                 self.faults = self.faults.saturating_add(1);
-                self.activity.add_one(Count::LinkFaults);
+                self.activity.link_faults.add_one();
                 Err(AskFault::LinkFailed)
             }
         }

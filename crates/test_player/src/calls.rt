@@ -1,7 +1,9 @@
 //! Plays worked rows of calls that no conversation makes, or of which none shows the answer: what keepers of rows do,
-//! the requests of a seed, manifests that take the place of others, what assignments give, and states after an event.
+//! the requests of a seed, what a reader of requests holds, manifests that take the place of others, and states after an
+//! event.
 //! The notation is described beside the texts, in `test_player/data/NOTATION.md`.
 
+use crate::holding::held_by;
 use crate::keepers::Kept;
 use crate::keeping::kept_by;
 use crate::making::made_by;
@@ -33,6 +35,7 @@ impl Answers for Calls {
         match word {
             "requests" | "digest" => made_by(alloc, word, rest),
             "upgrade" | "room" => given_by(alloc, word, rest),
+            "held" => held_by(alloc, rest),
             "book" | "event" | "holds" | "admin" => self.book.answer(alloc, word, rest),
             _ => kept_by(alloc, &mut self.kept, word, rest),
         }

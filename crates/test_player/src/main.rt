@@ -9,6 +9,7 @@ mod gate;
 mod gated;
 mod gated_keeper;
 mod given;
+mod holding;
 mod keepers;
 mod keeping;
 mod making;
