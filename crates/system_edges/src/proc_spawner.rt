@@ -76,16 +76,15 @@ struct Heard {
     complained: PipeReader,
 }
 
-// The program of a run, with its words, its folder, a small environment, and pipes for what it prints.
-fn command_of<R: Files + Alloc + Env>(
+// Gives a program its words and a small environment.
+fn equip<R: Alloc + Env>(
     alloc: Global,
     rt: &R,
-    starting: &Starting,
-    new: NewRun,
+    port: u16,
     socket: &str,
-) -> io::Result<(Command, Heard)> {
-    let folder = starting.places.folder(rt, alloc, new.grain)?;
-    let mut command = Command::new(alloc, starting.places.program(rt, alloc, new.app)?)?;
+    folder: &str,
+    command: &mut Command,
+) -> io::Result<()> {
     command.arg("grain")?;
     command.arg(socket)?;
     command.arg(CONNECTIONS)?;
@@ -94,14 +93,35 @@ fn command_of<R: Files + Alloc + Env>(
         Ok(path) => command.env("PATH", path)?,
         Err(_) => command.env("PATH", USUAL_PATH)?,
     };
-    let port = starting.port;
     command.env("LANG", "C.UTF-8")?;
-    command.env("HOME", folder.as_str())?;
+    command.env("HOME", folder)?;
     command.env("LUMBYTE_SERVER", format!(in alloc; "127.0.0.1:{port}")?)?;
     command.current_dir(folder)?;
+    command.stdin(Stdio::piped());
+    Ok(())
+}
+
+// The program of a run, in its folder, with pipes for what it prints.
+fn command_of<R: Files + Alloc + Env>(
+    alloc: Global,
+    rt: &R,
+    starting: &Starting,
+    new: NewRun,
+    socket: &str,
+) -> io::Result<(Command, Heard)> {
+    let folder = starting.places.folder(rt, alloc, new.grain)?;
+    let program = starting.places.program(rt, alloc, new.app)?;
     let (said, saying) = io::pipe(rt)?;
     let (complained, complaining) = io::pipe(rt)?;
-    command.stdin(Stdio::piped());
+    let mut command = Command::new(alloc, program)?;
+    equip(
+        alloc,
+        rt,
+        starting.port,
+        socket,
+        folder.as_str(),
+        &mut command,
+    )?;
     command.stdout(Stdio::from(saying));
     command.stderr(Stdio::from(complaining));
     Ok((command, Heard { said, complained }))
