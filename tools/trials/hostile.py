@@ -6,7 +6,7 @@ import socket
 import threading
 import time
 
-from served import PATIENCE, Connection, Port, request_text
+from served import PATIENCE, Connection, Port, request_text, until
 from trials.rows import ADMIN, A_GRAIN
 from trials.talk import Ask, Relayed, asked, whole_answer
 
@@ -78,6 +78,7 @@ def hostile(bench):
         talk.play([WELL])
         bench.same("an answer at last", whole_answer(200, Relayed("hello")), visited(talk, listener, lambda program: program.sendall(GOOD.encode())))
     talk.server.stop()
+    until("the end of its grains' programs", lambda: not bench.place.left())
 
 
 def late(bench):
@@ -91,6 +92,7 @@ def late(bench):
             bench.same(f"{name}: after a minute", True, MOST_ASKING <= seconds <= MOST_ASKING + AFTER)
             talk.play([WELL])
     talk.server.stop()
+    until("the end of its grains' programs", lambda: not bench.place.left())
 
 
 def awaited(talk, listener, act):
