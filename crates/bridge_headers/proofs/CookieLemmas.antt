@@ -32,9 +32,6 @@ no_semicolon false attribute rest is = refl
 pub kept_line : (line : HeaderLine) → is_foreign line ≡ false → answer_lines (line ∷ []) ≡ passed answer_names (line ∷ [])
 kept_line line own = ap (λ (foreign : Bool). passed answer_names (cond (not foreign) (line ∷ []) [])) own
 
-pub dropped_line : (line : HeaderLine) → is_foreign line ≡ true → answer_lines (line ∷ []) ≡ []
-dropped_line line foreign = ap (λ (is : Bool). passed answer_names (cond (not is) (line ∷ []) [])) foreign
-
 -- the lines that are passed on of one line more
 answer-more : (lines : List HeaderLine) (line : HeaderLine) → lines_text (answer_lines (lines ++ line ∷ [])) ≡ lines_text (answer_lines lines) ++ lines_text (answer_lines (line ∷ []))
 answer-more lines line =
