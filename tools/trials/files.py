@@ -43,7 +43,12 @@ CHANGES = [
     ("a kind that is no byte", "INSERT INTO rows VALUES(300, 1, x'01')", "status 9: "),
     ("a number below 0", "INSERT INTO rows VALUES(1, -1, x'01')", "status 9: "),
     ("another table in the rows' place", "DROP TABLE rows; CREATE TABLE rows(name TEXT)", "status 9: "),
-    ("another table beside", "CREATE TABLE notes(name TEXT)", COUNTS),
+    ("a number above 32 bits", "INSERT INTO rows VALUES(1, 4294967296, x'01')", "status 9: "),
+    ("a table without the key", "DROP TABLE rows; CREATE TABLE rows(kind INTEGER, num INTEGER, body BLOB)", "status 9: "),
+    ("a table that takes texts",
+     "DROP TABLE rows; CREATE TABLE rows(kind INTEGER NOT NULL, num INTEGER NOT NULL, body NOT NULL, PRIMARY KEY(kind, num))", "status 9: "),
+    ("another table beside", "CREATE TABLE notes(name TEXT)", "status 9: "),
+    ("an index of one's own", "CREATE INDEX bodies ON rows(body)", "status 9: "),
 ]
 # Files that nobody made as a database, and what is said of them.
 NO_ROWS = "status 0: rows 0 accounts 0 apps 0 grains 0 grants 0 saved 0\n"

@@ -19,6 +19,7 @@ use Rattle.shared_hub.proofs.Since.{kept_none}
 use Rattle.admin_run.specs.Beginning.{Begins}
 use Rattle.admin_run.specs.Outside.{Outside, Tells}
 use Rattle.admin_run.specs.Serving.{EndsServing, ServesFrom, ServesHistory, TellsStop, given_and_back, login_line}
+use Rattle.admin_run.proofs.First.{begins_on}
 use Rattle.admin_run.proofs.Logins.{logins_stay}
 use Rattle.admin_run.proofs.Told.{tells_more}
 
@@ -76,7 +77,7 @@ module _ (law : Law) (count status : ℕ) (old : Outside) (out : Outlet) (keepin
       record {
         tables = tables;
         login = login;
-        begins = begins.with;
+        begins = begins_on old.holds.keeping keeping new.holds.keeping tables login served.kept.counts.clean begins.with;
         history = served.history;
         stored = served.stored;
         added = added;
@@ -87,6 +88,7 @@ module _ (law : Law) (count status : ℕ) (old : Outside) (out : Outlet) (keepin
           store = omega (arith, begins.store_counts, served.kept.counts.store);
           secrets = omega (arith, begins.secrets_count, served.kept.counts.secrets);
           starts = served.kept.counts.starts;
+          clean = λ is. begins.clean (served.kept.counts.clean is);
         };
         ends = ends_behind law (opened tables) count (login_line login) served.history old.doorway new.doorway old.outlet out new.outlet status first le le' served.ends;
         others = others;
@@ -107,7 +109,7 @@ module _ (law : Law) (count status : ℕ) (old : Outside) (out : Outlet) (keepin
         logins_stay = stay;
         drew = (drawer.coming, begins.drew, ([], refl));
         spawned = none.spawned;
-        counts = record { store = begins.store_counts; secrets = begins.secrets_count; starts = none.counts.starts };
+        counts = record { store = begins.store_counts; secrets = begins.secrets_count; starts = none.counts.starts; clean = begins.clean };
         ends = inl (record { none = refl; untaken = refl; told = told_other old.outlet out (login_line login) 0 status five told (λ is. omega (arith, is)) 7 });
         others = refl;
       }

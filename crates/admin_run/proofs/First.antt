@@ -1,7 +1,7 @@
 -- The tables with the first account alone are a well-formed state without sessions, and a keeper that has just its row has them.
-use Rattle.std.proofs.Common.{◌≡◌, ◌∙◌, ◌≤◌, ℕ, zero, suc, List, [], ◌∷◌, None, Some, length, refl, ap, sym, subst, arith}
+use Rattle.std.proofs.Common.{◌≡◌, ◌∙◌, ◌≤◌, ℕ, zero, suc, IsTrue, List, [], ◌∷◌, Option, None, Some, length, refl, ap, sym, subst, arith}
 use Rattle.std.proofs.lemmas.List.{nil_from_length}
-use Rattle.cloud_keeper.specs.Keeping.{Keeping, RowsFollow}
+use Rattle.cloud_keeper.specs.Keeping.{Keeping, RowsFollow, TellsStill}
 use Rattle.cloud_keeper.specs.declared.row.Row.{Row}
 use Rattle.share_graph.specs.declared.rows.Account.{Account}
 use Rattle.share_graph.specs.declared.state.Tables.{Tables}
@@ -9,10 +9,10 @@ use Rattle.share_graph.specs.WellFormed.{AreNumbered, IsWellFormed, IsWithinLimi
 use Rattle.row_tables.specs.Kept.{AreRowsOf, IsStored}
 use Rattle.row_tables.specs.Numbered.{TablesAreNumbered}
 use Rattle.host_base.specs.Drawing.{Drawer}
-use Rattle.admin_run.specs.Beginning.{Begins, StatesTables}
+use Rattle.admin_run.specs.Beginning.{Begins, BeginsWith, HadNoRows, StatesTables}
 use Rattle.first_account.specs.First.{HasJust, HasNoRows, first_admin, first_row, first_tables}
 use Rattle.first_account.proofs.Opening.{first_checked, first_kept}
-use Rattle.hub_core.specs.Opening.{opened}
+use Rattle.hub_core.specs.Opening.{AreOfKeeper, opened}
 use Rattle.hub_core.proofs.Opened.{opened_formed}
 
 within_limits : (token : List ℕ) → IsWithinLimits (first_tables token)
@@ -56,21 +56,30 @@ kept_before before now later first then = record {
 pub none_loaded : (keeping : Keeping) (items : List Row) → ((rows : List Row) → keeping.rows ≡ Some rows → items ≡ rows) → length items ≡ 0 → HasNoRows keeping
 none_loaded keeping items loaded none = λ rows told. sym (loaded rows told) ∙ nil_from_length items none
 
+-- rows that were loaded are those that were told before, where the store is clean still
+pub of_keeper : (old now : Keeping) (items : List Row) → ((rows : List Row) → now.rows ≡ Some rows → items ≡ rows) → TellsStill old now (λ rows. rows) → AreOfKeeper old now items
+of_keeper old now items loaded tells = λ clean rows was. loaded rows (tells.told clean rows was)
+
+pub had_none : (old now : Keeping) (items : List Row) → AreOfKeeper old now items → length items ≡ 0 → HadNoRows old now
+had_none old now items are none = λ clean rows was. sym (are clean rows was) ∙ nil_from_length items none
+
 -- it begins again with the tables of its rows
-pub begins_again : (old new : Keeping) (drawer : Drawer) (items : List Row) (tables : Tables) → ((rows : List Row) → old.rows ≡ Some rows → items ≡ rows) → (length items ≡ 0 → ⊥) → StatesTables items tables
-    → RowsFollow old new (λ rows. rows) → old.faults ≤ new.faults → Begins old new drawer drawer tables None
-begins_again old new drawer items tables loaded some states same counts = record {
-  with = (
-    λ rows told none. some (ap length (loaded rows told ∙ none)),
-    record { rows = items; told = loaded; read = states.read },
-  );
-  formed = states.formed;
-  stored = record {
-    told = λ rows told.
-        (let (before, was, is) = same.told rows told in
-        subst (λ (list : List Row). AreRowsOf tables list) (loaded before was ∙ sym is) states.found);
-  };
-  drew = refl;
-  store_counts = counts;
-  secrets_count = omega arith;
-}
+pub begins_again : (old new : Keeping) (drawer : Drawer) (items : List Row) (tables : Tables) → ((rows : List Row) → new.rows ≡ Some rows → items ≡ rows) → TellsStill old new (λ rows. rows) → (length items ≡ 0 → ⊥)
+    → StatesTables items tables → old.faults ≤ new.faults → (IsTrue new.clean → IsTrue old.clean) → Begins old new drawer drawer tables None
+begins_again old new drawer items tables loaded tells some states counts clean =
+    let are = of_keeper old new items loaded tells in
+    record {
+      with = (λ is rows was none. some (ap length (are is rows was ∙ none)), record { rows = items; told = are; read = states.read });
+      formed = states.formed;
+      stored = record { told = λ rows told. subst (λ (list : List Row). AreRowsOf tables list) (loaded rows told) states.found };
+      drew = refl;
+      store_counts = counts;
+      clean = clean;
+      secrets_count = omega arith;
+    }
+
+-- what it began with stays so while the store stays clean
+pub begins_on : (old now later : Keeping) (tables : Tables) (login : Option (List ℕ)) → (IsTrue later.clean → IsTrue now.clean) → BeginsWith old now tables login → BeginsWith old later tables login
+begins_on old now later tables None clean (some, loaded) =
+    (λ is. some (clean is), record { rows = loaded.rows; told = λ is. loaded.told (clean is); read = loaded.read })
+begins_on old now later tables (Some token) clean (none, is) = (λ still. none (clean still), is)

@@ -1,6 +1,6 @@
 -- What `check` does.
-use Rattle.std.specs.Prelude.{◌≡◌, ℕ, ◌⊎◌, List, Some, Ok, length}
-use Rattle.admin_run.specs.Terms.{BadRow, IsBadRow, IsChecked, Keeping, Outlet, Rose, Row, RowsFollow, Tables, tables_of}
+use Rattle.std.specs.Prelude.{◌≡◌, ℕ, ◌⊎◌, List, Ok, length}
+use Rattle.admin_run.specs.Terms.{AreOfKeeper, BadRow, IsBadRow, IsChecked, Keeping, Outlet, Rose, Row, RowsFollow, Tables, tables_of}
 use Rattle.admin_run.specs.Lines.{counts_line, bad_row_line}
 use Rattle.admin_run.specs.Outside.{Outside, Tells}
 
@@ -15,7 +15,7 @@ JudgesRows old new rows status =
 -- The rows of a keeper are loaded and judged; where it fails, which it counts, nothing is printed, with status 9, nor where memory runs out.
 abbrev pub Judges : Outlet → Outlet → Keeping → Keeping → ℕ → Type 0
 Judges old new keeping keeping' status =
-    ((rows : List Row) × ((there : List Row) → keeping.rows ≡ Some there → rows ≡ there) × JudgesRows old new rows status)
+    ((rows : List Row) × AreOfKeeper keeping keeping' rows × JudgesRows old new rows status)
     ⊎ (((status ≡ 9) × Rose keeping.faults keeping'.faults × (new ≡ old))
     ⊎ ((status ≡ 7) × (new ≡ old)))
 

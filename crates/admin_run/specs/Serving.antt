@@ -75,7 +75,7 @@ DrewAll login coming rest =
 pub record ServesFrom (law : Law) (count : ℕ) (old new : Outside) (status : ℕ) : Type 0 where
   pub tables : Tables
   pub login : Option (List ℕ)
-  pub begins : BeginsWith old.holds.keeping tables login
+  pub begins : BeginsWith old.holds.keeping new.holds.keeping tables login
   pub history : List Event
   pub stored : IsStored new.holds.keeping (replay (opened tables) history).tables
   pub added : List Digest

@@ -1,11 +1,11 @@
 //! What `serve` begins with.
-ghost use Rattle.std.specs.Prelude.{◌≡◌, ◌≤◌, ◌⊎◌, IfOk, IfErr};
+ghost use Rattle.std.specs.Prelude.{◌≡◌, ◌≤◌, ◌⊎◌, IsTrue, IfOk, IfErr};
 ghost use Rattle.host_base.specs.Outside.{Rose};
 ghost use Rattle.cloud_keeper.specs.Keeping.{Keeping, RowsFollow};
 ghost use Rattle.first_account.specs.First.{HasNoRows};
 ghost use Rattle.row_tables.specs.declared.stored.BadRow.{BadRow};
 ghost use Rattle.row_tables.specs.Checks.{IsBadRow};
-ghost use Rattle.admin_run.specs.Beginning.{Begins, CannotBegin, StatesTables};
+ghost use Rattle.admin_run.specs.Beginning.{Begins, CannotBegin, HadNoRows, StatesTables};
 ghost use Rattle.admin_run.specs.Outside.{Tells};
 ghost use Rattle.admin_run.specs.Serving.{login_line};
 
@@ -33,7 +33,9 @@ fn begin_anew<K: Keeper, S: Secrets>(
     requires { HasNoRows (K.keeping keeper.old) }
 
     // Whatever the keeper was before it had no rows.
-    ensures begins { (before : Keeping) → HasNoRows before → before.faults ≤ (K.keeping keeper.old).faults
+    ensures begins { (before : Keeping) → HadNoRows before (K.keeping keeper.old)
+        → before.faults ≤ (K.keeping keeper.old).faults
+        → (IsTrue (K.keeping keeper.old).clean → IsTrue before.clean)
         → IfOk result (λ begun. Begins before (K.keeping keeper.new) (S.drawer secrets.old)
         (S.drawer secrets.new) begun.tables begun.login) }
     ensures fails { (before : Keeping) → RowsFollow before (K.keeping keeper.old) (λ rows. rows)
@@ -67,6 +69,7 @@ fn tables_in(alloc: Global, rows: &[Row]) -> Result<Tables, u8>
 /// Loads the rows of a keeper: the tables that they state; or where there are none, those with the first account, which it
 /// makes, and its login. The error is the status: 9 where the keeper failed or the secrets, 10 where a row is bad, and 7
 /// where memory ran out.
+#[tactic(auto, using(crate::proofs::First::of_keeper))]
 pub(crate) fn begin<K: Keeper, S: Secrets>(
     alloc: Global,
     keeper: &mut K,

@@ -34,6 +34,7 @@ fn judge_rows<O: Sink>(alloc: Global, out: &mut O, rows: &[Row]) -> u8
 
 /// Loads the rows of a keeper and says what tables they state, or which one is bad. The status is 0 or 10, 9 where the keeper failed, 7 where memory ran
 /// out, and 5 where the line couldn't be printed.
+#[tactic(auto, using(crate::proofs::First::of_keeper))]
 pub(crate) fn judge<O: Sink, K: Keeper>(alloc: Global, out: &mut O, keeper: &mut K) -> u8
     ensures judged { Judges (O.outlet out.old) (O.outlet out.new) (K.keeping keeper.old)
         (K.keeping keeper.new) result }

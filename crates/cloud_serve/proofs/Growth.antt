@@ -25,6 +25,7 @@ later_trans old mid new a b = record {
     store = omega (arith, a.counts.store, b.counts.store);
     secrets = omega (arith, a.counts.secrets, b.counts.secrets);
     starts = omega (arith, a.counts.starts, b.counts.starts);
+    clean = λ is. a.counts.clean (b.counts.clean is);
   };
   stored = λ has. b.stored (a.stored has);
 }
@@ -35,7 +36,7 @@ later_refl book = record {
   start = refl;
   more = [];
   seen = sym (append-nil book.seen);
-  counts = record { store = omega arith; secrets = omega arith; starts = omega arith };
+  counts = record { store = omega arith; secrets = omega arith; starts = omega arith; clean = λ is. is };
   stored = λ has. has;
 }
 

@@ -90,8 +90,6 @@ impl Failing {
 /// What keeps the rows, and which rows it has at first and must have at the end.
 #[derive(Drop)]
 pub struct Kept {
-    /// Whether it is a database in memory, and not a list.
-    pub database: bool,
     /// Whether it has no rows at first, and not those of the small book.
     pub empty: bool,
     /// The rows that are put in at first, each in the place of the one of its kind and number.

@@ -6,8 +6,6 @@ use host_base::{Bytes, Fails};
 use plain_data::List;
 use row_tables::rows_of;
 use small_book::small_book;
-use sql_keeper::SqlKeeper;
-use sqlite::{Connection, MemStore};
 use std::alloc::Global;
 use test_words::Fault;
 
@@ -48,30 +46,13 @@ pub fn first_rows(alloc: Global, conversation: &Conversation) -> Result<Vec<Row>
 /// A keeper in memory that has these rows, in their order, and fails at these calls.
 pub fn list_of(alloc: Global, rows: &[Row], fails: Fails) -> Result<MemKeeper, Fault> {
     let mut keeper = MemKeeper::new(Vec::new(alloc), List::empty(alloc));
-    store_rows(alloc, &mut keeper, rows)?;
-    match keeper.load(alloc) {
-        Ok(rows) => Ok(MemKeeper::new(rows, fails)),
-        Err(_) => Err(Fault::Memory),
-    }
-}
-
-/// A keeper over a new database in memory.
-pub fn database(alloc: Global) -> Result<SqlKeeper<MemStore>, Fault> {
-    match Connection::open_in_memory(alloc) {
-        Ok(conn) => Ok(SqlKeeper::of(Ok(conn))),
-        Err(_) => Err(Fault::Memory),
-    }
-}
-
-/// Stores rows in a keeper that has none, which makes its table first.
-pub fn store_rows<K: Keeper>(alloc: Global, keeper: &mut K, rows: &[Row]) -> Result<(), Fault> {
-    if keeper.load(alloc).is_err() {
-        return Err(Fault::Memory);
-    }
     for row in rows {
         if keeper.commit(alloc, row).is_err() {
             return Err(Fault::Memory);
         }
     }
-    Ok(())
+    match keeper.load(alloc) {
+        Ok(rows) => Ok(MemKeeper::new(rows, fails)),
+        Err(_) => Err(Fault::Memory),
+    }
 }

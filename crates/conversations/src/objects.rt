@@ -1,17 +1,15 @@
 //! The objects around the server. Each type has all kinds of its objects, so that the server is compiled once for them.
 
-use cloud_keeper::{KeepFault, Keeper, MemKeeper, Row};
+use cloud_keeper::MemKeeper;
 use grain_supervise::{Ask, AskFault, CannedLink, EchoLink, FakeSpawner, Link};
 use host_base::{Answer, DrawFailed, GrainId, ListSecrets, Memory, RunId, Secrets, SeqSecrets};
-use sql_keeper::SqlKeeper;
-use sqlite::MemStore;
 use std::alloc::Global;
 
 /// The objects around the server, which go on from run to run.
 #[derive(Drop)]
 pub struct Objects {
     pub link: AnyLink,
-    pub keeper: AnyKeeper,
+    pub keeper: MemKeeper,
     pub secrets: AnySecrets,
     pub spawner: FakeSpawner,
 }
@@ -66,44 +64,6 @@ impl Link for AnyLink {
         match self {
             AnyLink::Echo(link) => Ok(AnyLink::Echo(link.another(alloc)?)),
             AnyLink::Canned(link) => Ok(AnyLink::Canned(link.another(alloc)?)),
-        }
-    }
-}
-
-/// A keeper in memory, or one over a database in memory.
-pub enum AnyKeeper {
-    Mem(MemKeeper),
-    Sql(SqlKeeper<MemStore>),
-}
-
-// Written by hand, as that of a link is.
-impl Drop for AnyKeeper {
-    fn drop(self) {
-        match self {
-            AnyKeeper::Mem(_) => (),
-            AnyKeeper::Sql(_) => (),
-        }
-    }
-}
-
-impl Keeper for AnyKeeper {
-    ghost use Rattle.conversations.specs.Objects.{keeping_of};
-
-    ghost keeping = { keeping_of };
-
-    #[tactic(auto, unfolding(crate::specs::Objects::keeping_of))]
-    fn load(&mut self, alloc: Global) -> Result<Vec<Row>, KeepFault> {
-        match self {
-            AnyKeeper::Mem(keeper) => keeper.load(alloc),
-            AnyKeeper::Sql(keeper) => keeper.load(alloc),
-        }
-    }
-
-    #[tactic(auto, unfolding(crate::specs::Objects::keeping_of))]
-    fn commit(&mut self, alloc: Global, row: &Row) -> Result<(), KeepFault> {
-        match self {
-            AnyKeeper::Mem(keeper) => keeper.commit(alloc, row),
-            AnyKeeper::Sql(keeper) => keeper.commit(alloc, row),
         }
     }
 }

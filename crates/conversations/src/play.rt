@@ -2,10 +2,11 @@
 
 use crate::comparing::{Difference, compare_asked, compare_rows, compare_told};
 use crate::conversation::{Conversation, Round};
-use crate::keepers::{database, first_rows, list_of, store_rows};
-use crate::objects::{AnyKeeper, AnyLink, AnySecrets, Objects};
+use crate::keepers::{first_rows, list_of};
+use crate::objects::{AnyLink, AnySecrets, Objects};
 use crate::rounds::{Part, play_otherwise, play_round};
 use admin_run::book_keeper;
+use cloud_keeper::MemKeeper;
 use grain_supervise::{CannedLink, EchoLink, FakeSpawner};
 use host_base::{Answer, ListSecrets, SeqSecrets};
 use plain_data::List;
@@ -112,15 +113,10 @@ fn spawner_of(alloc: Global, conversation: &Conversation) -> Result<FakeSpawner,
 }
 
 // The keeper of a conversation that begins with rows of its own.
-fn keeper_of(alloc: Global, conversation: &Conversation) -> Result<AnyKeeper, Fault> {
+fn keeper_of(alloc: Global, conversation: &Conversation) -> Result<MemKeeper, Fault> {
     let rows = first_rows(alloc, conversation)?;
-    if conversation.kept.database {
-        let mut keeper = database(alloc)?;
-        store_rows(alloc, &mut keeper, rows.as_slice())?;
-        return Ok(AnyKeeper::Sql(keeper));
-    }
     let fails = List::new(conversation.failing.store.clone()?);
-    Ok(AnyKeeper::Mem(list_of(alloc, rows.as_slice(), fails)?))
+    list_of(alloc, rows.as_slice(), fails)
 }
 
 // Plays the runs with the small book, of the first of which a part is played.
@@ -136,7 +132,7 @@ fn over_book<R: Threads + Wait + Sync>(
     let secrets = secrets_of(alloc, conversation)?;
     let spawner = spawner_of(alloc, conversation)?;
     let fails = List::new(conversation.failing.store.clone()?);
-    let keeper = AnyKeeper::Mem(book_keeper(alloc, fails)?);
+    let keeper = book_keeper(alloc, fails)?;
     let objects = Objects {
         link,
         keeper,
@@ -177,7 +173,7 @@ fn play_part<R: Threads + Wait + Sync>(
 ) -> Result<(), Fault> {
     let kept = &conversation.kept;
     match conversation.rounds.first() {
-        Some(round) if !kept.database && !kept.empty && kept.first.is_empty() => {
+        Some(round) if !kept.empty && kept.first.is_empty() => {
             over_book(rt, alloc, conversation, round, part, found)
         }
         _ => over_rows(rt, alloc, conversation, found),

@@ -25,7 +25,6 @@ fn begin(alloc: Global, line: usize, title: &str) -> Result<Conversation, Fault>
         rounds,
         failing: Failing::none(alloc),
         kept: Kept {
-            database: false,
             empty: false,
             first: Vec::new(alloc),
             count: None,

@@ -4,13 +4,13 @@ ghost use Rattle.std.specs.Prelude.{◌≡◌, [], map, IfOk};
 ghost use Rattle.site_caps.specs.Registered.{IsRegistered};
 ghost use Rattle.admin_run.specs.Connection.{HasBook};
 ghost use Rattle.admin_run.specs.Program.{BeginWithBook};
-ghost use Rattle.conversations.specs.Objects.{keeping_of};
 
 use crate::comparing::{Difference, compare_bytes, compare_numbers};
 use crate::conversation::{Conversation, Round};
 use crate::door::door_of;
-use crate::objects::{AnyKeeper, AnyLink, AnySecrets, Objects};
+use crate::objects::{AnyLink, AnySecrets, Objects};
 use admin_run::{Of, Ran, World, run, world_of};
+use cloud_keeper::{Keeper, MemKeeper};
 use club_site::{ClubLaw, PlainClub, plain_sites};
 use command_line::{Line, line_of};
 use grain_supervise::FakeSpawner;
@@ -94,7 +94,7 @@ fn source(
 type Kinds = Of<
     MemSource,
     MemSink,
-    AnyKeeper,
+    MemKeeper,
     AnySecrets,
     FakeSpawner,
     StillClock,
@@ -139,7 +139,7 @@ fn run_given<R: Threads + Wait + Sync>(
     given: Given,
     objects: Objects,
 ) -> Ran<Kinds>
-    requires book { BeginWithBook words.now → HasBook (keeping_of objects.keeper) }
+    requires book { BeginWithBook words.now → HasBook (⟦<MemKeeper as Keeper>⟧.keeping objects.keeper) }
     requires none { given.door.kept ≡ [] }
     requires registered { IsRegistered (⟦<ClubLaw as SiteLaw>⟧.law.tags)
         (map (⟦<PlainClub as SiteDriver>⟧.tag_of) given.sites.items) }
@@ -192,7 +192,8 @@ pub fn play_round<R: Threads + Wait + Sync>(
     objects: Objects,
     found: &mut Vec<Difference>,
 ) -> Result<Objects, Fault>
-    requires { BeginWithBook round.now.words.items → HasBook (keeping_of objects.keeper) }
+    requires { BeginWithBook round.now.words.items
+        → HasBook (⟦<MemKeeper as Keeper>⟧.keeping objects.keeper) }
 {
     let given = given_to(alloc, conversation, round, part)?;
     let ran = run_given(rt, alloc, round.words.as_slice(), given, objects);

@@ -95,7 +95,6 @@ fn read_mark(
     match name {
         "cuts" => conversation.cuts = true,
         "empty" => conversation.kept.empty = true,
-        "database" => conversation.kept.database = true,
         "unasked" => conversation.asked = Some(Vec::<Piece>::new(alloc)),
         "untold" => conversation.told = Some(Vec::<Piece>::new(alloc)),
         "answer" => conversation.grains.push(Vec::new(alloc))?,

@@ -1,4 +1,4 @@
-ghost use Rattle.std.specs.Prelude.{◌≡◌, ◌≤◌, ◌∷◌, [], IfOk, OnOk, OnErr, IsErrOf};
+ghost use Rattle.std.specs.Prelude.{◌≡◌, ◌≤◌, ◌∷◌, [], IsTrue, IfOk, OnOk, OnErr, IsErrOf};
 ghost use Rattle.host_base.specs.Outside.{Rose};
 ghost use Rattle.cloud_keeper.specs.Keeping.{RowsFollow};
 ghost use Rattle.cloud_keeper.specs.declared.row.Row.{Row};
@@ -19,6 +19,7 @@ use std::alloc::Global;
 fn keep<K: Keeper>(alloc: Global, keeper: &mut K, row: &Row) -> Result<(), FirstFault>
     requires { HasNoRows (K.keeping keeper.old) }
     ensures counts { (K.keeping keeper.old).faults ≤ (K.keeping keeper.new).faults }
+    ensures clean { IsTrue (K.keeping keeper.new).clean → IsTrue (K.keeping keeper.old).clean }
     ensures kept { OnOk result (HasJust row.now (K.keeping keeper.new)) }
     ensures cause { IsErrOf result FirstFault.StoreFailed
         → Rose (K.keeping keeper.old).faults (K.keeping keeper.new).faults }
@@ -54,13 +55,14 @@ pub fn first_account<K: Keeper, S: Secrets>(
     ensures opens { IfOk result (λ first. AreRowsOf (first_tables first.0) (first_row first.0 ∷ [])) }
     ensures checked { IfOk result (λ first. IsChecked (first_tables first.0)) }
 
-    // What fails was counted, and no count falls.
+    // What fails was counted, no count falls, and a store that is clean was so before.
     ensures secrets_failed { IsErrOf result FirstFault.SecretsFailed
         → Rose (S.drawer secrets.old).faults (S.drawer secrets.new).faults }
     ensures store_failed { IsErrOf result FirstFault.StoreFailed
         → Rose (K.keeping keeper.old).faults (K.keeping keeper.new).faults }
     ensures secrets_count { (S.drawer secrets.old).faults ≤ (S.drawer secrets.new).faults }
     ensures store_count { (K.keeping keeper.old).faults ≤ (K.keeping keeper.new).faults }
+    ensures clean { IsTrue (K.keeping keeper.new).clean → IsTrue (K.keeping keeper.old).clean }
 
     // What an error leaves.
     ensures same { OnErr result (RowsFollow (K.keeping keeper.old) (K.keeping keeper.new) (λ rows. rows)) }

@@ -13,7 +13,7 @@ none_taken book = record {
     start = refl;
     more = [];
     seen = sym (append-nil book.seen);
-    counts = record { store = omega arith; secrets = omega arith; starts = omega arith };
+    counts = record { store = omega arith; secrets = omega arith; starts = omega arith; clean = λ is. is };
     stored = λ has. has;
   };
   accepted = refl;

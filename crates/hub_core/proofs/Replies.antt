@@ -143,7 +143,7 @@ module _ (law : Law) (found : Option Bool) (old : Sharing) (order : Asked) where
       → OrderedBy law found old (record old { holds = holds }) order answer
   unchanged holds drawn (others, counts, draws) answer lawful counted =
       ordered (record old { holds = holds }) answer drawn [] (record { 0 = 0 }) refl (sym (append-nil old.history)) (λ has. rw others has)
-      (record { store = rw others (omega arith); secrets = counts; starts = rw others (omega arith) }) draws
+      (record { store = rw others (omega arith); secrets = counts; starts = rw others (omega arith); clean = λ is. rw others at is }) draws
       (told_nothing old.holds.spawns holds.spawns (record { 0 = 0 }) (token_of order drawn) (rw others refl) (rw others refl)) tt tt lawful counted
 
   -- nothing was drawn either
@@ -162,7 +162,7 @@ module _ (law : Law) (found : Option Bool) (old : Sharing) (order : Asked) where
       let text = shown_text order.command drawn in
       ordered new (replied made text result) drawn (entry_of e result) app start entries
       (subst (λ (h : Backing). Stores h new) others stored)
-      (record { store = tells.counts.store; secrets = omega arith; starts = tells.counts.starts })
+      (record { store = tells.counts.store; secrets = omega arith; starts = tells.counts.starts; clean = tells.counts.clean })
       (rw tells.undrawn draws) tells.spawned (entry_token (token_of order drawn) e token result)
       (entry_app (replay old.start old.history) app e has result)
       (carried law (replay old.start old.history) (length old.history) found order drawn e made asks is result tells.meets)

@@ -1,5 +1,5 @@
 -- What a desk tells; the verdict on a key, and the answer to an order, at one place of its history.
-use Rattle.std.specs.Prelude.{◌≡◌, ℕ, Bool, ◌+◌, ◌≤◌, ◌++◌, List, Option, Result, Err, length}
+use Rattle.std.specs.Prelude.{◌≡◌, ℕ, Bool, IsTrue, ◌+◌, ◌≤◌, ◌++◌, List, Option, Result, Err, length}
 use Rattle.hub_core.specs.Terms.{AppId, Asked, Drawer, DrawsAll, Event, IsAnswer, IsFoundBy, IsStored, IsVerdict, IsWellFormed, Keeping, Key, Law, OrderFault, replay, Reply, Rose, Spawns, State, Verdict}
 use Rattle.desk_orders.specs.declared.reply.OrderFault.TheVariants as fault
 use Rattle.hub_core.specs.Spawning.{AreOfApp, HaveToken, Spawned, Untold, token_of}
@@ -20,11 +20,12 @@ pub record Book : Type 0 where
   pub accepted : ℕ
   pub holds : Backing
 
--- No count of faults fell.
+-- No count of faults fell, and a store that is clean was so before.
 pub record CountsOn (old new : Backing) : Type 0 where
   pub store : old.keeping.faults ≤ new.keeping.faults
   pub secrets : old.drawer.faults ≤ new.drawer.faults
   pub starts : old.spawns.faults ≤ new.spawns.faults
+  pub clean : IsTrue new.keeping.clean → IsTrue old.keeping.clean
 
 -- THE KEEPER HAS THE TABLES at the end of what was seen, where it tells its rows.
 abbrev pub HasTables : Book → Type 0

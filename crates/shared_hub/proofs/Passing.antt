@@ -68,6 +68,7 @@ module _ (law : Law) (start : State) (old new : Passing Event Verdict) where
       store = subst (λ (c : FaultCounts). old.faults.store ≤ c.store) (sym counts) (raised_on old.faults.store faults.store);
       secrets = subst (λ (c : FaultCounts). old.faults.secrets ≤ c.secrets) (sym counts) (raised_on old.faults.secrets faults.secrets);
       starts = subst (λ (c : FaultCounts). old.faults.starts ≤ c.starts) (sym counts) (raised_on old.faults.starts faults.starts);
+      clean = λ is. is;
     };
     stored = λ _. record { told = λ rows is. absurd (cc is) };
   }
@@ -84,6 +85,7 @@ module _ (law : Law) (start : State) (old new : Passing Event Verdict) where
         store = omega (arith, ap (λ (c : FaultCounts). c.store) faults);
         secrets = omega (arith, ap (λ (c : FaultCounts). c.secrets) faults);
         starts = omega (arith, ap (λ (c : FaultCounts). c.starts) faults);
+        clean = λ is. is;
       };
       stored = λ _. record { told = λ rows is. absurd (cc is) };
     };

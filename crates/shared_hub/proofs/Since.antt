@@ -63,7 +63,7 @@ spawned_more s old mid new app token entries added since told has are = record {
 -- nothing yet
 pub kept_none : (start : State) (holds : Backing) → HasKept start holds holds []
 kept_none start holds = record {
-  counts = record { store = omega arith; secrets = omega arith; starts = omega arith };
+  counts = record { store = omega arith; secrets = omega arith; starts = omega arith; clean = λ is. is };
   drawn = [];
   draws = refl;
   spawned = record {
@@ -80,6 +80,7 @@ kept_more law began old new order answer o kept = record {
     store = omega (arith, kept.counts.store, o.later.counts.store);
     secrets = omega (arith, kept.counts.secrets, o.later.counts.secrets);
     starts = omega (arith, kept.counts.starts, o.later.counts.starts);
+    clean = λ is. kept.counts.clean (o.later.counts.clean is);
   };
   drawn = kept.drawn ++ o.drawn;
   draws = drawn_both began.drawer.coming old.holds.drawer.coming new.holds.drawer.coming kept.drawn o.drawn kept.draws o.draws;

@@ -1,5 +1,5 @@
 -- What a desk tells that decides by a pass.
-use Rattle.std.specs.Prelude.{None}
+use Rattle.std.specs.Prelude.{false, None}
 use Rattle.host_base.specs.declared.verdict.Verdict.{Verdict}
 use Rattle.share_graph.specs.declared.event.Event.{Event}
 use Rattle.share_graph.specs.declared.state.State.{State}
@@ -16,7 +16,7 @@ book_by law start pass = record {
   seen = pass.seen;
   accepted = pass.orders;
   holds = record {
-    keeping = record { faults = pass.faults.store; rows = None };
+    keeping = record { faults = pass.faults.store; clean = false; rows = None };
     drawer = record { faults = pass.faults.secrets; coming = None };
     spawns = record { faults = pass.faults.starts; starts = None; stops = None };
   };

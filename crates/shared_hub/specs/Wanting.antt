@@ -24,7 +24,7 @@ blank = record {
   start = record { tables = record { accounts = []; apps = []; grains = []; grants = []; saved = [] }; sessions = []; runs = []; handles = [] };
   history = [];
   holds = record {
-    keeping = record { faults = 0; rows = None };
+    keeping = record { faults = 0; clean = false; rows = None };
     drawer = record { faults = 0; coming = None };
     spawns = record { faults = 0; starts = None; stops = None };
   };

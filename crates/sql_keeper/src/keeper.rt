@@ -1,18 +1,22 @@
-ghost use Rattle.std.specs.Prelude.{◌≡◌, ◌≤◌, None, Err, OnOk, IfErr, IsErrOf};
+ghost use Rattle.std.specs.Prelude.{◌≡◌, ◌≤◌, List, IsTrue, Some, Err, IfOk, OnOk, OnErr, IfErr, IsErrOf};
 ghost use Rattle.host_base.specs.Outside.{Rose};
-ghost use Rattle.cloud_keeper.specs.Keeping.{Keeping};
+ghost use Rattle.cloud_keeper.specs.declared.row.Row.{Row};
+ghost use Rattle.cloud_keeper.specs.Keeping.{Keeping, LeavesAsBefore, LeavesItsRows, NoOther, RowsFollow};
+ghost use Rattle.cloud_keeper.specs.Keeping.{TellsStill, TheRowsAfter, put};
 ghost use Rattle.sql_keeper.specs.Fault.{fault_of, count_after};
-ghost use Rattle.sql_keeper.specs.Statements.{Loads, LoadsIfOpen, UpsertsIfOpen};
-ghost use Rattle.sql_keeper.specs.Kept.{opened_of, faults_of};
+ghost use Rattle.sql_keeper.specs.Kept.{opened_of, faults_of, keeping_of, leaves_of};
+ghost use Rattle.sql_keeper.specs.KeptRows.{told_by, stop_by, StopsAsBefore, ToldFollow, StillTold};
+ghost use Rattle.sql_keeper.specs.KeptRows.{Changed, LeavesTold};
 
+use crate::commit::commit_row;
 use crate::fault::keep_fault;
-use crate::statements::{create_table, select_rows, upsert_row};
-use crate::stored::rows_of;
+use crate::load::load_rows;
 use cloud_keeper::{KeepFault, Keeper, Row};
 use sqlite::{Alter, Connection, Error};
 use std::alloc::Global;
 
-/// A keeper over one table of a database. It tells no rows. Each refusal of the database is counted, but want of memory.
+/// A keeper over one table of a database. It tells its rows while the connection is open and the disk is clean, and what a
+/// stop may leave while the disk is clean. Each refusal of the database is counted, but want of memory.
 pub struct SqlKeeper<S: Alter> {
     opened: Result<Connection<S>, Error>,
     faults: u64,
@@ -29,8 +33,8 @@ impl<S: Alter + Drop> Drop for SqlKeeper<S> {
 }
 
 impl<S: Alter> SqlKeeper<S> {
-    /// A keeper over what an opening gave, a connection outside a transaction. Where the opening failed for want of memory, each
-    /// call answers so; where it failed otherwise, each call is a fault.
+    /// A keeper over what an opening gave. Where the opening failed for want of memory, each call answers so; where it
+    /// failed otherwise, each call is a fault.
     pub fn of(opened: Result<Connection<S>, Error>) -> Self
         ensures opened { opened_of result ≡ opened }
         ensures faults { faults_of result ≡ 0 }
@@ -67,25 +71,18 @@ impl<S: Alter> SqlKeeper<S> {
     }
 }
 
-// All rows of the table, which is made where it is missing.
-fn load_rows<S: Alter>(alloc: Global, conn: &mut Connection<S>) -> Result<Vec<Row>, KeepFault>
-    ensures { Loads S.Store (λ rows. rows.items) conn.old conn.new result }
-{
-    if let Err(error) = create_table(conn) {
-        return Err(keep_fault(error));
-    }
-    match select_rows(conn) {
-        Ok(stored) => rows_of(alloc, &stored),
-        Err(error) => Err(keep_fault(error)),
-    }
-}
-
-// The same, where a connection was opened.
+// All rows, where a connection was opened.
 fn load_from<S: Alter>(
     alloc: Global,
     opened: &mut Result<Connection<S>, Error>,
 ) -> Result<Vec<Row>, KeepFault>
-    ensures loads { LoadsIfOpen S.Store (λ rows. rows.items) opened.old opened.new result }
+    ensures loaded { (rows : List Row) → told_by S.Store opened.new ≡ Some rows
+        → IfOk result (λ loaded. loaded.items ≡ rows) }
+    ensures same { ToldFollow (told_by S.Store opened.old) (told_by S.Store opened.new) (λ rows. rows) }
+    ensures tells { OnOk result (StillTold (told_by S.Store opened.old) (told_by S.Store opened.new)
+        (stop_by S.Store opened.new) (λ rows. rows)) }
+    ensures stops { StopsAsBefore (stop_by S.Store opened.old) (stop_by S.Store opened.new) NoOther }
+    ensures settled { OnOk result (LeavesTold (told_by S.Store opened.new) (stop_by S.Store opened.new)) }
     ensures unopened { IfErr opened.old (λ error. (result ≡ Err (fault_of error))
         × (opened.new ≡ Err error)) }
 {
@@ -100,33 +97,49 @@ fn commit_to<S: Alter>(
     opened: &mut Result<Connection<S>, Error>,
     row: &Row,
 ) -> Result<(), KeepFault>
-    ensures upserts { UpsertsIfOpen S.Store row.now opened.old opened.new result }
+    ensures kept { OnOk result (ToldFollow (told_by S.Store opened.old) (told_by S.Store opened.new)
+        (put row.now)) }
+    ensures same { OnErr result (ToldFollow (told_by S.Store opened.old) (told_by S.Store opened.new)
+        (λ rows. rows)) }
+    ensures tells { OnOk result (StillTold (told_by S.Store opened.old) (told_by S.Store opened.new)
+        (stop_by S.Store opened.new) (put row.now)) }
+    ensures stops { StopsAsBefore (stop_by S.Store opened.old) (stop_by S.Store opened.new)
+        (Changed (told_by S.Store opened.old) (put row.now)) }
+    ensures settled { OnOk result (LeavesTold (told_by S.Store opened.new) (stop_by S.Store opened.new)) }
     ensures unopened { IfErr opened.old (λ error. (result ≡ Err (fault_of error))
         × (opened.new ≡ Err error)) }
 {
     match opened {
         Err(error) => Err(keep_fault(*error)),
-        Ok(conn) => match upsert_row(conn, row) {
-            Ok(_) => Ok(()),
-            Err(error) => Err(keep_fault(error)),
-        },
+        Ok(conn) => commit_row(conn, row),
     }
 }
 
 impl<S: Alter> Keeper for SqlKeeper<S> {
-    ghost keeping = { λ k. record { faults = k.faults; rows = None } };
+    ghost keeping = { keeping_of S.Store };
+
+    ghost may_leave = { leaves_of S.Store };
 
     fn load(&mut self, alloc: Global) -> Result<Vec<Row>, KeepFault>
         ensures counts { faults_of self.old ≤ faults_of self.new }
         ensures steady { OnOk result (faults_of self.new ≡ faults_of self.old) }
         ensures cause { IsErrOf result KeepFault.StoreFailed
             → Rose (faults_of self.old) (faults_of self.new) }
+        ensures loaded { (rows : List Row) → (keeping_of S.Store self.new).rows ≡ Some rows
+            → IfOk result (λ loaded. loaded.items ≡ rows) }
+        ensures same { RowsFollow (keeping_of S.Store self.old) (keeping_of S.Store self.new) (λ rows. rows) }
+        ensures clean { IsTrue (keeping_of S.Store self.new).clean
+            → IsTrue (keeping_of S.Store self.old).clean }
+        ensures tells { OnOk result (TellsStill (keeping_of S.Store self.old) (keeping_of S.Store self.new)
+            (λ rows. rows)) }
+        ensures stops { LeavesAsBefore (keeping_of S.Store self.new).clean (leaves_of S.Store self.old)
+            (leaves_of S.Store self.new) NoOther }
+        ensures settled { OnOk result (LeavesItsRows (keeping_of S.Store self.new)
+            (leaves_of S.Store self.new)) }
 
         // A fault of the store is counted once, and nothing else is. Where no connection was opened, it answers why.
         ensures counted_fault { IfErr result (λ fault. faults_of self.new
             ≡ count_after fault (faults_of self.old)) }
-        ensures loads { LoadsIfOpen S.Store (λ rows.
-            rows.items) (opened_of self.old) (opened_of self.new) result }
         ensures unopened { IfErr (opened_of self.old) (λ error. (result ≡ Err (fault_of error))
             × (opened_of self.new ≡ Err error)) }
     {
@@ -141,11 +154,22 @@ impl<S: Alter> Keeper for SqlKeeper<S> {
         ensures steady { OnOk result (faults_of self.new ≡ faults_of self.old) }
         ensures cause { IsErrOf result KeepFault.StoreFailed
             → Rose (faults_of self.old) (faults_of self.new) }
+        ensures kept { OnOk result (RowsFollow (keeping_of S.Store self.old) (keeping_of S.Store self.new)
+            (put row.now)) }
+        ensures same { OnErr result (RowsFollow (keeping_of S.Store self.old) (keeping_of S.Store self.new)
+            (λ rows. rows)) }
+        ensures clean { IsTrue (keeping_of S.Store self.new).clean
+            → IsTrue (keeping_of S.Store self.old).clean }
+        ensures tells { OnOk result (TellsStill (keeping_of S.Store self.old) (keeping_of S.Store self.new)
+            (put row.now)) }
+        ensures stops { LeavesAsBefore (keeping_of S.Store self.new).clean (leaves_of S.Store self.old)
+            (leaves_of S.Store self.new) (TheRowsAfter (keeping_of S.Store self.old) (put row.now)) }
+        ensures settled { OnOk result (LeavesItsRows (keeping_of S.Store self.new)
+            (leaves_of S.Store self.new)) }
 
         // A fault of the store is counted once, and nothing else is. Where no connection was opened, it answers why.
         ensures counted_fault { IfErr result (λ fault. faults_of self.new
             ≡ count_after fault (faults_of self.old)) }
-        ensures upserts { UpsertsIfOpen S.Store row.now (opened_of self.old) (opened_of self.new) result }
         ensures unopened { IfErr (opened_of self.old) (λ error. (result ≡ Err (fault_of error))
             × (opened_of self.new ≡ Err error)) }
     {

@@ -4,18 +4,19 @@
 //! The notation is described beside the texts, in `test_player/data/NOTATION.md`.
 
 use crate::holding::held_by;
-use crate::keepers::Kept;
-use crate::keeping::kept_by;
+use crate::keeping::{empty_keeper, kept_by};
 use crate::making::made_by;
 use crate::states::Book;
 use crate::values::given_by;
+use cloud_keeper::MemKeeper;
+use plain_data::List;
 use std::alloc::Global;
 use test_words::{Answers, Fault};
 
 /// What the rows of calls are played with: a keeper, and a state.
 #[derive(Drop)]
 pub struct Calls {
-    kept: Kept,
+    kept: MemKeeper,
     book: Book,
 }
 
@@ -24,7 +25,7 @@ impl Calls {
     pub fn new(alloc: Global) -> Result<Self, Fault> {
         Ok(Calls {
             book: Book::new(alloc)?,
-            kept: Kept::in_memory(alloc),
+            kept: empty_keeper(alloc, List::empty(alloc)),
         })
     }
 }

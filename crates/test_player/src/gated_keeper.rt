@@ -25,6 +25,8 @@ impl GatedKeeper {
 impl Keeper for GatedKeeper {
     ghost keeping = { λ k. ⟦<MemKeeper as Keeper>⟧.keeping k.keeper };
 
+    ghost may_leave = { λ k. ⟦<MemKeeper as Keeper>⟧.may_leave k.keeper };
+
     fn load(&mut self, alloc: Global) -> Result<Vec<Row>, KeepFault> {
         self.keeper.load(alloc)
     }

@@ -1,17 +1,15 @@
 //! Rows of keepers of rows.
 
-use crate::keepers::{Kept, are_sent, mem_keeper, refused_keeper, sql_keeper, starved_keeper};
-use cloud_keeper::{MemKeeper, Row};
+use cloud_keeper::{Keeper, MemKeeper, Row};
 use host_base::{Bytes, Fails};
 use plain_data::List;
 use row_tables::{LoadFault, rows_of, tables_of};
 use small_book::small_book;
 use std::alloc::Global;
-use std::mem;
 use test_words::{Fault, byte, digits_of, numbers, small};
 
 // The rows that a keeper loads, or its fault.
-fn loaded(alloc: Global, kept: &mut Kept) -> Result<String, Fault> {
+fn loaded(alloc: Global, kept: &mut MemKeeper) -> Result<String, Fault> {
     let mut text = String::new(alloc);
     match kept.load(alloc) {
         Ok(rows) => {
@@ -38,7 +36,7 @@ fn row_of(alloc: Global, text: &str) -> Result<Row, Fault> {
 }
 
 // Keeps the row that words state.
-fn committed(alloc: Global, kept: &mut Kept, text: &str) -> Result<String, Fault> {
+fn committed(alloc: Global, kept: &mut MemKeeper, text: &str) -> Result<String, Fault> {
     let row = row_of(alloc, text)?;
     match kept.commit(alloc, &row) {
         Ok(()) => Ok(String::new(alloc)),
@@ -48,14 +46,14 @@ fn committed(alloc: Global, kept: &mut Kept, text: &str) -> Result<String, Fault
 
 // A keeper in memory that has the rows of the small book.
 #[tactic(auto, using(row_tables::proofs::InOrder::rows_in_order))]
-fn book_keeper(alloc: Global) -> Result<Kept, Fault> {
+fn book_keeper(alloc: Global) -> Result<MemKeeper, Fault> {
     let book = small_book(alloc)?;
     let rows = rows_of(alloc, &book.tables)?;
-    Ok(Kept::Mem(MemKeeper::new(rows, List::empty(alloc))))
+    Ok(MemKeeper::new(rows, List::empty(alloc)))
 }
 
 // What the rows of a keeper state: how many rows of each kind, or the first one that is bad.
-fn stated(alloc: Global, kept: &mut Kept) -> Result<String, Fault> {
+fn stated(alloc: Global, kept: &mut MemKeeper) -> Result<String, Fault> {
     let Ok(rows) = kept.load(alloc) else {
         return Err(Fault::Unreadable);
     };
@@ -78,32 +76,32 @@ fn calls_of(alloc: Global, text: &str) -> Result<Fails, Fault> {
     Ok(List::new(numbers(alloc, text)?))
 }
 
-// Another keeper in the place of the one that is played with, by what is made of that.
-fn replaced(alloc: Global, kept: &mut Kept, word: &str, rest: &str) -> Result<String, Fault> {
-    let old = mem::replace(kept, Kept::in_memory(alloc));
-    let (new, text) = match word {
-        "run" => old.run(alloc, rest)?,
-        _ => (
-            old.again(alloc, calls_of(alloc, rest)?)?,
-            String::new(alloc),
-        ),
-    };
-    *kept = new;
-    Ok(text)
+/// A keeper in memory without rows, which fails at these calls.
+pub fn empty_keeper(alloc: Global, fails: Fails) -> MemKeeper {
+    MemKeeper::new(Vec::new(alloc), fails)
+}
+
+// A keeper of the same rows, which fails at the calls that words number.
+fn again(alloc: Global, kept: &mut MemKeeper, text: &str) -> Result<MemKeeper, Fault> {
+    match kept.load(alloc) {
+        Ok(rows) => Ok(MemKeeper::new(rows, calls_of(alloc, text)?)),
+        Err(_) => Err(Fault::Unreadable),
+    }
 }
 
 /// What a row of a keeper comes to, and how many faults the keeper has counted where it has any.
-pub fn kept_by(alloc: Global, kept: &mut Kept, word: &str, rest: &str) -> Result<String, Fault> {
+pub fn kept_by(
+    alloc: Global,
+    kept: &mut MemKeeper,
+    word: &str,
+    rest: &str,
+) -> Result<String, Fault> {
     let mut text = String::new(alloc);
     match word {
-        "mem" => *kept = mem_keeper(alloc, calls_of(alloc, rest)?),
-        "sql" => *kept = sql_keeper(alloc),
-        "refused" => *kept = refused_keeper(),
-        "starved" => *kept = starved_keeper(),
-        "sent" => are_sent(),
+        "mem" => *kept = empty_keeper(alloc, calls_of(alloc, rest)?),
         "stored" => *kept = book_keeper(alloc)?,
         "tables" => text = stated(alloc, kept)?,
-        "again" | "run" => text = replaced(alloc, kept, word, rest)?,
+        "again" => *kept = again(alloc, kept, rest)?,
         "commit" => text = committed(alloc, kept, rest)?,
         "load" => text = loaded(alloc, kept)?,
         _ => return Err(Fault::Unreadable),

@@ -10,7 +10,6 @@ mod gated;
 mod gated_keeper;
 mod given;
 mod holding;
-mod keepers;
 mod keeping;
 mod making;
 mod measure;

@@ -3,13 +3,14 @@ use Rattle.admin_run.proofs.First.{first_formed, first_stored}
 use Rattle.admin_run.proofs.beginning.begin_anew.Goals as goal
 
 pub returns-in-Ok-clause-begins : goal.returns-in-Ok-clause-begins
-returns-in-Ok-clause-begins g c = λ before none le.
+returns-in-Ok-clause-begins g c = λ before none le clean.
     let made = c.in-Ok.ensures in
     record {
-      with = (none, made.tables);
+      with = (λ is. none (made.clean is), made.tables);
       formed = first_formed c.in-Ok.tables c.in-Ok.token made.tables;
       stored = first_stored _ c.in-Ok.tables c.in-Ok.token made.tables made.row;
       drew = made.token;
       store_counts = omega (arith, le, made.store_count);
+      clean = λ is. clean (made.clean is);
       secrets_count = made.secrets_count;
     }
