@@ -20,7 +20,8 @@ DrewLogin None coming rest = rest ≡ coming
 DrewLogin (Some token) coming rest = IsTokenOfNext coming rest token
 
 -- It begins with tables, which are well formed, and the keeper has them.
-pub record Begins (keeping keeping' : Keeping) (drawer drawer' : Drawer) (tables : Tables) (login : Option (List ℕ)) : Type 0 where
+pub record Begins (keeping keeping' : Keeping) (drawer drawer' : Drawer) (tables : Tables)
+    (login : Option (List ℕ)) : Type 0 where
   pub with : BeginsWith keeping keeping' tables login
   pub formed : IsWellFormed (opened tables)
   pub stored : IsStored keeping' tables

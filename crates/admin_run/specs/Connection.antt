@@ -10,10 +10,12 @@ book_with law history holds = book_of law (record { start = small_book; history 
 -- THE HEADLINE of a connection that was served from the small book, by the law of its sites, over a connection's objects and
 -- what its desk works with. The history that it ends with is what the orders of its turns added, and nothing else, and the
 -- keeper has the tables after it.
-pub record ServesBook (law : Law) (wire wire' : Wired) (old new : Backing) (end : End) (served forwarded entries : ℕ) : Type 0 where
+pub record ServesBook (law : Law) (wire wire' : Wired) (old new : Backing) (end : End)
+    (served forwarded entries : ℕ) : Type 0 where
   pub places : List ℕ
   pub history : List Event
-  pub headline : Served (with_book wire (book_with law [] old)) (with_book wire' (book_with law history new)) end 0 places served forwarded
+  pub headline : Served (with_book wire (book_with law [] old))
+      (with_book wire' (book_with law history new)) end 0 places served forwarded
   pub written : history ≡ added_by (flat_map (λ turn. turn.acts) headline.turns ++ acts_in headline.hand)
   pub entries_are : entries ≡ length history
   pub stored : IsStored new.keeping (replay small_book history).tables

@@ -8,7 +8,8 @@ use Rattle.admin_run.specs.Outside.{Outside, Tells}
 -- out, nothing.
 abbrev pub JudgesRows : Outlet → Outlet → List Row → ℕ → Type 0
 JudgesRows old new rows status =
-    ((t : Tables) × (tables_of rows ≡ Ok t) × IsChecked t × Tells old new (counts_line (length rows) t) 0 status)
+    ((t : Tables) × (tables_of rows ≡ Ok t) × IsChecked t
+    × Tells old new (counts_line (length rows) t) 0 status)
     ⊎ (((bad : BadRow) × IsBadRow rows bad × Tells old new (bad_row_line bad.index) 10 status)
     ⊎ ((status ≡ 7) × (new ≡ old)))
 
@@ -23,4 +24,5 @@ Judges old new keeping keeping' status =
 pub record ChecksRows (old new : Outside) (status : ℕ) : Type 0 where
   pub judged : Judges old.outlet new.outlet old.holds.keeping new.holds.keeping status
   pub kept : RowsFollow old.holds.keeping new.holds.keeping (λ rows. rows)
-  pub others : new ≡ record old { outlet = new.outlet; holds = record old.holds { keeping = new.holds.keeping } }
+  pub others : new
+      ≡ record old { outlet = new.outlet; holds = record old.holds { keeping = new.holds.keeping } }

@@ -35,7 +35,8 @@ pub record ServesMade (law : Law) (count seed : ℕ) (old new : Outside) (status
   pub entries : ℕ
   pub wire : Wired
   pub line_is : wire.line ≡ new.line
-  pub connection : ServesBook law (over_memory (generated count seed) old.line) wire old.holds new.holds end served forwarded entries
+  pub connection : ServesBook law
+      (over_memory (generated count seed) old.line) wire old.holds new.holds end served forwarded entries
   pub output : List ℕ
   pub output_is : wire.outlet.written ≡ Some output
   pub told : TellsMade end served forwarded entries output old.outlet new.outlet status

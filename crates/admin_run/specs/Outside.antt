@@ -26,11 +26,14 @@ pub record DoesNothing (old new : Outside) (status : ℕ) : Type 0 where
 abbrev pub Tells : Outlet → Outlet → List ℕ → ℕ → ℕ → Type 0
 Tells old new text done status =
     ((status ≡ done) × ((before : List ℕ) → old.written ≡ Some before → new.written ≡ Some (before ++ text)))
-    ⊎ ((status ≡ 5) × Rose old.faults new.faults × ((before : List ℕ) → old.written ≡ Some before → (n : ℕ) × (new.written ≡ Some (before ++ take n text))))
+    ⊎ ((status ≡ 5) × Rose old.faults new.faults
+    × ((before : List ℕ) → old.written ≡ Some before → (n : ℕ)
+    × (new.written ≡ Some (before ++ take n text))))
 
 -- the usage line
 abbrev pub usage_line : List ℕ
-usage_line = codes "usage: admin_cli play | serve FILE PORT COUNT | gen N SEED | check FILE | grain SOCKET COUNT\n"
+usage_line =
+    codes "usage: admin_cli play | serve FILE PORT COUNT | gen N SEED | check FILE | grain SOCKET COUNT\n"
 
 -- The usage line is printed, with status 2; nothing is taken, asked, drawn, started, kept or accepted.
 pub record TellsUsage (old new : Outside) (status : ℕ) : Type 0 where
@@ -41,4 +44,5 @@ pub record TellsUsage (old new : Outside) (status : ℕ) : Type 0 where
 pub record HasStatusCause (old new : Outside) (status : ℕ) : Type 0 where
   pub taken : status ≡ 4 → Rose old.inlet.faults new.inlet.faults ⊎ Rose old.doorway.faults new.doorway.faults
   pub written : status ≡ 5 → Rose old.outlet.faults new.outlet.faults
-  pub stored : status ≡ 9 → Rose old.holds.keeping.faults new.holds.keeping.faults ⊎ Rose old.holds.drawer.faults new.holds.drawer.faults
+  pub stored : status ≡ 9 → Rose old.holds.keeping.faults new.holds.keeping.faults
+      ⊎ Rose old.holds.drawer.faults new.holds.drawer.faults

@@ -8,8 +8,11 @@ use Rattle.admin_run.specs.Statuses.{status_by, status_of_grain, status_of_strea
 
 -- Where neither count rose, the status of a stream below the limit is that of its end, or memory ran out.
 abbrev pub EndsAsStream : Inlet → Inlet → Outlet → Outlet → ℕ → Type 0
-EndsAsStream inlet inlet' outlet outlet' status = (bytes : List ℕ) (requests : Requests) → inlet.left ≡ Some bytes → IsStream 0 bytes requests → length requests.list < limit
-    → CountStands inlet.faults inlet'.faults → CountStands outlet.faults outlet'.faults → (status ≡ 7) ⊎ (status ≡ status_of_stream requests.end)
+EndsAsStream inlet inlet' outlet outlet' status =
+    (bytes : List ℕ) (requests : Requests) → inlet.left ≡ Some bytes → IsStream 0 bytes requests
+    → length requests.list < limit
+    → CountStands inlet.faults inlet'.faults → CountStands outlet.faults outlet'.faults → (status ≡ 7)
+    ⊎ (status ≡ status_of_stream requests.end)
 
 -- `play`: a connection over the program's input and output was served from the small book, and the status is that of its
 -- end. The door and the clock aren't asked.

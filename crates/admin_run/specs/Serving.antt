@@ -33,13 +33,15 @@ TellsStop stop.DoorFailed text answered old new status = (status ≡ 4) × Tells
 TellsStop stop.Memory text answered old new status = (status ≡ 7) × Tells old new text 7 7
 
 -- NO CONNECTION WAS SERVED: the text couldn't be printed, or memory ran out behind it.
-pub record ServesNone (text : List ℕ) (history : List Event) (door door' : Doorway) (out out' : Outlet) (status : ℕ) : Type 0 where
+pub record ServesNone (text : List ℕ) (history : List Event) (door door' : Doorway) (out out' : Outlet)
+    (status : ℕ) : Type 0 where
   pub none : history ≡ []
   pub untaken : given_and_back door' ≡ given_and_back door
   pub told : Tells out out' text 7 status
 
 -- WORKERS SERVED at a door, which is to give so many connections: one at the door itself, and others at handles that it took back.
-pub record ServesAtOnce (law : Law) (start : State) (count : ℕ) (text : List ℕ) (history : List Event) (door door' : Doorway) (out out' : Outlet)
+pub record ServesAtOnce (law : Law) (start : State) (count : ℕ) (text : List ℕ) (history : List Event)
+    (door door' : Doorway) (out out' : Outlet)
     (status : ℕ) : Type 0 where
   pub before : List Post
   pub handles : List Post
@@ -52,12 +54,15 @@ pub record ServesAtOnce (law : Law) (start : State) (count : ℕ) (text : List �
   pub told : TellsStop stopped.stop text stopped.answered out out' status
 
 -- either
-abbrev pub EndsServing : Law → State → ℕ → List ℕ → List Event → Doorway → Doorway → Outlet → Outlet → ℕ → Type 0
+abbrev pub EndsServing : Law → State → ℕ → List ℕ → List Event → Doorway → Doorway → Outlet → Outlet → ℕ
+    → Type 0
 EndsServing law start count text history door door' out out' status =
-    ServesNone text history door door' out out' status ⊎ ServesAtOnce law start count text history door door' out out' status
+    ServesNone text history door door' out out' status
+    ⊎ ServesAtOnce law start count text history door door' out out' status
 
 -- Connections are served, or none is, on a history that the keeper, the secrets and the spawner were told of.
-pub record ServesHistory (law : Law) (start : State) (count : ℕ) (holds holds' : Backing) (door door' : Doorway) (out out' : Outlet) (status : ℕ)
+pub record ServesHistory (law : Law) (start : State) (count : ℕ) (holds holds' : Backing)
+    (door door' : Doorway) (out out' : Outlet) (status : ℕ)
     : Type 0 where
   pub history : List Event
   pub stored : IsStored holds'.keeping (replay start history).tables
@@ -67,7 +72,8 @@ pub record ServesHistory (law : Law) (start : State) (count : ℕ) (holds holds'
 -- the secrets that were drawn: the login's, where there is a first account, and then those of the orders
 abbrev pub DrewAll : Option (List ℕ) → Option Coming → Option Coming → Type 0
 DrewAll login coming rest =
-    (between : Option Coming) × DrewLogin login coming between × ((drawn : List (List ℕ)) × DrawsAll between rest drawn)
+    (between : Option Coming) × DrewLogin login coming between
+    × ((drawn : List (List ℕ)) × DrawsAll between rest drawn)
 
 -- THE HEADLINE of `serve`. A history begins with the tables of the rows that the keeper told, or of the first account, whose login's token is printed; connections
 -- are served on it; and the keeper has the tables at its end, in which the accounts still have their logins. The spawner was told the starts and stops of its
@@ -90,7 +96,8 @@ pub record ServesFrom (law : Law) (count : ℕ) (old new : Outside) (status : �
 -- Nothing is printed or served, since it can't begin.
 pub record StopsEarly (old new : Outside) (status : ℕ) : Type 0 where
   pub fails : CannotBegin old.holds.keeping new.holds.keeping old.holds.drawer new.holds.drawer status
-  pub others : new ≡ record old { holds = record old.holds { keeping = new.holds.keeping; drawer = new.holds.drawer } }
+  pub others : new
+      ≡ record old { holds = record old.holds { keeping = new.holds.keeping; drawer = new.holds.drawer } }
 
 -- what `serve` does
 abbrev pub Serves : Law → ℕ → Outside → Outside → ℕ → Type 0

@@ -30,4 +30,5 @@ pub record OrderedOf (old new : Book) (acts : List Act) : Type 0 where
   pub secrets : Grew old.holds.drawer.faults new.holds.drawer.faults (secret_failures acts)
   pub starts : Grew old.holds.spawns.faults new.holds.spawns.faults (start_failures acts)
   pub grows : length old.seen + length (added_by acts) ≤ length new.seen
-  pub alone : length new.seen ≡ length old.seen + length (added_by acts) → new.seen ≡ old.seen ++ added_by acts
+  pub alone : length new.seen ≡ length old.seen + length (added_by acts)
+      → new.seen ≡ old.seen ++ added_by acts

@@ -32,7 +32,8 @@ IsAtDesk found (Some who) body shown = IsAskedAt (asked_at found who body) shown
 -- what is shown on `/use/{n}/`: that handle of the run with the token, and the target from the slash behind the number on
 abbrev pub IsUsing : ℕ → List ℕ → Option Digest → Showing → Type 0
 IsUsing n target None shown = shown ≡ showing.NoCredential
-IsUsing n target (Some who) shown = (m : ℕ) × (rest : List ℕ) × IsUse m target rest × (shown ≡ showing.Used (key.Handle who n) (47 ∷ rest))
+IsUsing n target (Some who) shown =
+    (m : ℕ) × (rest : List ℕ) × IsUse m target rest × (shown ≡ showing.Used (key.Handle who n) (47 ∷ rest))
 
 -- what is shown on a route: the key of a session, a bearer's token, a handle, or what the desk is asked to do
 abbrev pub ShowsAt : Route → Request → Showing → Type 0

@@ -126,10 +126,12 @@ all_answered = end.Done
 
 -- the last of the turns is of a request that is the last one
 abbrev pub EndsLast : List Turn → Type 0
-EndsLast turns = (front : List Turn) × (turn : Turn) × (turns ≡ front ++ turn ∷ []) × (turn.request.last ≡ true)
+EndsLast turns =
+    (front : List Turn) × (turn : Turn) × (turns ≡ front ++ turn ∷ []) × (turn.request.last ≡ true)
 
 -- THE HEADLINE. There is a list of turns, one for each answered request, and something in hand at the end.
-pub record Served (old new : World) (end : End) (from : ℕ) (places : List ℕ) (served forwarded : ℕ) : Type 0 where
+pub record Served (old new : World) (end : End) (from : ℕ) (places : List ℕ) (served forwarded : ℕ)
+    : Type 0 where
   pub turns : List Turn
   pub hand : InHand
   pub high : ℕ
@@ -149,7 +151,8 @@ pub record Served (old new : World) (end : End) (from : ℕ) (places : List ℕ)
   -- Where the source tells what is left: the requests of it are the turns', the one in hand, and more. A stream has one meaning: no
   -- two by `HasOneMeaning`, and not none by `HasMeaning`, which are clauses of the reader of requests.
   pub stream : (input : List ℕ) → old.inlet.left ≡ Some input → (all : Requests) → IsStream 0 input all
-      → (more : Requests) × Splits all (map (λ turn. turn.request) turns ++ request_in hand) more × StreamAt end hand more
+      → (more : Requests) × Splits all (map (λ turn. turn.request) turns ++ request_in hand) more
+      × StreamAt end hand more
   -- Where the sink tells what was written: the turns' answers, and the text in hand.
   pub written : (text : List ℕ) → old.outlet.written ≡ Some text
       → WrittenAt end (text ++ flat_map (λ turn. turn.answer) turns) (text_in hand) new.outlet.written
@@ -164,7 +167,8 @@ pub record Served (old new : World) (end : End) (from : ℕ) (places : List ℕ)
 abbrev pub IsConnectionEnd : End → Ending → Type 0
 IsConnectionEnd end.Done ending = IsOver ending
 IsConnectionEnd (end.CutOff n) ending = ending ≡ Cut n
-IsConnectionEnd (end.Refused status at) ending = (refusal : Refusal) × (status ≡ refusal_status refusal) × (ending ≡ Bad refusal at)
+IsConnectionEnd (end.Refused status at) ending =
+    (refusal : Refusal) × (status ≡ refusal_status refusal) × (ending ≡ Bad refusal at)
 IsConnectionEnd _ ending = ⊥
 
 -- every request was answered, and the connection ends as the stream does

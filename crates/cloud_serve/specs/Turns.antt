@@ -30,12 +30,14 @@ passed_to target request = record request { target = target }
 
 -- a request is asked of the run that its permit names, by the grain's text
 abbrev pub ask_of : Permit → Request → Option (List ℕ) → Ask
-ask_of permit request back = record { run = permit.run; grain = permit.grain; text = grain_text permit request; back = back }
+ask_of permit request back =
+    record { run = permit.run; grain = permit.grain; text = grain_text permit request; back = back }
 
 -- the answer to how the relay of what came back came out
 abbrev pub AnswersRelay : Bool → Result (List ℕ) RelayFault → List ℕ → Type 0
 AnswersRelay head_only (Ok text) answer = answer ≡ text
-AnswersRelay head_only (Err (fault.BadAnswer at)) answer = answer ≡ own_text 502 (codes "BadAnswer") (at ∷ []) head_only
+AnswersRelay head_only (Err (fault.BadAnswer at)) answer =
+    answer ≡ own_text 502 (codes "BadAnswer") (at ∷ []) head_only
 AnswersRelay head_only (Err fault.NoLength) answer = answer ≡ own_text 502 (codes "NoLength") [] head_only
 AnswersRelay head_only (Err fault.Memory) answer = ⊥
 
@@ -44,23 +46,31 @@ abbrev pub AnswersBack : Bool → Option (List ℕ) → List ℕ → Type 0
 AnswersBack head_only None answer = answer ≡ own_text 502 (codes "LinkFailed") [] head_only
 AnswersBack head_only (Some back) answer =
     ((length back ≡ 4194305) × (answer ≡ own_text 502 (codes "LongAnswer") (4194305 ∷ []) head_only))
-    ⊎ ((length back ≢ 4194305) × ((outcome : Result (List ℕ) RelayFault) × Relays back head_only outcome × AnswersRelay head_only outcome answer))
+    ⊎ ((length back ≢ 4194305)
+    × ((outcome : Result (List ℕ) RelayFault) × Relays back head_only outcome
+    × AnswersRelay head_only outcome answer))
 
 -- The answer to what a site gave: its text, or why it gives none.
 abbrev pub AnswersSite : Result (List ℕ) SiteFault → Bool → List ℕ → Type 0
 AnswersSite (Ok text) head_only answer = answer ≡ site_text text head_only
-AnswersSite (Err (site_fault.NoDriver tag)) head_only answer = answer ≡ fault_text (own.NoDriver tag) head_only
-AnswersSite (Err (site_fault.NotOffered tag item)) head_only answer = answer ≡ fault_text (own.NotOffered tag item) head_only
+AnswersSite (Err (site_fault.NoDriver tag)) head_only answer =
+    answer ≡ fault_text (own.NoDriver tag) head_only
+AnswersSite (Err (site_fault.NotOffered tag item)) head_only answer =
+    answer ≡ fault_text (own.NotOffered tag item) head_only
 AnswersSite _ head_only answer = ⊥
 
 -- What follows from a verdict: a denial is answered and nothing is asked; a request that goes through is asked once, as it is passed on, and
 -- answered by what came back; and an item of a site is answered by what the law of the sites allows for it.
 abbrev pub FollowsVerdict : Law → Verdict → Request → Turn → Type 0
-FollowsVerdict law (verdict.Deny reason) passed turn = (turn.asked ≡ []) × (turn.answer ≡ denial_text reason (wants_head turn.request))
+FollowsVerdict law (verdict.Deny reason) passed turn =
+    (turn.asked ≡ []) × (turn.answer ≡ denial_text reason (wants_head turn.request))
 FollowsVerdict law (verdict.Forward permit) passed turn =
-    (back : Option (List ℕ)) × (turn.asked ≡ ask_of permit passed back ∷ []) × AnswersBack (wants_head turn.request) back turn.answer
+    (back : Option (List ℕ)) × (turn.asked ≡ ask_of permit passed back ∷ [])
+    × AnswersBack (wants_head turn.request) back turn.answer
 FollowsVerdict law (verdict.Site tag item) passed turn =
-    (turn.asked ≡ []) × ((given : Result (List ℕ) SiteFault) × GivesText law tag item given × AnswersSite given (wants_head turn.request) turn.answer)
+    (turn.asked ≡ [])
+    × ((given : Result (List ℕ) SiteFault) × GivesText law tag item given
+    × AnswersSite given (wants_head turn.request) turn.answer)
 
 -- what an answer hands out, beside numbers: the key of the session that was opened, or a token
 abbrev pub handed_by : Option ℕ → List ℕ → Handed
@@ -73,7 +83,8 @@ handed_of made (Some text) = handed_by made.session text
 
 -- The text of the answer to an order. Want of memory has no text here: it breaks the turn off.
 abbrev pub AnswersOrder : Result Reply OrderFault → Bool → List ℕ → Type 0
-AnswersOrder (Ok (reply.Made made text)) head_only answer = answer ≡ done_text made (handed_of made text) head_only
+AnswersOrder (Ok (reply.Made made text)) head_only answer =
+    answer ≡ done_text made (handed_of made text) head_only
 AnswersOrder (Ok (reply.Refused why)) head_only answer = answer ≡ command_text why head_only
 AnswersOrder (Ok (reply.Options list)) head_only answer = answer ≡ options_text list head_only
 AnswersOrder (Err order_fault.Store) head_only answer = answer ≡ fault_text own.StoreFailed head_only
@@ -136,40 +147,53 @@ pub record MakesBoth (book : Book) (low : ℕ) (first second : Asked) (turn : Tu
 
 -- answered by what became of an order
 abbrev pub IsOrdered : Book → ℕ → Asked → Turn → Type 0
-IsOrdered book low order turn = (makes : MakesOne book low order turn) × AnswersOrder makes.act.answer (wants_head turn.request) turn.answer
+IsOrdered book low order turn =
+    (makes : MakesOne book low order turn)
+    × AnswersOrder makes.act.answer (wants_head turn.request) turn.answer
 
 -- Answered by what became of the first order, where it wasn't carried out; else by what became of the second.
 abbrev pub IsOpened : Book → ℕ → Asked → Asked → Turn → Type 0
 IsOpened book low first second turn =
-    ((makes : MakesOne book low first turn) × (is_done makes.act.answer ≡ false) × AnswersOrder makes.act.answer (wants_head turn.request) turn.answer)
-    ⊎ ((makes : MakesBoth book low first second turn) × AnswersOrder makes.act.answer (wants_head turn.request) turn.answer)
+    ((makes : MakesOne book low first turn) × (is_done makes.act.answer ≡ false)
+    × AnswersOrder makes.act.answer (wants_head turn.request) turn.answer)
+    ⊎ ((makes : MakesBoth book low first second turn)
+    × AnswersOrder makes.act.answer (wants_head turn.request) turn.answer)
 
 -- A lawful turn, where the connection had counted `low` entries and the place before it was `last`.
 abbrev pub IsLawfulBy : Showing → Book → ℕ → ℕ → Turn → Type 0
-IsLawfulBy showing.NoRoute book low last turn = IsPlain low last (own_text 404 (codes "NoRoute") [] (wants_head turn.request)) turn
-IsLawfulBy showing.NoCredential book low last turn = IsPlain low last (denial_text denial.UnknownKey (wants_head turn.request)) turn
-IsLawfulBy (showing.BadBody field) book low last turn = IsPlain low last (fault_text (own.BadBody field) (wants_head turn.request)) turn
-IsLawfulBy (showing.BadManifest bad) book low last turn = IsPlain low last (command_text (refusal.Manifest bad) (wants_head turn.request)) turn
+IsLawfulBy showing.NoRoute book low last turn =
+    IsPlain low last (own_text 404 (codes "NoRoute") [] (wants_head turn.request)) turn
+IsLawfulBy showing.NoCredential book low last turn =
+    IsPlain low last (denial_text denial.UnknownKey (wants_head turn.request)) turn
+IsLawfulBy (showing.BadBody field) book low last turn =
+    IsPlain low last (fault_text (own.BadBody field) (wants_head turn.request)) turn
+IsLawfulBy (showing.BadManifest bad) book low last turn =
+    IsPlain low last (command_text (refusal.Manifest bad) (wants_head turn.request)) turn
 IsLawfulBy (showing.Keyed key) book low last turn = IsKeyed book low key turn.request turn
-IsLawfulBy (showing.Used key target) book low last turn = IsKeyed book low key (passed_to target turn.request) turn
+IsLawfulBy (showing.Used key target) book low last turn =
+    IsKeyed book low key (passed_to target turn.request) turn
 IsLawfulBy (showing.Wants order) book low last turn = IsOrdered book low order turn
 IsLawfulBy (showing.Opens first second) book low last turn = IsOpened book low first second turn
 
 abbrev pub IsLawful : Book → ℕ → ℕ → Turn → Type 0
-IsLawful book low last turn = (shown : Showing) × Shows turn.request shown × IsLawfulBy shown book low last turn
+IsLawful book low last turn =
+    (shown : Showing) × Shows turn.request shown × IsLawfulBy shown book low last turn
 
 -- the one text of a request that goes through was asked
 abbrev pub IsAskedOnce : Book → ℕ → Key → Request → Turn → Type 0
 IsAskedOnce book low key passed turn =
-    (permit : Permit) × (back : Option (List ℕ)) × Judged low book key turn.place (verdict.Forward permit) × (turn.asked ≡ ask_of permit passed back ∷ []) × (turn.acts ≡ [])
+    (permit : Permit) × (back : Option (List ℕ)) × Judged low book key turn.place (verdict.Forward permit)
+    × (turn.asked ≡ ask_of permit passed back ∷ []) × (turn.acts ≡ [])
 
 -- What may have been done on a turn that memory ran out on: the one text of a request that goes through was asked, or the order was
 -- made, or of two the first or both.
 abbrev pub IsBegunBy : Showing → Book → ℕ → Turn → Type 0
 IsBegunBy (showing.Keyed key) book low turn = IsAskedOnce book low key turn.request turn
-IsBegunBy (showing.Used key target) book low turn = IsAskedOnce book low key (passed_to target turn.request) turn
+IsBegunBy (showing.Used key target) book low turn =
+    IsAskedOnce book low key (passed_to target turn.request) turn
 IsBegunBy (showing.Wants order) book low turn = MakesOne book low order turn
-IsBegunBy (showing.Opens first second) book low turn = MakesOne book low first turn ⊎ MakesBoth book low first second turn
+IsBegunBy (showing.Opens first second) book low turn =
+    MakesOne book low first turn ⊎ MakesBoth book low first second turn
 IsBegunBy _ book low turn = ⊥
 
 abbrev pub IsBegun : Book → ℕ → Turn → Type 0
@@ -181,4 +205,5 @@ IsBegun book low turn =
 -- are how far they counted, and the last place.
 abbrev pub AreLawful : Book → ℕ → ℕ → List Turn → ℕ → ℕ → Type 0
 AreLawful book low last [] high place = (high ≡ low) × (place ≡ last)
-AreLawful book low last (turn ∷ turns) high place = IsLawful book low last turn × AreLawful book turn.reached turn.place turns high place
+AreLawful book low last (turn ∷ turns) high place =
+    IsLawful book low last turn × AreLawful book turn.reached turn.place turns high place

@@ -11,13 +11,15 @@ use Rattle.desk_orders.specs.Secrets.{secret_text, shown_by, text_digest}
 -- The change is accepted, with the secrets that were drawn for the order: none, or the one whose text has its digest.
 abbrev pub AcceptsWith : State → ℕ → Option Bool → Asked → List (List ℕ) → Event → Made → Type 0
 AcceptsWith s n found order [] e made = Accepts s n None (RowOf s found order) e made
-AcceptsWith s n found order (secret ∷ []) e made = Accepts s n (Some (text_digest (secret_text order.command secret))) (RowOf s found order) e made
+AcceptsWith s n found order (secret ∷ []) e made =
+    Accepts s n (Some (text_digest (secret_text order.command secret))) (RowOf s found order) e made
 AcceptsWith s n found order (secret ∷ more ∷ rest) e made = ⊥
 
 -- The order is refused: by what is ready, or because a row has the digest of the secret that was drawn.
 abbrev pub RefusesWith : State → ℕ → Option Bool → Asked → List (List ℕ) → Refusal → Type 0
 RefusesWith s n found order [] r = IsRefusal s n None (RowOf s found order) r
-RefusesWith s n found order (secret ∷ []) r = IsRefusal s n (Some (text_digest (secret_text order.command secret))) (RowOf s found order) r
+RefusesWith s n found order (secret ∷ []) r =
+    IsRefusal s n (Some (text_digest (secret_text order.command secret))) (RowOf s found order) r
 RefusesWith s n found order (secret ∷ more ∷ rest) r = ⊥
 
 -- the text of the secret that was drawn, if one was and the reply shows it
@@ -26,10 +28,12 @@ shown_text c [] = None
 shown_text c (secret ∷ rest) = shown_by (secret_use c) (secret_text c secret)
 
 -- a command that is carried out: things are as it asks, or its change is accepted
-abbrev pub IsDone : State → ℕ → Option Bool → Asked → Made → Option (List ℕ) → List (List ℕ) → List Event → Type 0
+abbrev pub IsDone : State → ℕ → Option Bool → Asked → Made → Option (List ℕ) → List (List ℕ) → List Event
+    → Type 0
 IsDone s n found order made text drawn added =
     ((added ≡ []) × (drawn ≡ []) × (text ≡ None) × Ready n (RowOf s found order) (Keeps made))
-    ⊎ ((e : Event) × (added ≡ e ∷ []) × (text ≡ shown_text order.command drawn) × AcceptsWith s n found order drawn e made)
+    ⊎ ((e : Event) × (added ≡ e ∷ []) × (text ≡ shown_text order.command drawn)
+    × AcceptsWith s n found order drawn e made)
 
 -- what want of memory may have drawn: nothing, or the one secret that the change wants
 abbrev pub MayHaveDrawn : State → ℕ → Option Bool → Asked → List (List ℕ) → Type 0
@@ -38,12 +42,20 @@ MayHaveDrawn s n found order (secret ∷ []) = WantsSecret n (RowOf s found orde
 MayHaveDrawn s n found order (secret ∷ more ∷ rest) = ⊥
 
 -- THE ANSWER to an order at a state with n entries: with what the sites have of its choice, what is drawn, and what it adds.
-abbrev pub IsAnswer : Law → State → ℕ → Option Bool → Asked → Result Reply OrderFault → List (List ℕ) → List Event → Type 0
-IsAnswer law s n found order (Ok (reply.Refused r)) drawn added = (added ≡ []) × RefusesWith s n found order drawn r
-IsAnswer law s n found order (Ok (reply.Made made text)) drawn added = (lists order.command ≡ false) × IsDone s n found order made text drawn added
+abbrev pub IsAnswer : Law → State → ℕ → Option Bool → Asked → Result Reply OrderFault → List (List ℕ)
+    → List Event → Type 0
+IsAnswer law s n found order (Ok (reply.Refused r)) drawn added =
+    (added ≡ []) × RefusesWith s n found order drawn r
+IsAnswer law s n found order (Ok (reply.Made made text)) drawn added =
+    (lists order.command ≡ false) × IsDone s n found order made text drawn added
 IsAnswer law s n found order (Ok (reply.Options list)) drawn added =
-    (added ≡ []) × (drawn ≡ []) × Ready n (RowOf s found order) (Keeps nothing_made) × ListsBy law s order.caller order.command list
-IsAnswer law s n found order (Err fault.Secrets) drawn added = (added ≡ []) × (drawn ≡ []) × WantsSecret n (RowOf s found order)
-IsAnswer law s n found order (Err fault.Start) drawn added = (added ≡ []) × ((e : Event) × (made : Made) × IsOfRuns e × AcceptsWith s n found order drawn e made)
-IsAnswer law s n found order (Err fault.Store) drawn added = (added ≡ []) × ((e : Event) × (made : Made) × IsOfTables e × AcceptsWith s n found order drawn e made)
-IsAnswer law s n found order (Err fault.Memory) drawn added = (added ≡ []) × MayHaveDrawn s n found order drawn
+    (added ≡ []) × (drawn ≡ []) × Ready n (RowOf s found order) (Keeps nothing_made)
+    × ListsBy law s order.caller order.command list
+IsAnswer law s n found order (Err fault.Secrets) drawn added =
+    (added ≡ []) × (drawn ≡ []) × WantsSecret n (RowOf s found order)
+IsAnswer law s n found order (Err fault.Start) drawn added =
+    (added ≡ []) × ((e : Event) × (made : Made) × IsOfRuns e × AcceptsWith s n found order drawn e made)
+IsAnswer law s n found order (Err fault.Store) drawn added =
+    (added ≡ []) × ((e : Event) × (made : Made) × IsOfTables e × AcceptsWith s n found order drawn e made)
+IsAnswer law s n found order (Err fault.Memory) drawn added =
+    (added ≡ []) × MayHaveDrawn s n found order drawn

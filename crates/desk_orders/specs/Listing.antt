@@ -7,6 +7,7 @@ use Rattle.desk_orders.specs.Orders.{RowOf}
 use Rattle.desk_orders.specs.Sites.{ListsBy}
 
 abbrev pub IsListed : Law → State → Asked → Result (List Listed) DeskFault → Type 0
-IsListed law s order (Ok list) = RowOf s None order (Keeps nothing_made) × ListsBy law s order.caller order.command list
+IsListed law s order (Ok list) =
+    RowOf s None order (Keeps nothing_made) × ListsBy law s order.caller order.command list
 IsListed law s order (Err (fault.Refused r)) = RowOf s None order (Refuses r)
 IsListed law s order (Err fault.Memory) = Unit {0}

@@ -25,4 +25,5 @@ text_digest text = record { 0 = sha256 text }
 -- what is to come of secrets before these were drawn from them, and after
 abbrev pub DrawsAll : Option Coming → Option Coming → List (List ℕ) → Type 0
 DrawsAll coming rest [] = rest ≡ coming
-DrawsAll coming rest (secret ∷ secrets) = (between : Option Coming) × Draws coming between secret × DrawsAll between rest secrets
+DrawsAll coming rest (secret ∷ secrets) =
+    (between : Option Coming) × Draws coming between secret × DrawsAll between rest secrets

@@ -11,13 +11,17 @@ IsAdminBy s who admin = (account : Account) → IsCaller s (secret_of who) accou
 
 -- what the site of a tag has of an item, where the law allows its offers
 abbrev pub IsFound : Law → List DescriptorData → Bool → ℕ → ℕ → Option Bool → Type 0
-IsFound law query admin tag item None = (Contains law.tags tag → ⊥) ⊎ (Contains law.tags tag × HasNoOffer (law.may_offer tag query) admin item)
+IsFound law query admin tag item None =
+    (Contains law.tags tag → ⊥) ⊎ (Contains law.tags tag × HasNoOffer (law.may_offer tag query) admin item)
 IsFound law query admin tag item (Some admin_only) =
-    Contains law.tags tag × ((one : SiteOffer) × HasOffer (law.may_offer tag query) admin item one × (one.admin_only ≡ admin_only))
+    Contains law.tags tag
+    × ((one : SiteOffer) × HasOffer (law.may_offer tag query) admin item one
+    × (one.admin_only ≡ admin_only))
 
 -- the same of an offer: a grain is no item of a site
 abbrev pub IsFoundOf : Law → State → Caller → List DescriptorData → Offer → Option Bool → Type 0
-IsFoundOf law s who query (offer.Site tag item) found = (admin : Bool) × IsAdminBy s who admin × IsFound law query admin tag item found
+IsFoundOf law s who query (offer.Site tag item) found =
+    (admin : Bool) × IsAdminBy s who admin × IsFound law query admin tag item found
 IsFoundOf law s who query (offer.Grain n) found = Unit {0}
 
 -- WHAT THE SITES HAVE of the item that a command chooses. Of another command it may be anything, which nobody reads.
@@ -28,7 +32,8 @@ IsFoundBy law s who _ found = Unit {0}
 -- the offers of all sites that answer a query, each with the tag of its site: the law allows them, and those for admins alone are among them
 -- where the caller is one
 abbrev pub AreTold : Law → State → Caller → List DescriptorData → List (ℕ × SiteOffer) → Type 0
-AreTold law s who query told = (admin : Bool) × IsAdminBy s who admin × IsSites law.tags law.may_offer query admin told
+AreTold law s who query told =
+    (admin : Bool) × IsAdminBy s who admin × IsSites law.tags law.may_offer query admin told
 
 -- a grain that may be chosen
 abbrev pub grain_listed : Choice → Listed
@@ -36,7 +41,9 @@ grain_listed choice = record { offer = offer.Grain (record { 0 = choice.num }); 
 
 -- an offer of the site of a tag, and how well it matches
 abbrev pub site_listed : List DescriptorData → ℕ × SiteOffer → Option Listed
-site_listed query (tag, one) = option_map (λ q. record { offer = offer.Site tag one.item; quality = q }) (match_of query (one.descriptor ∷ []))
+site_listed query (tag, one) =
+    option_map (λ q. record { offer = offer.Site tag one.item; quality = q })
+    (match_of query (one.descriptor ∷ []))
 
 -- those of a quality
 abbrev pub those_of : Quality → List Listed → List Listed
@@ -44,12 +51,15 @@ those_of q listed = filter (λ (one : Listed). same_quality one.quality q) liste
 
 -- the offers of sites: preferred ones first, then by tag and item
 abbrev pub sites_listed : List DescriptorData → List (ℕ × SiteOffer) → List Listed
-sites_listed query told = let listed = filter_map (site_listed query) told in those_of Preferred listed ++ those_of Acceptable listed
+sites_listed query told =
+    let listed = filter_map
+    (site_listed query) told in those_of Preferred listed ++ those_of Acceptable listed
 
 -- WHAT MAY BE CHOSEN for a grain: grains, preferred ones first, then by number; and then what the sites offer
 abbrev pub AreListed : Law → State → Caller → GrainId → List DescriptorData → List Listed → Type 0
 AreListed law s who n query list =
-    (choices : List Choice) × (told : List (ℕ × SiteOffer)) × AreOptions s who n query choices × AreTold law s who query told
+    (choices : List Choice) × (told : List (ℕ × SiteOffer)) × AreOptions s who n query choices
+    × AreTold law s who query told
     × (list ≡ map grain_listed choices ++ sites_listed query told)
 
 -- the same of a command that asks for it; no other has a list
@@ -59,4 +69,6 @@ ListsBy law s who _ list = ⊥
 
 -- the law allows one list of offers alone for each query at a tag
 abbrev pub HasOneAnswer : Law → Type 0
-HasOneAnswer law = (tag : ℕ) (query : List DescriptorData) → IsOne (λ (offers : List SiteOffer). IsTrue (law.may_offer tag query offers))
+HasOneAnswer law =
+    (tag : ℕ) (query : List DescriptorData)
+    → IsOne (λ (offers : List SiteOffer). IsTrue (law.may_offer tag query offers))

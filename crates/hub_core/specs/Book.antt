@@ -89,7 +89,8 @@ IsCounted old new _ = Unit {0}
 -- An order was answered: at a place that isn't before what was seen, with the secrets that were drawn for it and the
 -- entries that it added, which are the commands that were accepted; the spawner was told what these want and no more: of
 -- a run that they start, its grain's application, and the token whose digest it has.
-pub record Ordered (old new : Book) (order : Asked) (place : ℕ) (answer : Result Reply OrderFault) : Type 0 where
+pub record Ordered (old new : Book) (order : Asked) (place : ℕ) (answer : Result Reply OrderFault)
+    : Type 0 where
   pub drawn : List (List ℕ)
   pub added : List Event
   pub app : AppId

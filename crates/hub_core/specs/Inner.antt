@@ -20,7 +20,8 @@ CanMeet e fault.Secrets = ⊥
 CanMeet e fault.Memory = Unit {0}
 
 -- The outside was told what an event wants, or nothing, for a fault that the event can meet and that was counted.
-pub record Told (old new : Backing) (e : Event) (app : AppId) (token : List ℕ) (result : Result ⊤ OrderFault) : Type 0 where
+pub record Told (old new : Backing) (e : Event) (app : AppId) (token : List ℕ) (result : Result ⊤ OrderFault)
+    : Type 0 where
   pub spawned : Spawned old.spawns new.spawns app token (entry_of e result)
   pub undrawn : new.drawer ≡ old.drawer
   pub counts : CountsOn old new
@@ -30,7 +31,8 @@ pub record Told (old new : Backing) (e : Event) (app : AppId) (token : List ℕ)
 -- the same where the spawner alone was called, and where the keeper alone was, for an event of the tables
 abbrev pub ToldSpawner : Spawns → Spawns → Event → AppId → List ℕ → Result ⊤ OrderFault → Type 0
 ToldSpawner old new e app token result =
-    (holds : Backing) → Told (record holds { spawns = old }) (record holds { spawns = new }) e app token result
+    (holds : Backing)
+    → Told (record holds { spawns = old }) (record holds { spawns = new }) e app token result
 
 abbrev pub ToldKeeper : Keeping → Keeping → Result ⊤ OrderFault → Type 0
 ToldKeeper old new result = (holds : Backing) (e : Event) (app : AppId) (token : List ℕ) → IsOfTables e

@@ -7,12 +7,16 @@ use Rattle.host_base.specs.declared.verdict.Verdict.TheVariants as verdict
 use Rattle.share_graph.specs.declared.event.Event.TheVariants as event
 use Rattle.share_graph.specs.declared.facts.Node.TheVariants as node
 
+-- the tables at the end of a history
+abbrev pub behind : State → List Event → Tables
+behind start entries = (replay start entries).tables
+
 -- THE LAW OF REVOKING for a history that grew by an entry: where the entry revokes a grant, a fact is held from there on
 -- exactly where it had a derivation before that doesn't use the grant.
 pub record TakesAway (start : State) (old new : List Event) : Type 0 where
-  pub revoked : (e : Event) → new ≡ old ++ e ∷ [] → RevokesExactly (replay start old).tables e (replay start new).tables
-  pub shut_out : (e : Event) → new ≡ old ++ e ∷ [] → ShutsOut (replay start old).tables e (replay start new).tables
-  pub left : (e : Event) → new ≡ old ++ e ∷ [] → LeavesTheRest (replay start old).tables e (replay start new).tables
+  pub revoked : (e : Event) → new ≡ old ++ e ∷ [] → RevokesExactly (behind start old) e (behind start new)
+  pub shut_out : (e : Event) → new ≡ old ++ e ∷ [] → ShutsOut (behind start old) e (behind start new)
+  pub left : (e : Event) → new ≡ old ++ e ∷ [] → LeavesTheRest (behind start old) e (behind start new)
 
 -- the node that a key stands for: of a session that isn't closed, of the grant whose bearer shows its token, or of the
 -- grant of a run's handle
@@ -20,9 +24,11 @@ abbrev pub StandsFor : State → Key → Node → Type 0
 StandsFor s (key.Session d) at =
     (session : Session) × IsOneOf s.sessions (HasKey d) session × (session.closed ≡ false)
     × (at ≡ node_behind (behind_session session))
-StandsFor s (key.Bearer d) at = (grant : Grant) × IsOneOf s.tables.grants (IsBearerOf d) grant × (at ≡ node.Grant grant.num)
+StandsFor s (key.Bearer d) at =
+    (grant : Grant) × IsOneOf s.tables.grants (IsBearerOf d) grant × (at ≡ node.Grant grant.num)
 StandsFor s (key.Handle d n) at =
-    (run : Run) × (handle : Handle) × IsOneOf s.runs (HasRunToken d) run × IsOneOf s.handles (IsHandleOf run.num n) handle
+    (run : Run) × (handle : Handle) × IsOneOf s.runs (HasRunToken d) run
+    × IsOneOf s.handles (IsHandleOf run.num n) handle
     × (at ≡ node.Grant handle.grant)
 
 -- the denial says that a grain is in the trash, or has no live run

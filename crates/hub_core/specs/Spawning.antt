@@ -6,7 +6,8 @@ use Rattle.share_graph.specs.declared.event.Event.TheVariants as event
 
 -- the starts that an event wants: of the run that it starts, by the program of an application, with its token
 abbrev pub starts_of : Event → AppId → List ℕ → List Start
-starts_of (event.RunStarted run) app token = record { run = run.num; grain = run.grain; app = app; token = token } ∷ []
+starts_of (event.RunStarted run) app token =
+    record { run = run.num; grain = run.grain; app = app; token = token } ∷ []
 starts_of _ app token = []
 
 -- the stops that an event wants: of the run that it stops
@@ -42,7 +43,8 @@ token_of order (secret ∷ rest) = secret_text order.command secret
 
 -- a run that an event starts is of a grain that has this application in the state before
 abbrev pub IsOfApp : State → AppId → Event → Type 0
-IsOfApp s app (event.RunStarted run) = option_map (λ grain. grain.app) (row s.tables.grains run.grain.0) ≡ Some app
+IsOfApp s app (event.RunStarted run) =
+    option_map (λ grain. grain.app) (row s.tables.grains run.grain.0) ≡ Some app
 IsOfApp s app _ = Unit {0}
 
 -- so is each that entries start, one after another

@@ -33,7 +33,8 @@ traffic_after list t = record t { given = t.given + length list; returned = t.re
 
 -- what the door tells then
 abbrev pub door_after : Doorway → ℕ → List Connection → Doorway
-door_after door faults list = record { faults = faults; traffic = option_map (traffic_after list) door.traffic }
+door_after door faults list =
+    record { faults = faults; traffic = option_map (traffic_after list) door.traffic }
 
 -- CONNECTIONS WERE TAKEN at a door, served one after another, and given back: those that it tells, where it tells them.
 pub record ServesMany (old new : Book) (door door' : Doorway) (answered : ℕ) : Type 0 where

@@ -12,7 +12,8 @@ pub record Connection : Type 0 where
   pub end : ConnEnd
 
 abbrev pub connection : Inlet → Outlet → Line → ConnEnd → Connection
-connection inlet outlet line end = record { wire = record { inlet = inlet; outlet = outlet; line = line }; end = end }
+connection inlet outlet line end =
+    record { wire = record { inlet = inlet; outlet = outlet; line = line }; end = end }
 
 -- The traffic at a door: how many connections it is to give in all, how many it gave, and those that were given back, in
 -- their order.
