@@ -21,7 +21,7 @@ use rand::rngs::SysRng;
 use serve_door::{Door, MemDoor};
 use site_caps::SiteDriver;
 use sql_keeper::SqlKeeper;
-use sqlite::{Alter, Connection, File, FileStore};
+use sqlite::{Alter, Connection, FileFrom, FileStore, Start, Unknown};
 use std::alloc::{AllocError, Global};
 use std::process::ExitCode;
 use std::sync::{Arc, Wait};
@@ -160,10 +160,17 @@ where
     status_in(wait, rt.alloc(), words, world, sites)
 }
 
-// The keeper over a file of rows. (What takes it is generic over its store: the check of a call that is generic over the keeper passes
-// its limit of steps.)
-fn keeper_of(rt: &HostRuntime, file: &str) -> SqlKeeper<FileStore<File>> {
-    SqlKeeper::of(Connection::open(rt, file))
+// The keeper over a file of rows, whatever the file holds at first. (What takes it is generic over its store: the check of a call that
+// is generic over the keeper passes its limit of steps.)
+fn keeper_of<F: Start>(
+    rt: &HostRuntime,
+    file: &str,
+    first: F,
+) -> SqlKeeper<FileStore<FileFrom<F>>> {
+    match Connection::open_from(rt, file, false, first) {
+        Ok(conn) => SqlKeeper::of(Ok(conn)),
+        Err((error, _)) => SqlKeeper::of(Err(error)),
+    }
 }
 
 // Where a server's clients come in and what its grains' programs print goes, its port, and what its threads share.
@@ -243,11 +250,12 @@ where
 }
 
 // Serves the clients of an acceptor from a file of rows.
-fn run_serve<'a, R: Threads + Wait + Clock + Sync, C: SiteDriver + Drop + Send>(
+fn run_serve<'a, R: Threads + Wait + Clock + Sync, F: Start + Send, C: SiteDriver + Drop + Send>(
     rt: &'a HostRuntime,
     wait: &'a R,
     words: &[String],
     post: Post,
+    first: F,
     sites: Vec<C>,
 ) -> Result<u8, Memory>
 where
@@ -263,7 +271,7 @@ where
     } = post;
     let programs = programs_of(rt, path_of(words), port, outputs, &activity)?;
     let door = TcpDoor::new(wait, rt.alloc(), clients, activity)?;
-    let keeper = keeper_of(rt, path_of(words));
+    let keeper = keeper_of(rt, path_of(words), first);
     Ok(serve_kept(rt, wait, words, keeper, programs, door, sites))
 }
 
@@ -311,11 +319,12 @@ where
 
 // Runs the program's line with what it needs.
 #[tactic(auto, using(admin_run::proofs::Begins::begins_otherwise, admin_run::proofs::Begins::serves_otherwise))]
-fn run_line<R: Threads + Wait + Clock + Sync, C: SiteDriver + Drop + Send>(
+fn run_line<R: Threads + Wait + Clock + Sync, F: Start + Send, C: SiteDriver + Drop + Send>(
     rt: &HostRuntime,
     wait: &R,
     words: &[String],
     post: Post,
+    first: F,
     sites: Vec<C>,
 ) -> Result<u8, Memory>
 where
@@ -323,8 +332,11 @@ where
     requires { IsRegistered C.Law.law.tags (map C.tag_of sites.items) }
 {
     match line_of(rt.alloc(), words)? {
-        Line::Serve { .. } => run_serve(rt, wait, words, post, sites),
-        Line::Check => check_kept(rt, wait, words, keeper_of(rt, path_of(words)), sites),
+        Line::Serve { .. } => run_serve(rt, wait, words, post, first, sites),
+        Line::Check => {
+            let keeper = keeper_of(rt, path_of(words), first);
+            check_kept(rt, wait, words, keeper, sites)
+        }
         Line::Grain { .. } => {
             let door = UnixDoor::bind(rt, path_of(words));
             Ok(run_with_book(rt, wait, words, door, sites))
@@ -349,7 +361,7 @@ fn run_words<R: Threads + Wait + Clock + Sync>(
     )?;
     let giving = Box::new(alloc, |alloc: Global, item: u32| club_text(alloc, item))?;
     let sites = club_sites(alloc, ClubDriver::new(answering, giving))?;
-    run_line(rt, wait, words, post, sites)
+    run_line(rt, wait, words, post, Unknown, sites)
 }
 
 // What a program that is tied to its input waits by: an end of its work, with its status, or of its input.
