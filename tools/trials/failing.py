@@ -33,9 +33,9 @@ STORE_FAILED = '{"error":"StoreFailed","of":[]}'
 KILLS, STEP, MOST, CLIENTS = 200, 7, 150, 4
 
 
-def club_file(bench, orders):
+def club_file(bench, name, orders):
     """A folder with the file of a server that has ended, and the talk by which it was made."""
-    folder, port = bench.place.make("club"), Port()
+    folder, port = bench.place.make(name), Port()
     talk = bench.talk(folder, port, len(orders) + 1)
     talk.play(orders)
     exchange(port.number, b"")
@@ -46,7 +46,7 @@ def club_file(bench, orders):
 def failing(bench):
     """Each call on the file and its log fails once, or from then on: an order is answered with 200 and its row is kept, or with StoreFailed, and what
     needs no row is answered as ever; or the server can't begin, and says so. Nothing is lost."""
-    folder, talk = club_file(bench, BEGINNING)
+    folder, talk = club_file(bench, "failing", BEGINNING)
     whole = tried(bench, folder, talk.secrets, "none", "-e trace=pwrite64,fdatasync,fsync")
     bench.same("where none fails", (0, [200] * len(ORDERS), True), whole[:3])
     before, after = read_rows(os.path.join(folder, "club.db")), whole[3]
@@ -97,7 +97,7 @@ def kills(bench):
     """A server is killed again and again while several clients move a grain each into the trash and out of it: each is where it was answered, or where
     the order in hand wanted it."""
     grains = [Ask(f"grain {number}", "first", "POST desk/grains", '{"app":1,"title":"A"}', 200, f'{{"grain":{number}}}') for number in range(1, CLIENTS + 1)]
-    folder, talk = club_file(bench, [A_GRAIN[0], *grains])
+    folder, talk = club_file(bench, "kills", [A_GRAIN[0], *grains])
     login, path = talk.secrets.known["first"], os.path.join(folder, "club.db")
     wrong, answered, rows = [], 0, read_rows(path)
     for number in range(KILLS):
