@@ -1,6 +1,6 @@
 //! The solution of tables, kept along the history of events.
 
-ghost use Rattle.std.specs.Prelude.{◌≡◌, ◌↔◌, ◌<◌, ◌≤◌, ◌+◌, IsTrue, IfOk, OnErr, length};
+ghost use Rattle.std.specs.Prelude.{◌≡◌, ◌↔◌, ◌<◌, ◌≤◌, ◌+◌, Contains, IsTrue, IfOk, OnErr, length};
 ghost use Rattle.share_graph.specs.declared.event.Event.{Event};
 ghost use Rattle.share_graph.specs.declared.facts.Fact.{Fact};
 ghost use Rattle.share_graph.specs.declared.facts.Node.{Node};
@@ -11,7 +11,9 @@ ghost use Rattle.share_graph.specs.History.{after};
 ghost use Rattle.share_graph.specs.Trees.{HasTree};
 ghost use Rattle.share_graph.specs.WellFormed.{IsWithinLimits, IsWellFormed};
 ghost use Rattle.least_access.specs.Solved.{HeldAt, IsSolutionOf};
-ghost use Rattle.region_work.specs.Starting.{needs_by, most_tests};
+ghost use Rattle.region_access.specs.Room.{HasEmptyPlace};
+ghost use Rattle.region_work.specs.Starting.{bound_by, needs_by, most_evaluations};
+ghost use Rattle.region_work.specs.Working.{owed_by};
 ghost use Rattle.live_access.specs.Kept.{IsSolvedFor};
 ghost use Rattle.live_access.specs.Ready.{AreSeedsFor, IsReadyFor};
 
@@ -20,7 +22,9 @@ use crate::region::Region;
 use crate::staying::{adds_nothing, takes_nothing};
 use host_base::Memory;
 use least_access::Solved;
-use region_access::{Indexes, arrivals_of, collect, edges_of, seeds_of, solve_anew, ties_of};
+use region_access::{
+    Indexes, arrivals_of, collect, drop_empty, edges_of, seeds_of, solve_anew, ties_of,
+};
 use region_work::{Counted, Probe, Steps, solve_region};
 use share_graph::{Event, Node, State, Tables};
 use std::alloc::Global;
@@ -157,20 +161,23 @@ impl Solution {
         }
     }
 
-    // Solves the region again, over a count that nobody reads.
-    fn settle_tables<L: Ledger>(&mut self, tables: &Tables, region: Region, blank: Blank)
+    // Solves the region again, over a count that nobody reads, and drops the places of its nodes that hold nothing.
+    fn settle_tables<L: Ledger>(&mut self, tables: &Tables, mut region: Region, blank: Blank)
         requires name { blank.name ≡ L.name }
         requires parts { blank.parts ≡ L.parts }
         requires some { 0 < blank.parts }
         requires ready { (s : State) × (e : Event) × IsReadyFor s e self.old region
             × (tables.now ≡ (after s e).tables) }
-        ensures { IsSolvedFor tables.now self.new }
+        ensures solved { IsSolvedFor tables.now self.new }
+        ensures dropped { (at : Node) → Contains region.room.nodes.items at
+            → HasEmptyPlace self.new.table at → ⊥ }
     {
         let mut probe = Counted {
             tables,
             steps: Steps::<L>::new(blank),
         };
-        self.settle_by(&mut probe, region);
+        self.settle_by(&mut probe, &mut region);
+        drop_empty(&mut self.solved.table, region.room.nodes.as_slice());
     }
 
     /// Makes ready for an event: finds its region, takes all room that solving it again wants, clears it, and adds a new grant to the
@@ -186,23 +193,31 @@ impl Solution {
         self.make_ready::<Brand>(alloc, state, event, Blank::new(1))
     }
 
-    /// Solves the region again, by the state after the event. It takes no memory.
+    /// Solves the region again, by the state after the event, and drops the places of its nodes that hold nothing. It takes no
+    /// memory.
     pub fn settle(&mut self, state: &State, region: Region)
         requires { (s : State) × (e : Event) × IsReadyFor s e self.old region × (state.now ≡ after s e) }
-        ensures { IsSolvedFor state.now.tables self.new }
+        ensures solved { IsSolvedFor state.now.tables self.new }
+        ensures dropped { (at : Node) → Contains region.room.nodes.items at
+            → HasEmptyPlace self.new.table at → ⊥ }
     {
         self.settle_tables::<Brand>(&state.tables, region, Blank::new(1));
     }
 
-    /// The same over any probe of the tables, with the bound on its tests: `65 * (G + R) + G`, where the region has G grants with R
-    /// needs.
-    pub fn settle_by<V: Probe>(&mut self, probe: &mut V, mut region: Region)
-        requires { (s : State) × (e : Event) × IsReadyFor s e self.old region
+    /// The same over any probe of the tables, with the bounds on its evaluations: `66 * G + R`, where the region has G grants with R
+    /// needs, and fewer where less is held.
+    pub fn settle_by<V: Probe>(&mut self, probe: &mut V, region: &mut Region)
+        requires { (s : State) × (e : Event) × IsReadyFor s e self.old region.old
             × (V.tables probe.old ≡ (after s e).tables) }
+        ensures nodes { region.new.room.nodes ≡ region.old.room.nodes }
         ensures same { V.tables probe.new ≡ V.tables probe.old }
         ensures solved { IsSolvedFor (V.tables probe.old) self.new }
-        ensures bound { V.count probe.new ≤ V.count probe.old + most_tests (length region.grants.items)
-            (needs_by (V.tables probe.old) region.grants.items) }
+        ensures bound { V.count probe.new ≤ V.count probe.old + most_evaluations (length region.old.grants.items)
+            (needs_by (V.tables probe.old) region.old.grants.items) }
+
+        // A grant costs one evaluation, one for each fact that its source holds, and one for each need that is met.
+        ensures spent { V.count probe.new + owed_by (V.tables probe.old) self.new.table region.old.grants.items
+            ≤ V.count probe.old + bound_by (V.tables probe.old) region.old.grants.items }
     {
         solve_region(
             probe,
@@ -214,10 +229,12 @@ impl Solution {
         );
     }
 
-    /// Takes back what was made ready: the solution is what it was.
+    /// Takes back what was made ready: the solution is what it was, and the nodes of the region that hold nothing have no places.
     pub fn take_back(&mut self, region: Region)
         requires { (s : State) × (e : Event) × IsReadyFor s e self.old region }
-        ensures { (s : State) (e : Event) → IsReadyFor s e self.old region → IsSolvedFor s.tables self.new }
+        ensures solved { (s : State) (e : Event) → IsReadyFor s e self.old region → IsSolvedFor s.tables self.new }
+        ensures dropped { (at : Node) → Contains region.room.nodes.items at
+            → HasEmptyPlace self.new.table at → ⊥ }
     {
         region_access::take_back(
             &mut self.solved.table,

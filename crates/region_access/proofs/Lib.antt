@@ -1,3 +1,4 @@
+pub mod Dropped
 pub mod Added
 pub mod Everything
 pub mod Visited

@@ -1,9 +1,11 @@
 -- What is made ready for a change.
-use Rattle.std.specs.Prelude.{◌↔◌, List}
+use Rattle.std.specs.Prelude.{◌≡◌, ◌↔◌, List, Some}
 use Rattle.share_graph.specs.declared.facts.Fact.{Fact}
 use Rattle.share_graph.specs.declared.facts.Node.{Node}
 use Rattle.share_graph.specs.declared.state.Tables.{Tables}
-use Rattle.least_access.specs.Solved.{Table, HeldAt}
+use Rattle.least_access.specs.declared.held.Held.{Held}
+use Rattle.least_access.specs.Held.{IsIn}
+use Rattle.least_access.specs.Solved.{Table, held_at, HeldAt}
 use Rattle.region_access.specs.declared.room.Room.{Room}
 use Rattle.region_access.specs.Clearing.{IsWhatWas}
 use Rattle.region_work.specs.Prepared.{Clears, IsFresh}
@@ -12,6 +14,10 @@ use Rattle.region_access.specs.Reaching.{IsRegionOf}
 -- the tables have the same facts, whatever places they have
 abbrev pub HasSameFacts : Table → Table → Type 0
 HasSameFacts old new = (at : Node) (fact : Fact) → HeldAt new at fact ↔ HeldAt old at fact
+
+-- the node has a place in the table, and holds nothing
+abbrev pub HasEmptyPlace : Table → Node → Type 0
+HasEmptyPlace table at = (held : Held) × (held_at table at ≡ Some held) × ((fact : Fact) → IsIn held fact → ⊥)
 
 -- The room has the region of the seeds, with places in the table, and the table is cleared there. The room has what was
 -- there, and nothing was found yet.

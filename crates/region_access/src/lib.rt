@@ -6,6 +6,7 @@ mod adding_all;
 mod anew;
 mod arriving;
 mod clearing;
+mod dropping;
 mod fed_grant;
 mod index;
 mod indexes;
@@ -20,6 +21,7 @@ mod tying;
 
 pub use anew::solve_anew;
 pub use arriving::{arrivals_of, collect};
+pub use dropping::drop_empty;
 pub use fed_grant::{NewGrant, new_grant};
 pub use index::Ties;
 pub use indexes::Indexes;

@@ -9,10 +9,11 @@ ghost use Rattle.region_access.specs.Indexes.{Entries, entries_of, AreIndexesOf,
 ghost use Rattle.region_access.specs.NewEdges.{HasNoRow, AddsGrant};
 ghost use Rattle.region_work.specs.Fed.{fed_in};
 ghost use Rattle.region_work.specs.Prepared.{Touches, IsPrepared};
-ghost use Rattle.region_access.specs.Room.{HasSameFacts, IsRoom, WasCleared};
+ghost use Rattle.region_access.specs.Room.{HasEmptyPlace, HasSameFacts, IsRoom, WasCleared};
 ghost use Rattle.region_work.specs.Working.{IsIndexOf};
 
 use crate::clearing::{clear, undo};
+use crate::dropping::drop_empty;
 use crate::fed_grant::{NewGrant, add_new, remove_new};
 use crate::indexes::Indexes;
 use crate::reaching::find_region;
@@ -55,7 +56,10 @@ fn make_room<V: Probe>(
     let Ok(mut before) = Vec::with_capacity(alloc, nodes.len()) else {
         return Err(Memory);
     };
-    add_places(table, nodes.as_slice())?;
+    if let Err(fault) = add_places(table, nodes.as_slice()) {
+        drop_empty(table, nodes.as_slice());
+        return Err(fault);
+    }
     clear(table, nodes.as_slice(), &mut before);
     Ok(Room {
         nodes,
@@ -64,13 +68,15 @@ fn make_room<V: Probe>(
     })
 }
 
-// Puts back all that was cleared.
+// Puts back all that was cleared, and drops the places of nodes that hold nothing.
 fn fill_back(table: &mut Table, room: Room)
     requires { WasCleared table.old.entries room }
-    ensures { (t : Tables) (seeds : List Node) (start : Table)
+    ensures facts { (t : Tables) (seeds : List Node) (start : Table)
         → IsRoom t seeds start table.old.entries room → HasSameFacts start table.new.entries }
+    ensures dropped { (at : Node) → Contains room.nodes.items at → HasEmptyPlace table.new.entries at → ⊥ }
 {
     undo(table, room.nodes.as_slice(), room.before.as_slice());
+    drop_empty(table, room.nodes.as_slice());
 }
 
 /// Finds the region of the seeds, takes all room that solving it again wants, clears it, and adds a new grant, if there is one, to
@@ -107,11 +113,13 @@ pub fn prepare<V: Probe>(
     }
 }
 
-/// Takes back what was made ready: each node holds what it held before, and each index has what it had.
+/// Takes back what was made ready: each node holds what it held before, those of the room that hold nothing have no place, and each
+/// index has what it had.
 pub fn take_back(table: &mut Table, indexes: &mut Indexes, room: Room, added: &Option<NewGrant>)
     requires { WasCleared table.old.entries room }
     ensures facts { (t : Tables) (seeds : List Node) (start : Table)
         → IsRoom t seeds start table.old.entries room → HasSameFacts start table.new.entries }
+    ensures dropped { (at : Node) → Contains room.nodes.items at → HasEmptyPlace table.new.entries at → ⊥ }
     ensures indexes { (base : Entries) → HaveNew added.now base (entries_of indexes.old)
         → HaveSame base (entries_of indexes.new) }
 {

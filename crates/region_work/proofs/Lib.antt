@@ -1,10 +1,8 @@
 pub mod Sums
-pub mod Places
 pub mod NeedsMet
 pub mod Moving
 pub mod Owing
 pub mod Finding
-pub mod Bounded
 pub mod PassedOn
 pub mod StepWorks
 pub mod Owned

@@ -1,4 +1,4 @@
--- What follows since a node gained a fact, and what followed before.
+-- What follows since a node gained facts, and what followed before.
 use Rattle.std.proofs.Common.{◌≡◌, ◌⊎◌, ◌↔◌, Option, Some, None, Contains, IsSome, refl, sym, ◌∙◌, ap, subst, inl, inr}
 use Rattle.std.proofs.lemmas.Bool.{cases_Bool}
 use Rattle.host_base.specs.declared.ids.GrantId.{GrantId}
@@ -38,7 +38,7 @@ module _ (t : Tables) (gain : Gain) (old new : Table) (moves : Moves gain old ne
         | inr other ↦ held_same new old at fact (sym (moves.others at other)) h
       ]
 
-  pub held_back : (at : Node) (fact : Fact) → HeldAt new at fact → HeldAt old at fact ⊎ ((at ≡ gain.node) × (fact ≡ gain.fact))
+  pub held_back : (at : Node) (fact : Fact) → HeldAt new at fact → HeldAt old at fact ⊎ ((at ≡ gain.node) × IsIn gain.gained fact)
   held_back at fact h =
       elim (same_or_other at gain.node) [
         | inl here ↦
@@ -49,8 +49,8 @@ module _ (t : Tables) (gain : Gain) (old new : Table) (moves : Moves gain old ne
         | inr other ↦ inl (held_same old new at fact (moves.others at other) h)
       ]
 
-  pub gained : HeldAt new gain.node gain.fact
-  gained = held_here new gain.node gain.after gain.fact moves.has ((moves.members gain.fact).1 (inr refl))
+  pub gained : (fact : Fact) → IsIn gain.gained fact → HeldAt new gain.node fact
+  gained fact is = held_here new gain.node gain.after fact moves.has ((moves.members fact).1 (inr is))
 
   pub placed : (at : Node) → IsSome (held_at old at) → IsSome (held_at new at)
   placed at there =
@@ -85,7 +85,7 @@ module _ (t : Tables) (gain : Gain) (old new : Table) (moves : Moves gain old ne
 
   follows_by : (g : GrantId) (grant : Grant) → ((q : Need) → Contains grant.needs q → Becomes gain q → ⊥) → (at : Node) (fact : Fact)
       → (from : Option Node) → source_of grant ≡ from → Follows t (HeldAt new) g grant at fact
-      → Follows t (HeldAt old) g grant at fact ⊎ ((source_of grant ≡ Some gain.node) × (fact ≡ gain.fact))
+      → Follows t (HeldAt old) g grant at fact ⊎ ((source_of grant ≡ Some gain.node) × IsIn gain.gained fact)
   follows_by g grant never at fact None is f =
       inl (record {
         met = λ q c. need_back q (never q c) (f.met q c);
@@ -101,9 +101,9 @@ module _ (t : Tables) (gain : Gain) (old new : Table) (moves : Moves gain old ne
         | inr since ↦ inr (is ∙ ap (λ (n : Node). Some n) since.0, since.1)
       ]
 
-  -- what follows by a grant none of whose needs is met since, followed before, or is the fact that its source gained
+  -- what follows by a grant none of whose needs is met since, followed before, or is a fact that its source gained
   pub follows_back : (g : GrantId) (grant : Grant) → ((q : Need) → Contains grant.needs q → Becomes gain q → ⊥) → (at : Node) (fact : Fact)
-      → Follows t (HeldAt new) g grant at fact → Follows t (HeldAt old) g grant at fact ⊎ ((source_of grant ≡ Some gain.node) × (fact ≡ gain.fact))
+      → Follows t (HeldAt new) g grant at fact → Follows t (HeldAt old) g grant at fact ⊎ ((source_of grant ≡ Some gain.node) × IsIn gain.gained fact)
   follows_back g grant never at fact f = follows_by g grant never at fact (source_of grant) refl f
 
   -- a grant that the node doesn't feed passes nothing more on

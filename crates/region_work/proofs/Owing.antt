@@ -107,8 +107,8 @@ module _ (gain : Gain) (old new : Table) (moves : Moves gain old new) where
       let needs = sum_less (unmet new) (unmet old) unmet_falls grant.needs in
       omega arith
 
-  -- by 65 where a need became met
-  pub owed_need : (t : Tables) (g : GrantId) (grant : Grant) (q : Need) → IsGrant t g grant → Contains grant.needs q → Becomes gain q → owed t new g + 65 ≤ owed t old g
+  -- and where a need became met
+  pub owed_need : (t : Tables) (g : GrantId) (grant : Grant) (q : Need) → IsGrant t g grant → Contains grant.needs q → Becomes gain q → owed t new g + 1 ≤ owed t old g
   unfolding owed
   owed_need t g grant q is c becomes =
       let a : owed_by_row new (row t.grants g.0) ≡ owed_by_grant new grant = ap (owed_by_row new) is in

@@ -1,5 +1,5 @@
 -- A step of the work keeps what is so between steps, and its end is the solution.
-use Rattle.std.proofs.Common.{◌≡◌, ◌≢◌, ◌⊎◌, ◌+◌, ◌-◌, ◌≤◌, ◌++◌, ◌∷◌, [], List, Option, Some, None, Contains, IsSome, IsSomeAnd, refl, sym, ap, subst, inl, inr}
+use Rattle.std.proofs.Common.{◌≡◌, ◌≢◌, ◌⊎◌, ◌+◌, ◌-◌, ◌≤◌, ◌++◌, ◌∷◌, [], List, Option, Some, None, Contains, IsSome, IsSomeAnd, refl, sym, ◌∙◌, ap, subst, inl, inr}
 use Rattle.std.specs.Prelude.{sum_by}
 use Rattle.std.proofs.lemmas.Bool.{cases_eq}
 use Rattle.std.proofs.lemmas.List.Elements.{Contains-append_left, Contains-push, Contains-push_cases}
@@ -21,12 +21,12 @@ use Rattle.least_access.proofs.Following.{follows_at}
 use Rattle.least_access.proofs.Turns.{grant_id, solution}
 use Rattle.region_work.specs.declared.claim.Claim.{Claim}
 use Rattle.region_work.specs.declared.gain.Gain.{Gain}
-use Rattle.region_work.specs.Facts.{IsFact}
 use Rattle.region_work.specs.Moves.{Moves}
 use Rattle.region_work.specs.Owed.{owed}
-use Rattle.region_work.specs.Work.{Work, Finds, claim}
+use Rattle.region_work.specs.Work.{IsFoundIn, Waits, Work, Finds, claim}
 use Rattle.region_work.specs.Working.{IsIndexOf, IsWorking, HasRegion, owed_by}
 use Rattle.region_work.proofs.Moving.{held_on, held_back, gained, placed, not_fed}
+use Rattle.region_work.proofs.Finding.{still_found}
 use Rattle.region_work.proofs.Owing.{owed_fed}
 use Rattle.region_work.proofs.Sums.{contains_cons, contains_none}
 
@@ -57,9 +57,9 @@ some_from_held table at fact h = by_value (held_at table at) fact h
     by_value (Some held) fact h = refl
     by_value None fact h = absurd h
 
--- a fact that waits and that the table has needs no step
+-- what waits and the table has needs no step
 pub step_none : (t : Tables) (table found : Table) (queue : List Claim) (c : Claim)
-    → IsWorking t table (record { found = found; queue = queue ++ c ∷ [] }) → HeldAt table c.node c.fact
+    → IsWorking t table (record { found = found; queue = queue ++ c ∷ [] }) → ((fact : Fact) → IsIn c.held fact → HeldAt table c.node fact)
     → IsWorking t table (record { found = found; queue = queue })
 step_none t table found queue c working has = record {
   table_sound = working.table_sound;
@@ -70,10 +70,12 @@ step_none t table found queue c working has = record {
   listed = λ at fact h.
       elim (working.listed at fact h) [
         | inl known ↦ inl known
-        | inr waits ↦
-            elim (Contains-push_cases queue c (claim at fact) waits) [
-              | inl before ↦ inr before
-              | inr here ↦ inl (subst (λ (x : Claim). HeldAt table x.node x.fact) here has)
+        | inr (x, waits, node, is) ↦
+            elim (Contains-push_cases queue c x waits) [
+              | inl before ↦ inr (x, before, node, is)
+              | inr here ↦
+                  let this : c.node ≡ at = ap (λ (y : Claim). y.node) here ∙ node in
+                  inl (subst (λ (n : Node). HeldAt table n fact) this (has fact (subst (λ (y : Claim). IsIn y.held fact) (sym here) is)))
             ]
       ];
   owners = working.owners;
@@ -82,7 +84,7 @@ step_none t table found queue c working has = record {
 
 -- the claim that is taken waits
 pub last_waits : (t : Tables) (table found : Table) (queue : List Claim) (c : Claim) → IsWorking t table (record { found = found; queue = queue ++ c ∷ [] })
-    → IsFact c.fact × HeldAt found c.node c.fact
+    → IsFoundIn found c
 last_waits t table found queue c working = working.queued c (Contains-push queue c)
 
 -- the grants that the node of a claim feeds have places among what was found
@@ -91,12 +93,11 @@ pub fed_rows : (t : Tables) (fed : Node → List GrantId) (table found : Table) 
     → (grant : Grant) × IsGrant t g grant × IsSome (held_at found (node_of g grant))
 fed_rows t fed table found queue c index working g h =
     let (grant, is, feeds) = index.rows c.node g h in
-    let here = (last_waits t table found queue c working).1 in
-    (grant, is, working.reaches c.node g grant (some_from_held found c.node c.fact here) is feeds)
+    (grant, is, working.reaches c.node g grant (last_waits t table found queue c working).place is feeds)
 
 module _ (t : Tables) (fed : Node → List GrantId) (old new found : Table) (queue : List Claim) (last : Work) (gain : Gain)
     (index : IsIndexOf t fed)
-    (working : IsWorking t old (record { found = found; queue = queue ++ claim gain.node gain.fact ∷ [] }))
+    (working : IsWorking t old (record { found = found; queue = queue ++ claim gain.node gain.gained ∷ [] }))
     (moves : Moves gain old new)
     (finds : Finds (record { found = found; queue = queue }) last)
     (sound : IsSound t new → IsSound t found → IsSound t last.found)
@@ -104,15 +105,15 @@ module _ (t : Tables) (fed : Node → List GrantId) (old new found : Table) (que
     → Follows t (HeldAt new) num grant (node_of num grant) fact
     → Follows t (HeldAt old) num grant (node_of num grant) fact ⊎ HeldAt last.found (node_of num grant) fact) where
   abbrev this : Claim
-  this = claim gain.node gain.fact
+  this = claim gain.node gain.gained
 
   new_sound : IsSound t new
   new_sound at fact h =
       elim (held_back t gain old new moves at fact h) [
         | inl before ↦ working.table_sound at fact before
         | inr since ↦
-            let here = working.found_sound gain.node gain.fact (last_waits t old found queue this working).1 in
-            subst (λ (n : Node). Holds t n fact) (sym since.0) (subst (λ (f : Fact). Holds t gain.node f) (sym since.1) here)
+            let here = working.found_sound gain.node fact ((last_waits t old found queue this working).facts fact since.1) in
+            subst (λ (n : Node). Holds t n fact) (sym since.0) here
       ]
 
   known_on : (at : Node) (fact : Fact) → HeldAt old at fact ⊎ HeldAt found at fact → HeldAt new at fact ⊎ HeldAt last.found at fact
@@ -122,23 +123,25 @@ module _ (t : Tables) (fed : Node → List GrantId) (old new found : Table) (que
         | inr there ↦ inr (finds.kept at fact there)
       ]
 
-  step_queued : (c : Claim) → Contains last.queue c → IsFact c.fact × HeldAt last.found c.node c.fact
+  step_queued : (c : Claim) → Contains last.queue c → IsFoundIn last.found c
   step_queued c h =
       elim (finds.found c h) [
-        | inl before ↦ let (is, there) = working.queued c (Contains-append_left queue (this ∷ []) c before) in (is, finds.kept c.node c.fact there)
+        | inl before ↦ still_found found last.found c finds.places finds.kept (working.queued c (Contains-append_left queue (this ∷ []) c before))
         | inr fresh ↦ fresh
       ]
 
-  step_listed : (at : Node) (fact : Fact) → HeldAt last.found at fact → HeldAt new at fact ⊎ Contains last.queue (claim at fact)
+  step_listed : (at : Node) (fact : Fact) → HeldAt last.found at fact → HeldAt new at fact ⊎ Waits last.queue at fact
   step_listed at fact h =
       elim (finds.listed at fact h) [
         | inl before ↦
             elim (working.listed at fact before) [
               | inl known ↦ inl (held_on t gain old new moves at fact known)
-              | inr waits ↦
-                  elim (Contains-push_cases queue this (claim at fact) waits) [
-                    | inl still ↦ inr (finds.waits (claim at fact) still)
-                    | inr here ↦ inl (subst (λ (c : Claim). HeldAt new c.node c.fact) here (gained t gain old new moves))
+              | inr (c, waits, node, is) ↦
+                  elim (Contains-push_cases queue this c waits) [
+                    | inl still ↦ inr (c, finds.waits c still, node, is)
+                    | inr here ↦
+                        let at_node : gain.node ≡ at = ap (λ (y : Claim). y.node) here ∙ node in
+                        inl (subst (λ (n : Node). HeldAt new n fact) at_node (gained t gain old new moves fact (subst (λ (y : Claim). IsIn y.held fact) (sym here) is)))
                   ]
             ]
         | inr fresh ↦ inr fresh
@@ -186,7 +189,7 @@ work_done t coherent table work working none =
     let found_in : (at : Node) (fact : Fact) → HeldAt work.found at fact → HeldAt table at fact = λ at fact h.
     elim (working.listed at fact h) [
       | inl known ↦ known
-      | inr waits ↦ absurd (contains_none (claim at fact) (subst (λ (q : List Claim). Contains q (claim at fact)) none waits))
+      | inr (c, waits, node, is) ↦ absurd (contains_none c (subst (λ (q : List Claim). Contains q c) none waits))
     ] in
     let known_in : (at : Node) (fact : Fact) → HeldAt table at fact ⊎ HeldAt work.found at fact → HeldAt table at fact = λ at fact h.
     elim h [ inl known ↦ known | inr found ↦ found_in at fact found ] in

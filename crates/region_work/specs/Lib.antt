@@ -1,4 +1,3 @@
-pub mod Facts
 pub mod Work
 pub mod Emptying
 pub mod Fed

@@ -1,5 +1,5 @@
--- What tests can still come, by what is lacking.
-use Rattle.std.specs.Prelude.{◌+◌, ◌*◌, ◌&&◌, ◌==◌, ℕ, Bool, true, false, if◌then◌else◌, Option, Some, None, sum_by}
+-- What evaluations can still come, by what is lacking.
+use Rattle.std.specs.Prelude.{◌+◌, ◌&&◌, ◌==◌, ℕ, Bool, true, false, if◌then◌else◌, Option, Some, None, sum_by}
 use Rattle.std.specs.List.{list_all}
 use Rattle.std.specs.Int.{bit_at}
 use Rattle.perm_roles.specs.declared.perm_set.PermSet.{PermSet}
@@ -54,9 +54,9 @@ abbrev pub lacking : Table → Option Node → ℕ
 lacking table None = 0
 lacking table (Some at) = room (held_in table at)
 
--- how many tests of the grant can still come: one for each fact that its source lacks, and 65 for each need that isn't met
+-- how many evaluations of the grant can still come: one for each fact that its source lacks, and for each need that isn't met
 abbrev pub owed_by_grant : Table → Grant → ℕ
-owed_by_grant table grant = lacking table (source_of grant) + 65 * sum_by (unmet table) grant.needs
+owed_by_grant table grant = lacking table (source_of grant) + sum_by (unmet table) grant.needs
 
 abbrev pub owed_by_row : Table → Option Grant → ℕ
 owed_by_row table (Some grant) = owed_by_grant table grant

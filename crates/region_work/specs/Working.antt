@@ -16,9 +16,8 @@ use Rattle.share_graph.specs.Rows.{IsGrant}
 use Rattle.least_access.specs.Rounds.{IsSound}
 use Rattle.least_access.specs.Solved.{Table, held_at, HeldAt}
 use Rattle.region_work.specs.declared.claim.Claim.{Claim}
-use Rattle.region_work.specs.Facts.{IsFact}
 use Rattle.region_work.specs.Owed.{owed}
-use Rattle.region_work.specs.Work.{Work, claim}
+use Rattle.region_work.specs.Work.{IsFoundIn, Waits, Work}
 
 -- The index has, for each node, the grants that it feeds, each once.
 pub record IsIndexOf (t : Tables) (fed : Node → List GrantId) : Type 0 where
@@ -32,8 +31,8 @@ pub record IsWorking (t : Tables) (table : Table) (work : Work) : Type 0 where
   pub found_sound : IsSound t work.found
   pub places : (at : Node) → IsSome (held_at work.found at) → IsSome (held_at table at)
   pub reaches : (at : Node) (g : GrantId) (grant : Grant) → IsSome (held_at work.found at) → IsGrant t g grant → Feeds at grant → IsSome (held_at work.found (node_of g grant))
-  pub queued : (c : Claim) → Contains work.queue c → IsFact c.fact × HeldAt work.found c.node c.fact
-  pub listed : (at : Node) (fact : Fact) → HeldAt work.found at fact → HeldAt table at fact ⊎ Contains work.queue (claim at fact)
+  pub queued : (c : Claim) → Contains work.queue c → IsFoundIn work.found c
+  pub listed : (at : Node) (fact : Fact) → HeldAt work.found at fact → HeldAt table at fact ⊎ Waits work.queue at fact
   pub owners : (n : GrainId) (grain : Grain) (app : App) (fact : Fact) → Owns t n grain app → IsFactOf app fact
       → HeldAt table (node.User n grain.owner) fact ⊎ HeldAt work.found (node.User n grain.owner) fact
   pub closed : (g : GrantId) (grant : Grant) (fact : Fact) → IsGrant t g grant → Follows t (HeldAt table) g grant (node_of g grant) fact
@@ -43,6 +42,6 @@ pub record IsWorking (t : Tables) (table : Table) (work : Work) : Type 0 where
 abbrev pub HasRegion : Tables → Table → List GrantId → Type 0
 HasRegion t found gs = (g : GrantId) (grant : Grant) → IsGrant t g grant → IsSome (held_at found (node_of g grant)) → Contains gs g
 
--- how many tests of the grants can still come
+-- how many evaluations of the grants can still come
 abbrev pub owed_by : Tables → Table → List GrantId → ℕ
 owed_by t table gs = sum_by (owed t table) gs

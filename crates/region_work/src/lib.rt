@@ -5,7 +5,6 @@ mod claim;
 mod counted;
 pub mod edges;
 pub mod emptying;
-pub mod facts;
 mod gain;
 pub mod meeting;
 mod owning;

@@ -1,6 +1,6 @@
 //! What owners hold.
 
-ghost use Rattle.std.specs.Prelude.{◌≡◌, ◌⊎◌, Contains, IsSome};
+ghost use Rattle.std.specs.Prelude.{◌≡◌, Contains, IsSome};
 ghost use Rattle.host_base.specs.declared.ids.GrainId.{GrainId};
 ghost use Rattle.share_graph.specs.declared.facts.Fact.{Fact};
 ghost use Rattle.share_graph.specs.declared.facts.Node.{Node};
@@ -9,44 +9,13 @@ ghost use Rattle.share_graph.specs.declared.rows.App.{App};
 ghost use Rattle.share_graph.specs.declared.rows.Grain.{Grain};
 ghost use Rattle.share_graph.specs.Coherent.{IsCoherent};
 ghost use Rattle.share_graph.specs.Derivation.{Owns, IsFactOf};
-ghost use Rattle.least_access.specs.Held.{IsIn};
 ghost use Rattle.least_access.specs.Rounds.{IsSound};
 ghost use Rattle.least_access.specs.Solved.{held_at, HeldAt};
-ghost use Rattle.region_work.specs.Facts.{IsFact};
 ghost use Rattle.region_work.specs.Work.{Finds};
 
-use crate::facts::{fact_at, has};
 use crate::probe::Probe;
 use crate::waiting::Waiting;
-use least_access::Held;
-use share_graph::{Fact, Node};
-
-// Adds a fact to what was found at a node, where it is held.
-fn find_if_held(waiting: &mut Waiting, node: Node, held: &Held, fact: Fact)
-    requires place { IsSome (held_at waiting.old.found node) }
-    requires fact { IsFact fact }
-    ensures finds { Finds waiting.old waiting.new }
-    ensures there { IsIn held.now fact → HeldAt waiting.new.found node fact }
-    ensures only { (at : Node) (other : Fact) → HeldAt waiting.new.found at other
-        → HeldAt waiting.old.found at other ⊎ ((at ≡ node) × IsIn held.now other) }
-{
-    if has(held, fact) {
-        waiting.find(node, fact);
-    }
-}
-
-// Adds what is held to what was found at a node.
-fn find_held(waiting: &mut Waiting, node: Node, held: &Held)
-    requires { IsSome (held_at waiting.old.found node) }
-    ensures finds { Finds waiting.old waiting.new }
-    ensures there { (fact : Fact) → IsFact fact → IsIn held.now fact → HeldAt waiting.new.found node fact }
-    ensures only { (at : Node) (other : Fact) → HeldAt waiting.new.found at other
-        → HeldAt waiting.old.found at other ⊎ ((at ≡ node) × IsIn held.now other) }
-{
-    for place in 0..65 {
-        find_if_held(waiting, node, held, fact_at(place));
-    }
-}
+use share_graph::Node;
 
 // Adds what a node holds as an owner to what was found.
 fn find_own<V: Probe>(probe: &V, waiting: &mut Waiting, at: Node)
@@ -60,7 +29,7 @@ fn find_own<V: Probe>(probe: &V, waiting: &mut Waiting, at: Node)
         → IsSound (V.tables probe.now) waiting.new.found }
 {
     if let Node::User(num, account) = at {
-        find_held(waiting, at, &probe.own(num, account));
+        waiting.find(at, &probe.own(num, account));
     }
 }
 

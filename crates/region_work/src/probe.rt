@@ -1,4 +1,4 @@
-ghost use Rattle.std.specs.Prelude.{◌≡◌, ◌↔◌, ◌+◌, ℕ, IsTrue};
+ghost use Rattle.std.specs.Prelude.{◌≡◌, ◌↔◌, ◌+◌, ℕ};
 ghost use Rattle.share_graph.specs.declared.facts.Fact.{Fact};
 ghost use Rattle.share_graph.specs.declared.grants.Grant.{Grant};
 ghost use Rattle.share_graph.specs.declared.state.Tables.{Tables};
@@ -8,15 +8,14 @@ ghost use Rattle.share_graph.specs.Nodes.{node_of, source_of};
 ghost use Rattle.share_graph.specs.Rows.{IsGrant};
 ghost use Rattle.least_access.specs.Held.{IsIn};
 ghost use Rattle.least_access.specs.Solved.{HeldAt};
-ghost use Rattle.region_work.specs.Facts.{IsFact};
 ghost use Rattle.region_work.specs.Starting.{HoldsAsOwner};
 
 use host_base::{AccountId, GrainId, GrantId};
 use least_access::Held;
 use least_access::table::Table;
-use share_graph::{Fact, Need, Node};
+use share_graph::{Need, Node};
 
-/// The one way to read tables while a region is solved. It counts its tests.
+/// The one way to read tables while a region is solved. It counts its evaluations.
 pub trait Probe {
     ghost tables: { Self → Tables };
 
@@ -42,13 +41,12 @@ pub trait Probe {
         requires { IsCoherent (tables self.now) }
         ensures { (fact : Fact) → IsIn result fact ↔ HoldsAsOwner (tables self.now) num account fact };
 
-    /// Whether a grant passes a fact on by what a table has now. This is the one evaluation.
-    fn test(&mut self, num: GrantId, fact: Fact, table: &Table) -> bool
+    /// What a grant passes on by what a table has now. This is the one evaluation.
+    fn pass(&mut self, num: GrantId, table: &Table) -> Held
         requires coherent { IsCoherent (tables self.old) }
         requires row { (grant : Grant) × IsGrant (tables self.old) num grant }
-        requires fact { IsFact fact }
-        ensures answer { (grant : Grant) → IsGrant (tables self.old) num grant
-            → IsTrue result ↔ Follows (tables self.old) (HeldAt table.now.entries) num grant (node_of num grant) fact }
+        ensures answer { (grant : Grant) (fact : Fact) → IsGrant (tables self.old) num grant
+            → IsIn result fact ↔ Follows (tables self.old) (HeldAt table.now.entries) num grant (node_of num grant) fact }
         ensures same { tables self.new ≡ tables self.old }
         ensures counted { count self.new ≡ count self.old + 1 };
 }

@@ -5,8 +5,8 @@ ghost use Rattle.share_graph.specs.Coherent.{IsCoherent};
 ghost use Rattle.least_access.specs.Solved.{IsSolutionOf};
 ghost use Rattle.region_work.specs.Fed.{fed_in};
 ghost use Rattle.region_work.specs.Prepared.{HasGrants, IsPrepared, IsFresh};
-ghost use Rattle.region_work.specs.Starting.{needs_by, most_tests};
-ghost use Rattle.region_work.specs.Working.{IsIndexOf};
+ghost use Rattle.region_work.specs.Starting.{bound_by, needs_by, most_evaluations};
+ghost use Rattle.region_work.specs.Working.{IsIndexOf, owed_by};
 
 use crate::edges::Edges;
 use crate::owning::find_owned;
@@ -18,7 +18,8 @@ use host_base::GrantId;
 use least_access::table::Table;
 use share_graph::Node;
 
-/// Fills a cleared region again, in no memory: the table is then the solution, for `65 * (G + R) + G` tests at most, where G grants with R needs go to it.
+/// Fills a cleared region again, in no memory: the table is then the solution, for `66 * G + R` evaluations at most, where G
+/// grants with R needs go to it.
 pub fn solve_region<V: Probe>(
     probe: &mut V,
     table: &mut Table,
@@ -34,8 +35,12 @@ pub fn solve_region<V: Probe>(
     requires fresh { IsFresh nodes.now waiting.old }
     ensures same { V.tables probe.new ≡ V.tables probe.old }
     ensures solution { IsSolutionOf (V.tables probe.old) table.new.entries }
-    ensures bound { V.count probe.new ≤ V.count probe.old + most_tests (length grants.now)
+    ensures bound { V.count probe.new ≤ V.count probe.old + most_evaluations (length grants.now)
         (needs_by (V.tables probe.old) grants.now) }
+
+    // A grant costs one evaluation, one for each fact that its source holds at the end, and one for each need that is met then.
+    ensures spent { V.count probe.new + owed_by (V.tables probe.old) table.new.entries grants.now
+        ≤ V.count probe.old + bound_by (V.tables probe.old) grants.now }
 {
     find_owned(probe, waiting, nodes);
     start_grants(probe, table, waiting, grants);

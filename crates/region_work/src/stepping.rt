@@ -10,14 +10,13 @@ ghost use Rattle.region_work.specs.Working.{IsIndexOf, IsWorking, HasRegion, owe
 
 use crate::claim::Claim;
 use crate::edges::{Edges, fed_by};
-use crate::facts::{has, with};
 use crate::gain::Gain;
 use crate::passing::pass_on;
 use crate::probe::Probe;
 use crate::waiting::Waiting;
 use least_access::table::{Table, holding, put};
 
-/// Puts a fact that waited into the table, and passes it on.
+/// Puts what waited at a node into the table, and passes it on.
 fn step<V: Probe>(
     probe: &mut V,
     table: &mut Table,
@@ -39,14 +38,14 @@ fn step<V: Probe>(
         → V.count probe.new + owed_by (V.tables probe.old) table.new.entries gs ≤ V.count probe.old + owed_by (V.tables probe.old) table.old.entries gs }
 {
     let before = holding(table, claim.node);
-    if has(&before, claim.fact) {
+    let after = before.union(&claim.held);
+    if after == before {
         return;
     }
-    let after = with(&before, claim.fact);
     put(table, claim.node, after);
     let gain = Gain {
         node: claim.node,
-        fact: claim.fact,
+        gained: claim.held,
         before,
         after,
     };

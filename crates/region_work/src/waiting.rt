@@ -1,24 +1,24 @@
 ghost use Rattle.std.specs.Prelude.{◌≡◌, ◌⊎◌, ◌∷◌, ◌++◌, [], IfOk, IsSome, IfNone, MatchOption};
 ghost use Rattle.share_graph.specs.declared.facts.Fact.{Fact};
 ghost use Rattle.share_graph.specs.declared.facts.Node.{Node};
+ghost use Rattle.least_access.specs.Held.{IsIn};
 ghost use Rattle.least_access.specs.Solved.{held_at, HeldAt};
-ghost use Rattle.region_work.specs.Facts.{IsFact};
 ghost use Rattle.region_work.specs.Prepared.{IsFresh};
 ghost use Rattle.region_work.specs.Work.{Finds};
 
 use crate::claim::Claim;
 use crate::emptying::empty_at;
-use crate::facts::{has, with};
 use host_base::Memory;
+use least_access::Held;
 use least_access::table::{Table, holding, put};
-use share_graph::{Fact, Node};
+use share_graph::Node;
 use std::alloc::Global;
 use std::marker::Model;
 
 /// More nodes than any tables have.
 const MOST_NODES: usize = 1 << 40;
 
-/// The facts that were found, and those of them that wait to be passed on. There is room for all that can still be found.
+/// What was found, and what of it waits to be passed on. There is room for all that can still be found.
 #[derive(Drop)]
 pub struct Waiting {
     found: Table,
@@ -52,24 +52,24 @@ impl Waiting {
         Ok(Waiting { found, queue })
     }
 
-    /// Adds a fact to what was found, where it is new.
-    pub fn find(&mut self, node: Node, fact: Fact)
-        requires place { IsSome (held_at self.old.found node) }
-        requires fact { IsFact fact }
+    /// Adds what is held to what was found at a node. What is new waits.
+    pub fn find(&mut self, node: Node, held: &Held)
+        requires { IsSome (held_at self.old.found node) }
         ensures finds { Finds self.old self.new }
-        ensures there { HeldAt self.new.found node fact }
+        ensures there { (fact : Fact) → IsIn held.now fact → HeldAt self.new.found node fact }
         ensures only { (at : Node) (other : Fact) → HeldAt self.new.found at other
-            → HeldAt self.old.found at other ⊎ ((at ≡ node) × (other ≡ fact)) }
+            → HeldAt self.old.found at other ⊎ ((at ≡ node) × IsIn held.now other) }
     {
-        let held = holding(&self.found, node);
-        if has(&held, fact) {
+        let before = holding(&self.found, node);
+        let after = before.union(held);
+        if after == before {
             return;
         }
-        put(&mut self.found, node, with(&held, fact));
-        self.queue.push_reserved(Claim { node, fact });
+        put(&mut self.found, node, after);
+        self.queue.push_reserved(Claim { node, held: *held });
     }
 
-    /// Takes a fact that waits.
+    /// Takes what waits at a node.
     pub fn take(&mut self) -> Option<Claim>
         ensures found { self.new.found ≡ self.old.found }
         ensures queue { MatchOption result (self.old.queue ≡ []) (λ claim. self.old.queue

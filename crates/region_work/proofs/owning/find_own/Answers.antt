@@ -7,7 +7,7 @@ use Rattle.region_work.proofs.owning.find_own.Goals as goal
 
 pub returns-in-User-clause-sound : goal.returns-in-User-clause-sound
 returns-in-User-clause-sound g c before n other h =
-    elim (c.find_held.ensures.only n other h) [
+    elim (c.find.ensures.only n other h) [
       | inl known ↦ before n other known
       | inr fresh ↦
           let (grain, app, o, owner, is) = (c.own.ensures other).0 fresh.1 in

@@ -8,15 +8,15 @@ use Rattle.share_graph.specs.Nodes.{node_of}
 use Rattle.share_graph.specs.Rows.{IsGrant}
 use Rattle.region_work.specs.Owed.{owed}
 use Rattle.region_work.specs.Starting.{bound_of}
-use Rattle.region_work.proofs.Started.{started_one}
+use Rattle.region_work.proofs.Started.{owed_start, started_one}
 use Rattle.region_work.proofs.starting.start_grants.Goals as goal
 
 -- what a read past the end would give
 abbrev blank : GrantId
 blank = record { 0 = 0 }
 
-pub start_grant-requires-clause-row : goal.start_grant-requires-clause-row
-start_grant-requires-clause-row g c =
+pub try_grant-requires-clause-row : goal.try_grant-requires-clause-row
+try_grant-requires-clause-row g c =
     let num : GrantId = get_or c.args.grants.now c.loop-num.num-index blank in
     let (grant, is, place) = c.requires.rows num (Contains-get_or c.args.grants.now c.loop-num.num-index blank c.loop-num-test.true) in (
       grant,
@@ -28,17 +28,20 @@ pub loop-num-preserved : goal.loop-num-preserved
 loop-num-preserved g c =
     let t = g.V.Probe.tables c.args.probe.now in
     let same = c.loop-num.invariant.0 in (
-      c.start_grant.ensures.same ∙ same,
+      c.try_grant.ensures.same ∙ same,
       (let before = c.loop-num.invariant.1 in
-          let one = rw same at c.start_grant.ensures.counted in
+          let one = c.try_grant.ensures.counted in
+          let num : GrantId = get_or c.args.grants.now c.loop-num.num-index blank in
+          let (grant, is, place) = c.requires.rows num (Contains-get_or c.args.grants.now c.loop-num.num-index blank c.loop-num-test.true) in
+          let start = owed_start t c.args.table.now.entries num grant is in
           let owes = sum_by_more (owed t c.args.table.now.entries) c.args.grants.now c.loop-num.num-index blank c.loop-num-test.true in
           let bounds = sum_by_more (bound_of t) c.args.grants.now c.loop-num.num-index blank c.loop-num-test.true in
           omega arith),
-      started_one t c.args.table.now.entries c.args.grants.now c.args.waiting.now c.loop-num.waiting c.start_grant.new.waiting c.loop-num.num-index blank
-          c.loop-num-test.true c.loop-num.invariant.2 c.start_grant.ensures.finds (rw same at c.start_grant.ensures.sound) (rw same at c.start_grant.ensures.tested),
+      started_one t c.args.table.now.entries c.args.grants.now c.args.waiting.now c.loop-num.waiting c.try_grant.new.waiting c.loop-num.num-index blank
+          c.loop-num-test.true c.loop-num.invariant.2 c.try_grant.ensures.finds (rw same at c.try_grant.ensures.sound) (rw same at c.try_grant.ensures.tried),
     )
 
-pub returns-clause-tested : goal.returns-clause-tested
-returns-clause-tested g c num grant fact has is f =
+pub returns-clause-tried : goal.returns-clause-tried
+returns-clause-tried g c num grant fact has is f =
     let whole = take_all c.loop-num.num-index c.args.grants.now c.loop-num-test.false in
     c.loop-num.invariant.2.tested num (subst (λ (gs : List GrantId). Contains gs num) (sym whole) has) grant fact is f
