@@ -1,5 +1,5 @@
 -- What may be chosen is one list, where the law of the sites has one answer.
-use Rattle.std.proofs.Common.{◌≡◌, ◌∙◌, ℕ, Bool, List, Contains, sym, subst, arith, inl, inr}
+use Rattle.std.proofs.Common.{◌≡◌, ◌∙◌, ℕ, Bool, List, Contains, sym, subst, arith}
 use Rattle.std.proofs.lemmas.List.Elements.{All-contains}
 use Rattle.desk_base.specs.Terms.{Caller, GrainId, IsOne, IsWellFormed, State}
 use Rattle.powerbox_match.specs.Descriptor.{DescriptorData}

@@ -1,7 +1,7 @@
 -- What the sites tell of an order, and what is listed of them.
 use Rattle.std.specs.Prelude.{◌≡◌, ◌⊎◌, ◌++◌, ◌∷◌, [], ℕ, Bool, List, Option, Some, None, Contains, IsTrue, option_map, map, filter}
 use Rattle.std.specs.List.{filter_map}
-use Rattle.desk_orders.specs.Terms.{Acceptable, Account, AreOptions, Caller, Choice, Command, DescriptorData, GrainId, HasNoOffer, HasOffer, IsCaller, IsOne, IsSites, Law, Listed, match_of, Offer, Preferred, Quality, same_quality, secret_of, SiteOffer, State}
+use Rattle.desk_orders.specs.Terms.{Acceptable, Account, AreOptions, Caller, Choice, Command, DescriptorData, GrainId, HasNoOffer, HasOffer, IsCaller, IsCallerOn, IsNoCallerOn, IsOne, IsSites, Law, Listed, match_of, Offer, Preferred, Quality, Refusal, same_quality, secret_of, SiteOffer, State}
 use Rattle.share_graph.specs.declared.desk.Offer.TheVariants as offer
 use Rattle.desk_orders.specs.declared.order.Command.TheVariants as command
 
@@ -24,9 +24,12 @@ IsFoundOf law s who query (offer.Site tag item) found =
     (admin : Bool) × IsAdminBy s who admin × IsFound law query admin tag item found
 IsFoundOf law s who query (offer.Grain n) found = Unit {0}
 
--- WHAT THE SITES HAVE of the item that a command chooses. Of another command it may be anything, which nobody reads.
+-- WHAT THE SITES HAVE of the item that a command chooses, where its caller has access to the grain that it chooses for; for
+-- anybody else they aren't asked. Of another command it may be anything, which nobody reads.
 abbrev pub IsFoundBy : Law → State → Caller → Command → Option Bool → Type 0
-IsFoundBy law s who (command.Choose n offer query assignment) found = IsFoundOf law s who query offer found
+IsFoundBy law s who (command.Choose n offer query assignment) found =
+    ((account : Account) × IsCallerOn s (secret_of who) n account × IsFoundOf law s who query offer found)
+    ⊎ (((r : Refusal) × IsNoCallerOn s (secret_of who) n r) × (found ≡ None))
 IsFoundBy law s who _ found = Unit {0}
 
 -- the offers of all sites that answer a query, each with the tag of its site: the law allows them, and those for admins alone are among them

@@ -1,7 +1,7 @@
 -- The words that the definitions here speak in, each defined in the crate that its line names.
 pub use Rattle.account_desk.specs.Commands.{AddAccount, AddApp, NewGrain, SetAdmin, SetEnabled, Trash}
 pub use Rattle.desk_base.specs.Accepting.{Accepts, IsRefusal, Ready, WantsSecret}
-pub use Rattle.desk_base.specs.Calling.{ByBearer, ByEither, ByLogin, ByRun, IsCaller}
+pub use Rattle.desk_base.specs.Calling.{ByBearer, ByEither, ByLogin, ByRun, IsCaller, IsCallerOn, IsNoCallerOn}
 pub use Rattle.desk_base.specs.Fitting.{StartsNoRun}
 pub use Rattle.desk_base.specs.Made.{nothing_made}
 pub use Rattle.desk_base.specs.Outcomes.{draft_step, with_digest}

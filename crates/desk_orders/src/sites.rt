@@ -10,7 +10,7 @@ ghost use Rattle.desk_orders.specs.Sites.{IsAdminBy, IsFound, IsFoundOf, IsFound
 
 use crate::order::{Command, Order};
 use crate::reply::Listing;
-use desk_base::secret_of;
+use desk_base::{caller_on, secret_of};
 use host_base::{GrainId, Memory};
 use least_access::Solved;
 use plain_data::List;
@@ -80,20 +80,28 @@ fn found_of_offer<C: SiteDriver + Drop>(
 }
 
 /// What the sites have of the item that an order chooses: whether it is offered for admins alone, or nothing where it isn't offered, or none
-/// is chosen.
+/// is chosen. Where the caller has no access to the grain that it is chosen for, no site is asked.
 pub fn found_of<C: SiteDriver + Drop>(
     alloc: Global,
     state: &State,
+    solved: &Solved,
     sites: &Registry<C>,
     order: &Order,
 ) -> Result<Option<bool>, Memory>
-    requires { IsWellFormed state.now }
+    requires formed { IsWellFormed state.now }
+    requires solution { IsSolutionOf state.now.tables solved.now }
     ensures { IfOk result (IsFoundBy C.Law.law state.now order.now.caller order.now.command) }
 {
     match &order.command {
-        Command::Choose { offer, query, .. } => {
-            found_of_offer(alloc, state, sites, &order.caller, query, offer)
-        }
+        Command::Choose {
+            grain,
+            offer,
+            query,
+            ..
+        } => match caller_on(state, solved, &order.caller, *grain) {
+            Ok(_) => found_of_offer(alloc, state, sites, &order.caller, query, offer),
+            Err(_) => Ok(None),
+        },
         _ => Ok(None),
     }
 }
