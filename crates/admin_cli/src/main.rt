@@ -4,6 +4,7 @@
 
 ghost use Rattle.std.specs.Prelude.{◌⊎◌, map};
 ghost use Rattle.site_caps.specs.Registered.{IsRegistered};
+ghost use Rattle.admin_run.specs.Terms.{OutliveStops};
 ghost use Rattle.admin_run.specs.Connection.{HasBook};
 ghost use Rattle.admin_run.specs.Program.{BeginWithBook, ServeAtDoor};
 ghost use Rattle.serve_door.specs.Doors.{IsInOrder};
@@ -69,10 +70,12 @@ where
     <W::Door as Door>::Output: Send,
     LinkOf<W>: Send,
     C::Law: Send,
-    requires book { BeginWithBook words.now → HasBook world.holds.keeping }
+    requires book { BeginWithBook words.now → HasBook world.tells.holds.keeping }
+    requires outlive { BeginWithBook words.now
+        → OutliveStops world.tells.holds.keeping (W.Keeper.may_leave world.keeper) }
     requires registered { BeginWithBook words.now ⊎ ServeAtDoor words.now
         → IsRegistered C.Law.law.tags (map C.tag_of sites.items) }
-    requires order { ServeAtDoor words.now → IsInOrder world.doorway }
+    requires order { ServeAtDoor words.now → IsInOrder world.tells.doorway }
 {
     run(wait, alloc, words, world, sites).status
 }
@@ -90,6 +93,7 @@ where
     E::Input: Send,
     E::Output: Send,
     requires book { BeginWithBook words.now → HasBook (K.keeping keeper) }
+    requires outlive { BeginWithBook words.now → OutliveStops (K.keeping keeper) (K.may_leave keeper) }
     requires registered { IsRegistered C.Law.law.tags (map C.tag_of sites.items) }
     requires elsewhere { ServeAtDoor words.now → ⊥ }
 {

@@ -3,6 +3,7 @@ use Rattle.std.proofs.Common.{◌≡◌, ◌∙◌, ◌≤◌, inl, inr, ℕ, Li
 use Rattle.host_base.specs.Drawing.{Drawer}
 use Rattle.host_base.specs.Outside.{Outlet}
 use Rattle.cloud_keeper.specs.Keeping.{Keeping}
+use Rattle.cloud_keeper.specs.declared.row.Row.{Row}
 use Rattle.share_graph.specs.declared.event.Event.{Event}
 use Rattle.share_graph.specs.declared.state.State.{State}
 use Rattle.share_graph.specs.declared.state.Tables.{Tables}
@@ -11,6 +12,7 @@ use Rattle.site_caps.specs.Law.{Law}
 use Rattle.row_tables.specs.Kept.{IsStored}
 use Rattle.hub_core.specs.Book.{Backing}
 use Rattle.hub_core.specs.Opening.{opened}
+use Rattle.hub_core.specs.Stopping.{OutliveStops}
 use Rattle.serve_door.specs.Doors.{Doorway}
 use Rattle.serve_door.specs.declared.serving.Stop.{Stop}
 use Rattle.serve_door.specs.declared.serving.Stop.TheVariants as stop
@@ -68,10 +70,10 @@ module _ (law : Law) (count status : ℕ) (old : Outside) (out : Outlet) (keepin
   held = record old.holds { keeping = keeping; drawer = drawer }
 
   -- the login was printed, and connections were served
-  pub serves_from : (new : Outside) (told : ℕ) → told ≡ 0 → Tells old.outlet out (login_line login) 0 told → old.outlet.faults ≤ out.faults → out.faults ≤ new.outlet.faults
-      → ServesHistory law (opened tables) count held new.holds old.doorway new.doorway out new.outlet status
-      → new ≡ record old { outlet = new.outlet; holds = new.holds; doorway = new.doorway } → ServesFrom law count old new status
-  serves_from new told zero tells le le' served others =
+  pub serves_from : (may_leave : List Row → Type 0) (new : Outside) (told : ℕ) → told ≡ 0 → Tells old.outlet out (login_line login) 0 told → old.outlet.faults ≤ out.faults → out.faults ≤ new.outlet.faults
+      → ServesHistory law (opened tables) count may_leave held new.holds old.doorway new.doorway out new.outlet status
+      → new ≡ record old { outlet = new.outlet; holds = new.holds; doorway = new.doorway } → ServesFrom law count may_leave old new status
+  serves_from may_leave new told zero tells le le' served others =
       let first = subst (λ (n : ℕ). Tells old.outlet out (login_line login) 0 n) zero tells in
       let (added, stay) = logins_stay (opened tables) served.history in
       record {
@@ -80,6 +82,7 @@ module _ (law : Law) (count status : ℕ) (old : Outside) (out : Outlet) (keepin
         begins = begins_on old.holds.keeping keeping new.holds.keeping tables login served.kept.counts.clean begins.with;
         history = served.history;
         stored = served.stored;
+        outlive = served.outlive;
         added = added;
         logins_stay = stay;
         drew = (drawer.coming, begins.drew, (served.kept.drawn, served.kept.draws));
@@ -95,8 +98,8 @@ module _ (law : Law) (count status : ℕ) (old : Outside) (out : Outlet) (keepin
       }
 
   -- the login couldn't be printed
-  pub stops_at_login : Tells old.outlet out (login_line login) 0 status → status ≡ 5 → ServesFrom law count old (record old { outlet = out; holds = held }) status
-  stops_at_login told five =
+  pub stops_at_login : (may_leave : List Row → Type 0) → OutliveStops keeping may_leave → Tells old.outlet out (login_line login) 0 status → status ≡ 5 → ServesFrom law count may_leave old (record old { outlet = out; holds = held }) status
+  stops_at_login may_leave outlive told five =
       let (added, stay) = logins_stay (opened tables) [] in
       let none = kept_none (opened tables) old.holds in
       record {
@@ -105,6 +108,7 @@ module _ (law : Law) (count status : ℕ) (old : Outside) (out : Outlet) (keepin
         begins = begins.with;
         history = [];
         stored = begins.stored;
+        outlive = outlive;
         added = added;
         logins_stay = stay;
         drew = (drawer.coming, begins.drew, ([], refl));
@@ -120,11 +124,12 @@ kept_same start holds holds' history same none =
     subst (λ (h : Backing). HasKept start holds h history) (sym same) (subst (λ (list : List Event). HasKept start holds holds list) (sym none) (kept_none start holds))
 
 -- no connection was served on such a history
-pub serves_none : (law : Law) (start : State) (count : ℕ) (holds holds' : Backing) (history : List Event) (door door' : Doorway) (out : Outlet) → HasKept start holds holds' history → history ≡ []
-    → IsStored holds'.keeping (replay start history).tables → given_and_back door' ≡ given_and_back door → ServesHistory law start count holds holds' door door' out out 7
-serves_none law start count holds holds' history door door' out kept none stored untaken = record {
+pub serves_none : (law : Law) (start : State) (count : ℕ) (may_leave : List Row → Type 0) (holds holds' : Backing) (history : List Event) (door door' : Doorway) (out : Outlet) → HasKept start holds holds' history → history ≡ []
+    → IsStored holds'.keeping (replay start history).tables → OutliveStops holds'.keeping may_leave → given_and_back door' ≡ given_and_back door → ServesHistory law start count may_leave holds holds' door door' out out 7
+serves_none law start count may_leave holds holds' history door door' out kept none stored outlive untaken = record {
   history = history;
   stored = stored;
+  outlive = outlive;
   kept = kept;
   ends = inl (record { none = none; untaken = untaken; told = told_nothing out 7 });
 }

@@ -31,22 +31,22 @@ not_nine (end.CutOff n) is = omega (arith, is)
 not_nine end.Memory is = omega (arith, is)
 not_nine end.Spent is = omega (arith, is)
 
-module _ (law : Law) (wire wire' : Wired) (old new : Backing) (e : End) (places : List ℕ) (served forwarded entries : ℕ) where
+module _ {K : Type 0} (law : Law) (wire wire' : Wired) (old new : Backing) (e : End) (places : List ℕ) (served forwarded entries : ℕ) where
   -- it ended with this desk
-  abbrev Ends : Sharing → ℕ → Type 0
+  abbrev Ends : Sharing K → ℕ → Type 0
   Ends desk from = Served (with_book wire (book_with law [] old)) (with_book wire' (book_of law desk)) e from places served forwarded
 
-  pub serves_book : (desk desk' : Sharing) (from : ℕ) → desk ≡ record { start = small_book; history = []; holds = old } → new ≡ desk'.holds
+  pub serves_book : (desk desk' : Sharing K) (from : ℕ) (keeper : K) → desk ≡ record { start = small_book; history = []; holds = old; keeper = keeper } → new ≡ desk'.holds
       → Served (with_book wire (book_of law desk)) (with_book wire' (book_of law desk')) e from places served forwarded
       → IsStored new.keeping (replay desk'.start desk'.history).tables → entries ≡ length desk'.history → ServesBook law wire wire' old new e served forwarded entries
-  serves_book desk desk' from fresh back s stored is =
-      let begun : Ends desk' from = subst (λ (x : Sharing). Served (with_book wire (book_of law x)) (with_book wire' (book_of law desk')) e from places served forwarded) fresh s in
+  serves_book desk desk' from keeper fresh back s stored is =
+      let begun : Ends desk' from = subst (λ (x : Sharing K). Served (with_book wire (book_of law x)) (with_book wire' (book_of law desk')) e from places served forwarded) fresh s in
       let first : Ends desk' 0 = subst (λ (n : ℕ). Ends desk' n) begun.from_is begun in
       let same_start = begun.ordered_of.later.start in
-      let started : Ends (record { start = small_book; history = desk'.history; holds = desk'.holds }) 0 =
-      subst (λ (x : State). Ends (record { start = x; history = desk'.history; holds = desk'.holds }) 0) same_start first in
-      let one : Ends (record { start = small_book; history = desk'.history; holds = new }) 0 =
-      subst (λ (x : Backing). Ends (record { start = small_book; history = desk'.history; holds = x }) 0) (sym back) started in
+      let started : Ends (record desk' { start = small_book }) 0 =
+      subst (λ (x : State). Ends (record desk' { start = x }) 0) same_start first in
+      let one : Ends (record desk' { start = small_book; holds = new }) 0 =
+      subst (λ (x : Backing). Ends (record desk' { start = small_book; holds = x }) 0) (sym back) started in
       record {
         places = places;
         history = desk'.history;

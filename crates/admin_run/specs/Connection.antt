@@ -1,11 +1,11 @@
 -- One connection that is served from the small book.
 use Rattle.std.specs.Prelude.{◌≡◌, ℕ, ◌++◌, List, [], length}
 use Rattle.std.specs.List.{flat_map}
-use Rattle.admin_run.specs.Terms.{acts_in, added_by, Backing, Book, book_of, End, Event, IsStored, Keeping, Law, replay, Served, small_book, Wired, with_book}
+use Rattle.admin_run.specs.Terms.{acts_in, added_by, Backing, Book, book_at, End, Event, IsStored, Keeping, Law, replay, Served, small_book, Wired, with_book}
 
 -- a desk that began with the small book, and what its objects tell
 abbrev pub book_with : Law → List Event → Backing → Book
-book_with law history holds = book_of law (record { start = small_book; history = history; holds = holds })
+book_with law history holds = book_at law (record { start = small_book; entries = history }) holds
 
 -- THE HEADLINE of a connection that was served from the small book, by the law of its sites, over a connection's objects and
 -- what its desk works with. The history that it ends with is what the orders of its turns added, and nothing else, and the

@@ -13,6 +13,11 @@ pub record Outside : Type 0 where
   pub moments : Option (List ℕ)
   pub doorway : Doorway
 
+-- What contracts see of what the program is run with: the keeper itself, and what all its objects tell.
+pub record WorldOf (K : Type 0) : Type 0 where
+  pub keeper : K
+  pub tells : Outside
+
 -- what the input, the output and the link tell
 abbrev pub wired : Outside → Wired
 wired outside = record { inlet = outside.inlet; outlet = outside.outlet; line = outside.line }

@@ -3,7 +3,7 @@ use Rattle.std.specs.Prelude.{ℕ, ◌⊎◌, List, String}
 use Rattle.std.specs.declared.alloc.Global.{Global}
 use Rattle.command_line.specs.declared.line.Line.{Line}
 use Rattle.command_line.specs.declared.line.Line.TheVariants as line
-use Rattle.admin_run.specs.Terms.{IsLine, Law}
+use Rattle.admin_run.specs.Terms.{IsLine, Law, Row}
 use Rattle.admin_run.specs.Judging.{ChecksRows}
 use Rattle.admin_run.specs.Making.{Makes}
 use Rattle.admin_run.specs.Outside.{Outside, DoesNothing, TellsUsage}
@@ -21,14 +21,15 @@ abbrev pub AtDoor : Line → Type 0
 AtDoor (line.Serve port count) = Unit {0}
 AtDoor _ = ⊥
 
--- What a line does, by the law of the sites. Words that are no line get the usage line.
-abbrev pub Does : Law → Line → Outside → Outside → ℕ → Type 0
-Does law line.Play old new status = Plays law old new status ⊎ DoesNothing old new status
-Does law (line.Gen count seed) old new status = Makes law count seed old new status
-Does law line.Check old new status = ChecksRows old new status
-Does law (line.Grain count) old new status = ServesGrain count old new status
-Does law (line.Serve port count) old new status = Serves law count old new status
-Does law line.Unknown old new status = TellsUsage old new status
+-- What a line does, by the law of the sites and what a stop may leave of the keeper at the end. Words that are no line get the
+-- usage line.
+abbrev pub Does : Law → Line → (List Row → Type 0) → Outside → Outside → ℕ → Type 0
+Does law line.Play may_leave old new status = Plays law old new status ⊎ DoesNothing old new status
+Does law (line.Gen count seed) may_leave old new status = Makes law count seed old new status
+Does law line.Check may_leave old new status = ChecksRows old new status
+Does law (line.Grain count) may_leave old new status = ServesGrain count old new status
+Does law (line.Serve port count) may_leave old new status = Serves law count may_leave old new status
+Does law line.Unknown may_leave old new status = TellsUsage old new status
 
 -- the words are a line of which this holds
 abbrev pub AreLine : (Line → Type 0) → List (String Global) → Type 0

@@ -1,6 +1,6 @@
 -- What `serve` does, by its two ends.
 use Rattle.std.specs.Prelude.{◌≡◌, ℕ, ◌⊎◌, ◌++◌, List, [], ◌∷◌, Option, None, Some, map, option_map, codes, decimal}
-use Rattle.admin_run.specs.Terms.{all_together, AreHired, Backing, Coming, Connection, CountsOn, Digest, DoneAtOnce, Doorway, DrawsAll, Event, expecting, HasKept, IsStored, Law, opened, Outlet, Post, replay, SpawnedSince, State, Stop, Stopped, Tables, with_handles, Works}
+use Rattle.admin_run.specs.Terms.{all_together, AreHired, Backing, Coming, Connection, CountsOn, Digest, DoneAtOnce, Doorway, DrawsAll, Event, expecting, HasKept, IsStored, Law, opened, Outlet, OutliveStops, Post, replay, Row, SpawnedSince, State, Stop, Stopped, Tables, with_handles, Works}
 use Rattle.serve_door.specs.declared.serving.Stop.TheVariants as stop
 use Rattle.admin_run.specs.Beginning.{BeginsWith, CannotBegin, DrewLogin}
 use Rattle.admin_run.specs.Outside.{Outside, Tells}
@@ -61,11 +61,12 @@ EndsServing law start count text history door door' out out' status =
     ⊎ ServesAtOnce law start count text history door door' out out' status
 
 -- Connections are served, or none is, on a history that the keeper, the secrets and the spawner were told of.
-pub record ServesHistory (law : Law) (start : State) (count : ℕ) (holds holds' : Backing)
-    (door door' : Doorway) (out out' : Outlet) (status : ℕ)
+pub record ServesHistory (law : Law) (start : State) (count : ℕ) (may_leave : List Row → Type 0)
+    (holds holds' : Backing) (door door' : Doorway) (out out' : Outlet) (status : ℕ)
     : Type 0 where
   pub history : List Event
   pub stored : IsStored holds'.keeping (replay start history).tables
+  pub outlive : OutliveStops holds'.keeping may_leave
   pub kept : HasKept start holds holds' history
   pub ends : EndsServing law start count [] history door door' out out' status
 
@@ -77,13 +78,15 @@ DrewAll login coming rest =
 
 -- THE HEADLINE of `serve`. A history begins with the tables of the rows that the keeper told, or of the first account, whose login's token is printed; connections
 -- are served on it; and the keeper has the tables at its end, in which the accounts still have their logins. The spawner was told the starts and stops of its
--- entries, and no count fell. Neither the input, the link nor the clock is asked.
-pub record ServesFrom (law : Law) (count : ℕ) (old new : Outside) (status : ℕ) : Type 0 where
+-- entries, and no count fell. Neither the input, the link nor the clock is asked. What a stop may leave at its end is the rows of these tables, or those after one event more.
+pub record ServesFrom (law : Law) (count : ℕ) (may_leave : List Row → Type 0) (old new : Outside) (status : ℕ)
+    : Type 0 where
   pub tables : Tables
   pub login : Option (List ℕ)
   pub begins : BeginsWith old.holds.keeping new.holds.keeping tables login
   pub history : List Event
   pub stored : IsStored new.holds.keeping (replay (opened tables) history).tables
+  pub outlive : OutliveStops new.holds.keeping may_leave
   pub added : List Digest
   pub logins_stay : logins (replay (opened tables) history).tables ≡ logins tables ++ added
   pub drew : DrewAll login old.holds.drawer.coming new.holds.drawer.coming
@@ -99,6 +102,7 @@ pub record StopsEarly (old new : Outside) (status : ℕ) : Type 0 where
   pub others : new
       ≡ record old { holds = record old.holds { keeping = new.holds.keeping; drawer = new.holds.drawer } }
 
--- what `serve` does
-abbrev pub Serves : Law → ℕ → Outside → Outside → ℕ → Type 0
-Serves law count old new status = StopsEarly old new status ⊎ ServesFrom law count old new status
+-- what `serve` does, with what a stop may leave of the keeper at its end
+abbrev pub Serves : Law → ℕ → (List Row → Type 0) → Outside → Outside → ℕ → Type 0
+Serves law count may_leave old new status =
+    StopsEarly old new status ⊎ ServesFrom law count may_leave old new status

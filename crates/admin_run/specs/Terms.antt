@@ -19,7 +19,8 @@ pub use Rattle.host_base.specs.Outside.{CountStands, Inlet, Outlet, Rose}
 pub use Rattle.host_base.specs.declared.digest.Digest.{Digest}
 pub use Rattle.hub_core.specs.Book.{Backing, Book, CountsOn}
 pub use Rattle.hub_core.specs.Opening.{AreLoaded, AreOfKeeper, HasBadRow, opened}
-pub use Rattle.hub_core.specs.Sharing.{book_of}
+pub use Rattle.hub_core.specs.Sharing.{book_at}
+pub use Rattle.hub_core.specs.Stopping.{OutliveStops}
 pub use Rattle.hub_jobs.specs.Jobs.{DoneAtOnce}
 pub use Rattle.request_maker.specs.Generated.{generated}
 pub use Rattle.row_tables.specs.Checks.{GivesTables, IsBadRow}

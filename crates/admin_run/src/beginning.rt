@@ -1,8 +1,9 @@
 //! What `serve` begins with.
-ghost use Rattle.std.specs.Prelude.{◌≡◌, ◌≤◌, ◌⊎◌, IsTrue, IfOk, IfErr};
+ghost use Rattle.std.specs.Prelude.{◌≡◌, ◌≤◌, ◌⊎◌, IsTrue, IfOk, IfErr, OnOk};
 ghost use Rattle.host_base.specs.Outside.{Rose};
 ghost use Rattle.cloud_keeper.specs.Keeping.{Keeping, RowsFollow};
 ghost use Rattle.first_account.specs.First.{HasNoRows};
+ghost use Rattle.hub_core.specs.Stopping.{OutliveStops};
 ghost use Rattle.row_tables.specs.declared.stored.BadRow.{BadRow};
 ghost use Rattle.row_tables.specs.Checks.{IsBadRow};
 ghost use Rattle.admin_run.specs.Beginning.{Begins, CannotBegin, HadNoRows, StatesTables};
@@ -38,6 +39,7 @@ fn begin_anew<K: Keeper, S: Secrets>(
         → (IsTrue (K.keeping keeper.old).clean → IsTrue before.clean)
         → IfOk result (λ begun. Begins before (K.keeping keeper.new) (S.drawer secrets.old)
         (S.drawer secrets.new) begun.tables begun.login) }
+    ensures outlive { OnOk result (OutliveStops (K.keeping keeper.new) (K.may_leave keeper.new)) }
     ensures fails { (before : Keeping) → RowsFollow before (K.keeping keeper.old) (λ rows. rows)
         → before.faults ≤ (K.keeping keeper.old).faults → IfErr result (λ status. CannotBegin before
         (K.keeping keeper.new) (S.drawer secrets.old) (S.drawer secrets.new) status) }
@@ -67,7 +69,7 @@ fn tables_in(alloc: Global, rows: &[Row]) -> Result<Tables, u8>
 }
 
 /// Loads the rows of a keeper: the tables that they state; or where there are none, those with the first account, which it
-/// makes, and its login. The error is the status: 9 where the keeper failed or the secrets, 10 where a row is bad, and 7
+/// makes, and its login. The rows then outlive a stop. The error is the status: 9 where the keeper failed or the secrets, 10 where a row is bad, and 7
 /// where memory ran out.
 #[tactic(auto, using(crate::proofs::First::of_keeper))]
 pub(crate) fn begin<K: Keeper, S: Secrets>(
@@ -77,6 +79,7 @@ pub(crate) fn begin<K: Keeper, S: Secrets>(
 ) -> Result<Beginning, u8>
     ensures begins { IfOk result (λ begun. Begins (K.keeping keeper.old) (K.keeping keeper.new)
         (S.drawer secrets.old) (S.drawer secrets.new) begun.tables begun.login) }
+    ensures outlive { OnOk result (OutliveStops (K.keeping keeper.new) (K.may_leave keeper.new)) }
     ensures fails { IfErr result (λ status. CannotBegin (K.keeping keeper.old) (K.keeping keeper.new)
         (S.drawer secrets.old) (S.drawer secrets.new) status) }
 {

@@ -1,6 +1,7 @@
 //! `play`: one connection over the program's input and output.
 ghost use Rattle.std.specs.Prelude.{◌⊎◌, map};
 ghost use Rattle.site_caps.specs.Registered.{IsRegistered};
+ghost use Rattle.hub_core.specs.Stopping.{OutliveStops};
 ghost use Rattle.admin_run.specs.Connection.{HasBook};
 ghost use Rattle.admin_run.specs.Outside.{DoesNothing, HasStatusCause};
 ghost use Rattle.admin_run.specs.Playing.{Plays};
@@ -19,11 +20,12 @@ pub(crate) fn play<W: Setting, C: SiteDriver + Drop>(
     world: World<W>,
     sites: Vec<C>,
 ) -> Ran<W>
-    requires book { HasBook world.holds.keeping }
+    requires book { HasBook world.tells.holds.keeping }
+    requires outlive { OutliveStops world.tells.holds.keeping (W.Keeper.may_leave world.keeper) }
     requires registered { IsRegistered C.Law.law.tags (map C.tag_of sites.items) }
-    ensures plays { Plays C.Law.law world result.world result.status
-        ⊎ DoesNothing world result.world result.status }
-    ensures cause { HasStatusCause world result.world result.status }
+    ensures plays { Plays C.Law.law world.tells result.world.tells result.status
+        ⊎ DoesNothing world.tells result.world.tells result.status }
+    ensures cause { HasStatusCause world.tells result.world.tells result.status }
 {
     let Ok(routes) = Routes::new(alloc) else {
         return Ran { status: 7, world };

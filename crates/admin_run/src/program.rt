@@ -3,6 +3,7 @@ ghost use Rattle.std.specs.Prelude.{◌⊎◌, map};
 ghost use Rattle.command_line.specs.Words.{IsLine};
 ghost use Rattle.command_line.specs.declared.line.Line.{Line as TheLine};
 ghost use Rattle.site_caps.specs.Registered.{IsRegistered};
+ghost use Rattle.hub_core.specs.Stopping.{OutliveStops};
 ghost use Rattle.admin_run.specs.Connection.{HasBook};
 ghost use Rattle.admin_run.specs.Outside.{DoesNothing, HasStatusCause, TellsUsage};
 ghost use Rattle.admin_run.specs.Judging.{ChecksRows};
@@ -28,8 +29,8 @@ use std::thread::Threads;
 
 // Judges the rows of the keeper.
 fn check<W: Setting>(alloc: Global, world: World<W>) -> Ran<W>
-    ensures checks { ChecksRows world result.world result.status }
-    ensures cause { HasStatusCause world result.world result.status }
+    ensures checks { ChecksRows world.tells result.world.tells result.status }
+    ensures cause { HasStatusCause world.tells result.world.tells result.status }
 {
     let mut world = world;
     let status = judge(alloc, &mut world.out, &mut world.held.keeper);
@@ -38,8 +39,8 @@ fn check<W: Setting>(alloc: Global, world: World<W>) -> Ran<W>
 
 // Is a grain: answers connections at the door.
 fn grain<W: Setting>(alloc: Global, world: World<W>, count: u32) -> Ran<W>
-    ensures serves { ServesGrain count world result.world result.status }
-    ensures cause { HasStatusCause world result.world result.status }
+    ensures serves { ServesGrain count world.tells result.world.tells result.status }
+    ensures cause { HasStatusCause world.tells result.world.tells result.status }
 {
     let mut world = world;
     let end = run_grain(alloc, &mut world.door, &mut world.out, count);
@@ -51,8 +52,8 @@ fn grain<W: Setting>(alloc: Global, world: World<W>, count: u32) -> Ran<W>
 
 // Prints the usage line.
 fn usage<W: Setting>(world: World<W>) -> Ran<W>
-    ensures tells { TellsUsage world result.world result.status }
-    ensures cause { HasStatusCause world result.world result.status }
+    ensures tells { TellsUsage world.tells result.world.tells result.status }
+    ensures cause { HasStatusCause world.tells result.world.tells result.status }
 {
     let mut world = world;
     let status = tell(&mut world.out, USAGE, 2);
@@ -76,12 +77,15 @@ where
     <W::Door as Door>::Output: Send,
     LinkOf<W>: Send,
     C::Law: Send,
-    requires book { FromBook line → HasBook world.holds.keeping }
+    requires book { FromBook line → HasBook world.tells.holds.keeping }
+    requires outlive { FromBook line
+        → OutliveStops world.tells.holds.keeping (W.Keeper.may_leave world.keeper) }
     requires registered { FromBook line ⊎ AtDoor line
         → IsRegistered C.Law.law.tags (map C.tag_of sites.items) }
-    requires order { AtDoor line → IsInOrder world.doorway }
-    ensures does { Does C.Law.law line world result.world result.status }
-    ensures cause { HasStatusCause world result.world result.status }
+    requires order { AtDoor line → IsInOrder world.tells.doorway }
+    ensures does { Does C.Law.law line (W.Keeper.may_leave result.world.keeper) world.tells result.world.tells
+        result.status }
+    ensures cause { HasStatusCause world.tells result.world.tells result.status }
 {
     match line {
         Line::Play => play(alloc, world, sites),
@@ -93,8 +97,8 @@ where
     }
 }
 
-/// All that the program does. `play` serves one connection from the small book, whose rows the keeper has to have, with a
-/// driver for each site; `gen COUNT SEED` serves so many requests of a seed in the same way, over memory, and prints their
+/// All that the program does. `play` serves one connection from the small book, whose rows the keeper has to have so that they
+/// outlive a stop, with a driver for each site; `gen COUNT SEED` serves so many requests of a seed in the same way, over memory, and prints their
 /// summary; `serve FILE PORT COUNT` serves so many connections at its door from the rows of the keeper, with a driver for each
 /// site; `check FILE` says what the rows of the keeper state; `grain SOCKET COUNT` prints `ready` and answers so many
 /// connections at its door with what they were asked; any other words get the usage line.
@@ -114,15 +118,18 @@ where
     <W::Door as Door>::Output: Send,
     LinkOf<W>: Send,
     C::Law: Send,
-    requires book { BeginWithBook words.now → HasBook world.holds.keeping }
+    requires book { BeginWithBook words.now → HasBook world.tells.holds.keeping }
+    requires outlive { BeginWithBook words.now
+        → OutliveStops world.tells.holds.keeping (W.Keeper.may_leave world.keeper) }
     requires registered { BeginWithBook words.now ⊎ ServeAtDoor words.now
         → IsRegistered C.Law.law.tags (map C.tag_of sites.items) }
-    requires order { ServeAtDoor words.now → IsInOrder world.doorway }
+    requires order { ServeAtDoor words.now → IsInOrder world.tells.doorway }
 
     // What its words' line does, or nothing for want of memory.
     ensures does { (line : TheLine) → IsLine words.now line →
-        Does C.Law.law line world result.world result.status ⊎ DoesNothing world result.world result.status }
-    ensures cause { HasStatusCause world result.world result.status }
+        Does C.Law.law line (W.Keeper.may_leave result.world.keeper) world.tells result.world.tells result.status
+        ⊎ DoesNothing world.tells result.world.tells result.status }
+    ensures cause { HasStatusCause world.tells result.world.tells result.status }
 {
     match line_of(alloc, words) {
         Ok(line) => perform(rt, alloc, line, world, sites),

@@ -5,6 +5,7 @@ ghost use Rattle.row_tables.specs.Kept.{IsStored};
 ghost use Rattle.share_graph.specs.WellFormed.{IsWellFormed};
 ghost use Rattle.site_caps.specs.Registered.{IsRegistered};
 ghost use Rattle.hub_core.specs.Opening.{opened};
+ghost use Rattle.hub_core.specs.Stopping.{OutliveStops};
 ghost use Rattle.admin_run.specs.Outside.{HasStatusCause, Tells};
 ghost use Rattle.admin_run.specs.Serving.{Serves, ServesHistory, TellsStop, served_line};
 ghost use Rattle.serve_door.specs.Doors.{IsInOrder};
@@ -41,9 +42,10 @@ fn open_tables<H: Holding, C: SiteDriver + Drop>(
 ) -> Result<Locked<H, C>, Held<H>>
     requires registered { IsRegistered C.Law.law.tags (map C.tag_of sites.items) }
     requires formed { IsWellFormed (opened tables) }
-    requires stored { IsStored held.keeping tables }
-    ensures ok { IfOk result
-        (λ locked. locked ≡ record { start = opened tables; history = []; holds = held }) }
+    requires stored { IsStored held.tell.keeping tables }
+    requires outlive { OutliveStops held.tell.keeping (H.Keeper.may_leave held.keeper) }
+    ensures ok { IfOk result (λ locked. locked
+        ≡ record { start = opened tables; history = []; holds = held.tell; keeper = held.keeper }) }
     ensures err { IfErr result (λ back. back ≡ held) }
 {
     let registry = match Registry::new(sites) {
@@ -115,8 +117,9 @@ where
     C::Law: Send,
     requires empty { locked.history ≡ [] }
     requires order { IsInOrder (W.Door.doorway door) }
-    ensures serves { ServesHistory C.Law.law locked.start count locked.holds result.held (W.Door.doorway door)
-        (W.Door.doorway result.door) (W.Output.outlet out.old) (W.Output.outlet out.new) result.status }
+    ensures serves { ServesHistory C.Law.law locked.start count (W.Keeper.may_leave result.held.keeper)
+        locked.holds result.held.tell (W.Door.doorway door) (W.Door.doorway result.door)
+        (W.Output.outlet out.old) (W.Output.outlet out.new) result.status }
     ensures counts { (W.Output.outlet out.old).faults ≤ (W.Output.outlet out.new).faults }
     ensures taken { result.status ≡ 4
         → Rose (W.Door.doorway door).faults (W.Door.doorway result.door).faults }
@@ -175,19 +178,21 @@ where
     LinkOf<W>: Send,
     C::Law: Send,
     requires registered { IsRegistered C.Law.law.tags (map C.tag_of sites.items) }
-    requires order { IsInOrder world.doorway }
+    requires order { IsInOrder world.tells.doorway }
     requires formed { IsWellFormed (opened tables) }
-    requires stored { IsStored world.holds.keeping tables }
-    ensures serves { ServesHistory C.Law.law (opened tables) count world.holds result.world.holds
-        world.doorway result.world.doorway world.outlet result.world.outlet result.status }
-    ensures others { result.world ≡ record world {
-      outlet = result.world.outlet;
-      holds = result.world.holds;
-      doorway = result.world.doorway;
+    requires stored { IsStored world.tells.holds.keeping tables }
+    requires outlive { OutliveStops world.tells.holds.keeping (W.Keeper.may_leave world.keeper) }
+    ensures serves { ServesHistory C.Law.law (opened tables) count (W.Keeper.may_leave result.world.keeper)
+        world.tells.holds result.world.tells.holds world.tells.doorway result.world.tells.doorway
+        world.tells.outlet result.world.tells.outlet result.status }
+    ensures others { result.world.tells ≡ record world.tells {
+      outlet = result.world.tells.outlet;
+      holds = result.world.tells.holds;
+      doorway = result.world.tells.doorway;
     } }
-    ensures counts { world.outlet.faults ≤ result.world.outlet.faults }
-    ensures taken { result.status ≡ 4 → Rose world.doorway.faults result.world.doorway.faults }
-    ensures written { result.status ≡ 5 → Rose world.outlet.faults result.world.outlet.faults }
+    ensures counts { world.tells.outlet.faults ≤ result.world.tells.outlet.faults }
+    ensures taken { result.status ≡ 4 → Rose world.tells.doorway.faults result.world.tells.doorway.faults }
+    ensures written { result.status ≡ 5 → Rose world.tells.outlet.faults result.world.tells.outlet.faults }
     ensures kept { result.status ≢ 9 }
 {
     let World {
@@ -231,9 +236,10 @@ where
     LinkOf<W>: Send,
     C::Law: Send,
     requires registered { IsRegistered C.Law.law.tags (map C.tag_of sites.items) }
-    requires order { IsInOrder world.doorway }
-    ensures serves { Serves C.Law.law count world result.world result.status }
-    ensures cause { HasStatusCause world result.world result.status }
+    requires order { IsInOrder world.tells.doorway }
+    ensures serves { Serves C.Law.law count (W.Keeper.may_leave result.world.keeper) world.tells result.world.tells
+        result.status }
+    ensures cause { HasStatusCause world.tells result.world.tells result.status }
 {
     let mut world = world;
     let Beginning { tables, login } = match begin(

@@ -26,7 +26,7 @@ pub trait Setting: Holding {
 /// The link to the grains.
 pub type LinkOf<W> = <<W as Setting>::Door as Door>::Link;
 
-/// What the program is run with beside its words and the drivers of its sites. It is what these objects tell.
+/// What the program is run with beside its words and the drivers of its sites. It is the keeper, and what these objects tell.
 #[derive(Drop)]
 pub struct World<W: Setting> {
     pub input: W::Input,
@@ -38,11 +38,11 @@ pub struct World<W: Setting> {
 }
 
 impl<W: Setting> Model for World<W> {
-    ghost use Rattle.admin_run.specs.Outside.{Outside};
+    ghost use Rattle.admin_run.specs.Outside.{WorldOf};
 
-    ghost Value = { Outside };
+    ghost Value = { WorldOf W.Keeper };
 
-    ghost view = { λ world. record { inlet = W.Input.inlet world.input; outlet = W.Output.outlet world.out; line = W.Door.Link.line world.link; holds = world.held; moments = W.Clock.moments world.clock; doorway = W.Door.doorway world.door } };
+    ghost view = { λ world. record { keeper = world.held.keeper; tells = record { inlet = W.Input.inlet world.input; outlet = W.Output.outlet world.out; line = W.Door.Link.line world.link; holds = world.held.tell; moments = W.Clock.moments world.clock; doorway = W.Door.doorway world.door } } };
 }
 
 /// The status of a run, with its world handed back.
@@ -101,7 +101,8 @@ pub fn world_of<
     clock: T,
     door: E,
 ) -> World<Of<I, O, K, S, P, T, E>>
-    ensures { result ≡ record {
+    ensures keeper { result.keeper ≡ keeper }
+    ensures tells { result.tells ≡ record {
       inlet = I.inlet input;
       outlet = O.outlet out;
       line = E.Link.line link;
@@ -131,11 +132,12 @@ pub(crate) fn joined<W: Setting>(
     clock: W::Clock,
     door: W::Door,
 ) -> World<W>
-    ensures { result ≡ record {
+    ensures keeper { result.keeper ≡ held.keeper }
+    ensures tells { result.tells ≡ record {
       inlet = wire.inlet;
       outlet = wire.outlet;
       line = wire.line;
-      holds = held;
+      holds = held.tell;
       moments = W.Clock.moments clock;
       doorway = W.Door.doorway door;
     } }

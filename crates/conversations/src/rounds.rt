@@ -132,6 +132,7 @@ fn given_to(
 }
 
 // Runs the program with what it is given.
+#[tactic(auto, using(hub_core::proofs::Stopping::memory_outlives))]
 fn run_given<R: Threads + Wait + Sync>(
     rt: &R,
     alloc: Global,

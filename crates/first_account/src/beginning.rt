@@ -1,6 +1,6 @@
 ghost use Rattle.std.specs.Prelude.{◌≡◌, ◌≤◌, ◌∷◌, [], IsTrue, IfOk, OnOk, OnErr, IsErrOf};
 ghost use Rattle.host_base.specs.Outside.{Rose};
-ghost use Rattle.cloud_keeper.specs.Keeping.{RowsFollow};
+ghost use Rattle.cloud_keeper.specs.Keeping.{LeavesItsRows, RowsFollow};
 ghost use Rattle.cloud_keeper.specs.declared.row.Row.{Row};
 ghost use Rattle.share_graph.specs.Checked.{IsChecked};
 ghost use Rattle.row_tables.specs.Kept.{AreRowsOf};
@@ -21,6 +21,7 @@ fn keep<K: Keeper>(alloc: Global, keeper: &mut K, row: &Row) -> Result<(), First
     ensures counts { (K.keeping keeper.old).faults ≤ (K.keeping keeper.new).faults }
     ensures clean { IsTrue (K.keeping keeper.new).clean → IsTrue (K.keeping keeper.old).clean }
     ensures kept { OnOk result (HasJust row.now (K.keeping keeper.new)) }
+    ensures settled { OnOk result (LeavesItsRows (K.keeping keeper.new) (K.may_leave keeper.new)) }
     ensures cause { IsErrOf result FirstFault.StoreFailed
         → Rose (K.keeping keeper.old).faults (K.keeping keeper.new).faults }
     ensures same { OnErr result (RowsFollow (K.keeping keeper.old) (K.keeping keeper.new) (λ rows. rows)) }
@@ -50,8 +51,9 @@ pub fn first_account<K: Keeper, S: Secrets>(
         (S.drawer secrets.new).coming first.0) }
     ensures tables { IfOk result (λ first. first.1 ≡ first_tables first.0) }
 
-    // The keeper has the row of that account and no other, and so the rows of tables that can be opened.
+    // The keeper has the row of that account and no other, and so the rows of tables that can be opened; a stop leaves them.
     ensures row { IfOk result (λ first. HasJust (first_row first.0) (K.keeping keeper.new)) }
+    ensures settled { OnOk result (LeavesItsRows (K.keeping keeper.new) (K.may_leave keeper.new)) }
     ensures opens { IfOk result (λ first. AreRowsOf (first_tables first.0) (first_row first.0 ∷ [])) }
     ensures checked { IfOk result (λ first. IsChecked (first_tables first.0)) }
 

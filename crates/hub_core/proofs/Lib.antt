@@ -3,3 +3,4 @@ pub mod Replies
 pub mod Placing
 pub mod Opened
 pub mod Revoking
+pub mod Stopping

@@ -22,7 +22,7 @@ none_taken book = record {
 }
 
 -- the verdict at the end of the history
-pub judged_here : (law : Law) (sharing : Sharing) (key : Key) (verdict : Verdict) → IsWellFormed (replay sharing.start sharing.history)
+pub judged_here : {K : Type 0} (law : Law) (sharing : Sharing K) (key : Key) (verdict : Verdict) → IsWellFormed (replay sharing.start sharing.history)
     → IsVerdict (replay sharing.start sharing.history) key verdict → Judged (length sharing.history) (book_of law sharing) key (length sharing.history) verdict
 judged_here law sharing key verdict formed is =
     record { before = sharing.history; rest = []; seen = sym (append-nil sharing.history); place_is = refl; low_is = omega arith; formed = formed; verdict_is = is }

@@ -91,12 +91,12 @@ counted_so old new drawer e made text (Ok done) can counted = tt
 counted_so old new drawer e made text (Err fault.Secrets) can counted = absurd can
 counted_so old new drawer e made text (Err why) can counted = counted
 
-module _ (law : Law) (found : Option Bool) (old : Sharing) (order : Asked) where
+module _ {K : Type 0} (law : Law) (found : Option Bool) (old : Sharing K) (order : Asked) where
   abbrev Lawful : Result Reply OrderFault → List (List ℕ) → List Event → Type 0
   Lawful = IsAnswer law (replay old.start old.history) (length old.history) found order
 
   -- from rows of the tables before, a keeper has come to those of the tables after
-  abbrev Stores : Backing → Sharing → Type 0
+  abbrev Stores : Backing → Sharing K → Type 0
   Stores holds new = IsStored holds.keeping (replay old.start old.history).tables
       → IsStored new.holds.keeping (replay new.start new.history).tables
 
@@ -107,7 +107,7 @@ module _ (law : Law) (found : Option Bool) (old : Sharing) (order : Asked) where
       × DrawsAll old.holds.drawer.coming holds.drawer.coming drawn
 
   -- the order's place is the end of the history
-  ordered : (new : Sharing) (answer : Result Reply OrderFault) (drawn : List (List ℕ)) (added : List Event) (app : AppId)
+  ordered : (new : Sharing K) (answer : Result Reply OrderFault) (drawn : List (List ℕ)) (added : List Event) (app : AppId)
       → new.start ≡ old.start → new.history ≡ old.history ++ added → Stores old.holds new
       → CountsOn old.holds new.holds → DrawsAll old.holds.drawer.coming new.holds.drawer.coming drawn
       → Spawned old.holds.spawns new.holds.spawns app (token_of order drawn) added → HaveToken (token_of order drawn) added
@@ -153,7 +153,7 @@ module _ (law : Law) (found : Option Bool) (old : Sharing) (order : Asked) where
 
   -- a change was carried out, or a fault kept it from being
   pub changed : (holds : Backing) (drawn : List (List ℕ)) → Drew holds drawn → lists order.command ≡ false
-      → (new : Sharing) (e : Event) (made : Made) (result : Result ⊤ OrderFault) → new.start ≡ old.start
+      → (new : Sharing K) (e : Event) (made : Made) (result : Result ⊤ OrderFault) → new.start ≡ old.start
       → new.history ≡ old.history ++ entry_of e result → (app : AppId) → IsOfApp (replay old.start old.history) app e
       → Told holds new.holds e app (token_of order drawn) result → HasToken (token_of order drawn) e → Stores holds new → AcceptsWith (replay old.start old.history) (length old.history) found order drawn e made
       → OrderedBy law found old new order (replied made (shown_text order.command drawn) result)

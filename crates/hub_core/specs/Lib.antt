@@ -4,4 +4,5 @@ pub mod Opening
 pub mod Revoking
 pub mod Sharing
 pub mod Spawning
+pub mod Stopping
 pub mod Terms

@@ -12,15 +12,22 @@ pub record Past : Type 0 where
 abbrev pub state_of : Past → State
 state_of past = replay past.start past.entries
 
--- a history, and what the objects beside it tell
-pub record Sharing : Type 0 where
+-- what contracts see of the objects that a desk works with: the keeper itself, and what all of them tell
+pub record Objects (K : Type 0) : Type 0 where
+  pub keeper : K
+  pub tell : Backing
+
+-- a history, what the objects beside it tell, and their keeper
+pub record Sharing (K : Type 0) : Type 0 where
   pub start : State
   pub history : List Event
   pub holds : Backing
+  pub keeper : K
 
--- that history, beside what such objects tell
-abbrev pub sharing_of : Past → Backing → Sharing
-sharing_of past holds = record { start = past.start; history = past.entries; holds = holds }
+-- that history, beside such objects
+abbrev pub sharing_of : {K : Type 0} → Past → Objects K → Sharing K
+sharing_of past objects =
+    record { start = past.start; history = past.entries; holds = objects.tell; keeper = objects.keeper }
 
 -- What a value that holds a history keeps: its state is the replay of the history and well formed, what each node holds is
 -- solved for it, the history isn't longer than it may be, and no more sessions were ever opened than a session's number can
@@ -33,11 +40,15 @@ pub record KeepsPast (start state : State) (entries : List Event) (kept : Kept) 
   pub sessions : length state.sessions < 2147483648 + length entries
 
 -- what a desk tells that has nothing but this
-abbrev pub book_of : Law → Sharing → Book
-book_of law sharing = record {
+abbrev pub book_at : Law → Past → Backing → Book
+book_at law past holds = record {
   law = law;
-  start = sharing.start;
-  seen = sharing.history;
-  accepted = length sharing.history;
-  holds = sharing.holds;
+  start = past.start;
+  seen = past.entries;
+  accepted = length past.entries;
+  holds = holds;
 }
+
+abbrev pub book_of : {K : Type 0} → Law → Sharing K → Book
+book_of law sharing =
+    book_at law (record { start = sharing.start; entries = sharing.history }) sharing.holds

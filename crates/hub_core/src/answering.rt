@@ -12,8 +12,9 @@ ghost use Rattle.host_base.specs.Drawing.{Draws};
 ghost use Rattle.site_caps.specs.Law.{Law};
 ghost use Rattle.hub_core.specs.Book.{Backing, Ordered};
 ghost use Rattle.hub_core.specs.Inner as inner;
-ghost use Rattle.hub_core.specs.Inner.{OrderedBy};
-ghost use Rattle.hub_core.specs.Sharing.{book_of, sharing_of, state_of};
+ghost use Rattle.hub_core.specs.Inner.{Outlasts, OutlastsOrder, OrderedBy};
+ghost use Rattle.hub_core.specs.Sharing.{book_at, book_of, sharing_of, state_of};
+ghost use Rattle.hub_core.specs.Stopping.{AreInHand};
 
 use crate::held::{Held, Holding};
 use crate::history::History;
@@ -41,11 +42,12 @@ fn text_of(alloc: Global, order: &Order, secret: [u8; 32]) -> Result<(Bytes, Dig
 
 // Draws a secret. A failure is counted, and what is to come is unchanged.
 fn draw<H: Holding>(held: &mut Held<H>) -> Result<[u8; 32], DrawFailed>
-    ensures drawn { IfOk result (Draws held.old.drawer.coming held.new.drawer.coming) }
-    ensures kept { OnErr result (held.new.drawer.coming ≡ held.old.drawer.coming) }
-    ensures counts { held.old.drawer.faults ≤ held.new.drawer.faults }
-    ensures cause { OnErr result (Rose held.old.drawer.faults held.new.drawer.faults) }
-    ensures others { held.new ≡ record held.old { drawer = held.new.drawer } }
+    ensures drawn { IfOk result (Draws held.old.tell.drawer.coming held.new.tell.drawer.coming) }
+    ensures kept { OnErr result (held.new.tell.drawer.coming ≡ held.old.tell.drawer.coming) }
+    ensures counts { held.old.tell.drawer.faults ≤ held.new.tell.drawer.faults }
+    ensures cause { OnErr result (Rose held.old.tell.drawer.faults held.new.tell.drawer.faults) }
+    ensures others { held.new.tell ≡ record held.old.tell { drawer = held.new.tell.drawer } }
+    ensures keeper { held.new.keeper ≡ held.old.keeper }
 {
     held.secrets.draw()
 }
@@ -78,8 +80,10 @@ fn answer_drawn<H: Holding>(
         (draft_step draft) }
     requires fits { (d : Digest) → IsUnused (state_of history.old) d
         → EventFits (state_of history.old) (with_digest draft.event d) }
-    ensures { (law : Law) → OrderedBy law found (sharing_of history.old held.old)
+    ensures ordered { (law : Law) → OrderedBy law found (sharing_of history.old held.old)
         (sharing_of history.new held.new) order.now result }
+    ensures leaves { (law : Law) → OutlastsOrder H.Keeper.may_leave law found history.old history.new held.old
+        held.new order.now }
 {
     let Ok(secret) = draw(held) else {
         return Err(OrderFault::Secrets);
@@ -106,8 +110,10 @@ fn answer_found<H: Holding>(
     order: &Order,
 ) -> Result<Reply, OrderFault>
     requires asks { commands.lists order.now.command ≡ false }
-    ensures { (law : Law) → OrderedBy law found (sharing_of history.old held.old)
+    ensures ordered { (law : Law) → OrderedBy law found (sharing_of history.old held.old)
         (sharing_of history.new held.new) order.now result }
+    ensures leaves { (law : Law) → OutlastsOrder H.Keeper.may_leave law found history.old history.new held.old
+        held.new order.now }
 {
     let count = history.count();
     match decide(
@@ -138,8 +144,8 @@ fn list<C: SiteDriver + Drop>(
     order: &Order,
 ) -> Result<Reply, OrderFault>
     requires { commands.lists order.now.command ≡ true }
-    ensures { (holds : Backing) → Ordered (book_of C.Law.law (sharing_of history.now holds))
-        (book_of C.Law.law (sharing_of history.now holds)) order.now (length history.now.entries) result }
+    ensures { (holds : Backing) → Ordered (book_at C.Law.law history.now holds)
+        (book_at C.Law.law history.now holds) order.now (length history.now.entries) result }
 {
     match list_options(alloc, history.state(), history.solved(), sites, order) {
         Ok(list) => Ok(Reply::Options(list)),
@@ -156,13 +162,15 @@ pub fn answer<H: Holding, C: SiteDriver + Drop>(
     sites: &Registry<C>,
     order: &Order,
 ) -> Result<Reply, OrderFault>
-    ensures { Ordered (book_of C.Law.law (sharing_of history.old held.old))
+    ensures ordered { Ordered (book_of C.Law.law (sharing_of history.old held.old))
         (book_of C.Law.law (sharing_of history.new held.new)) order.now (length history.old.entries) result }
+    ensures leaves { Outlasts H.Keeper.may_leave history.old history.new held.old held.new
+        (AreInHand C.Law.law (state_of history.old) (length history.old.entries) order.now) }
 {
     if lists(order) {
         return list(alloc, history, sites, order);
     }
-    let Ok(found) = found_of(alloc, history.state(), sites, order) else {
+    let Ok(found) = found_of(alloc, history.state(), history.solved(), sites, order) else {
         return Err(OrderFault::Memory);
     };
     answer_found(alloc, history, held, found, order)

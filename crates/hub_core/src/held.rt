@@ -15,7 +15,7 @@ pub trait Holding {
     type Spawner: Spawner + Drop;
 }
 
-/// The objects that a desk works with. It is what they tell.
+/// The objects that a desk works with. It is the keeper, and what they tell.
 #[derive(Drop)]
 pub struct Held<H: Holding> {
     pub keeper: H::Keeper,
@@ -24,9 +24,9 @@ pub struct Held<H: Holding> {
 }
 
 impl<H: Holding> Model for Held<H> {
-    ghost use Rattle.hub_core.specs.Book.{Backing};
+    ghost use Rattle.hub_core.specs.Sharing.{Objects};
 
-    ghost Value = { Backing };
+    ghost Value = { Objects H.Keeper };
 
-    ghost view = { λ held. record { keeping = H.Keeper.keeping held.keeper; drawer = H.Secrets.drawer held.secrets; spawns = H.Spawner.spawns held.spawner } };
+    ghost view = { λ held. record { keeper = held.keeper; tell = record { keeping = H.Keeper.keeping held.keeper; drawer = H.Secrets.drawer held.secrets; spawns = H.Spawner.spawns held.spawner } } };
 }

@@ -4,9 +4,11 @@ ghost use Rattle.std.specs.Prelude.{◌≡◌, ◌+◌, ◌<◌, ◌≤◌, ◌+
 ghost use Rattle.desk_base.specs.Terms.{after, EventFits, IsSolutionOf, IsWellFormed};
 ghost use Rattle.live_access.specs.Kept.{IsSolvedFor};
 ghost use Rattle.live_access.specs.Ready.{IsReadyFor};
-ghost use Rattle.row_tables.specs.Kept.{IsStored};
+ghost use Rattle.row_tables.specs.Kept.{AreRowsOf, IsStored};
+ghost use Rattle.row_tables.specs.RowAfter as rows;
+ghost use Rattle.share_graph.specs.History.{tables_after};
 ghost use Rattle.state_step.specs.Staging.{event_of, HasRoomFor};
-ghost use Rattle.hub_core.specs.Inner.{HasItsRow, KeepsRows, Told, entry_of};
+ghost use Rattle.hub_core.specs.Inner.{HasItsRow, KeepsRows, Outlasts, Told, entry_of};
 ghost use Rattle.hub_core.specs.Sharing.{state_of};
 
 use crate::held::{Held, Holding};
@@ -98,6 +100,7 @@ fn make_ready(
     requires solved { IsSolvedFor state.now.tables solution.old }
     ensures staged { IfOk result (λ ready. event_of ready.staged ≡ event.now) }
     ensures staged_room { IfOk result (λ ready. HasRoomFor state.now ready.staged) }
+    ensures row { IfOk result (λ ready. ready.row ≡ rows.row_after state.now.tables event.now) }
     ensures has { IfOk result (λ ready. HasItsRow event.now ready.row) }
     ensures kept { IfOk result (λ ready. KeepsRows state.now.tables event.now ready.row) }
     ensures region { IfOk result (λ ready. IsReadyFor state.now event.now solution.new ready.region) }
@@ -200,9 +203,11 @@ impl History {
         requires room { length self.old.entries < 1000000 }
         ensures start { self.new.start ≡ self.old.start }
         ensures entries { self.new.entries ≡ self.old.entries ++ entry_of event result }
-        ensures told { Told held.old held.new event app token.now result }
-        ensures stored { IsStored held.old.keeping (state_of self.old).tables
-            → IsStored held.new.keeping (state_of self.new).tables }
+        ensures told { Told held.old.tell held.new.tell event app token.now result }
+        ensures stored { IsStored held.old.tell.keeping (state_of self.old).tables
+            → IsStored held.new.tell.keeping (state_of self.new).tables }
+        ensures leaves { Outlasts H.Keeper.may_leave self.old self.new held.old held.new
+            (AreRowsOf (tables_after (state_of self.old).tables event)) }
     {
         make_room(&mut self.entries)?;
         let Ready {

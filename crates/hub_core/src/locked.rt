@@ -7,6 +7,7 @@ ghost use Rattle.hub_core.specs.Book.{Ordered};
 ghost use Rattle.site_caps.specs.Answering.{GivesText};
 ghost use Rattle.hub_core.specs.Revoking.{TakesAway, Spares};
 ghost use Rattle.hub_core.specs.Sharing.{book_of};
+ghost use Rattle.hub_core.specs.Stopping.{LeavesBehind, OutliveStops};
 ghost use Rattle.row_tables.specs.Kept.{IsStored};
 
 use crate::answering::answer;
@@ -45,20 +46,21 @@ impl<H: Holding, C: SiteDriver> Model for Locked<H, C> {
     ghost use Rattle.share_graph.specs.contracts.event.Event as event_type;
     ghost use Rattle.share_graph.specs.contracts.state.State as state_type;
     ghost use Rattle.hub_core.specs.Sharing.{Sharing, state_of};
+    ghost use Rattle.hub_core.specs.Stopping.{OutliveStops};
     ghost use Rattle.row_tables.specs.Kept.{IsStored};
 
-    ghost Value = { Sharing };
+    ghost Value = { Sharing H.Keeper };
 
     ghost coded = { Prim.hlevel (codes, state_type.the_row.coded, event_type.the_row.coded) };
 
-    ghost view = { λ locked. record { start = locked.history.start; history = locked.history.entries; holds = locked.held } };
+    ghost view = { λ locked. record { start = locked.history.start; history = locked.history.entries; holds = locked.held.tell; keeper = locked.held.keeper } };
 
-    ghost invariant = { λ locked. IsStored locked.held.keeping (state_of locked.history).tables };
+    ghost invariant = { λ locked. IsStored locked.held.tell.keeping (state_of locked.history).tables × OutliveStops locked.held.tell.keeping (H.Keeper.may_leave locked.held.keeper) };
 }
 
 impl<H: Holding, C: SiteDriver + Drop> Locked<H, C> {
-    /// Opens a history that begins with a well-formed state of fewer than 2^31 sessions, whose tables the keeper has. Where
-    /// memory runs out the objects are handed back.
+    /// Opens a history that begins with a well-formed state of fewer than 2^31 sessions, whose tables the keeper has, in rows
+    /// that outlive a stop. Where memory runs out the objects are handed back.
     pub fn from_state(
         alloc: Global,
         state: State,
@@ -67,8 +69,10 @@ impl<H: Holding, C: SiteDriver + Drop> Locked<H, C> {
     ) -> Result<Self, Held<H>>
         requires formed { IsWellFormed state }
         requires few { length state.sessions < 2147483648 }
-        requires stored { IsStored held.keeping state.tables }
-        ensures ok { IfOk result (λ locked. locked ≡ record { start = state; history = []; holds = held }) }
+        requires stored { IsStored held.tell.keeping state.tables }
+        requires outlive { OutliveStops held.tell.keeping (H.Keeper.may_leave held.keeper) }
+        ensures ok { IfOk result (λ locked. locked
+            ≡ record { start = state; history = []; holds = held.tell; keeper = held.keeper }) }
         ensures err { IfErr result (λ back. back ≡ held) }
     {
         match History::new(alloc, state) {
@@ -81,10 +85,11 @@ impl<H: Holding, C: SiteDriver + Drop> Locked<H, C> {
         }
     }
 
-    /// The objects that were handed in. The keeper has the tables. It takes no memory.
+    /// The objects that were handed in. The keeper has the tables, in rows that outlive a stop. It takes no memory.
     pub fn into_held(self) -> Held<H>
-        ensures held { result ≡ self.holds }
-        ensures stored { IsStored result.keeping (replay self.start self.history).tables }
+        ensures held { result ≡ record { keeper = self.keeper; tell = self.holds } }
+        ensures stored { IsStored result.tell.keeping (replay self.start self.history).tables }
+        ensures outlive { OutliveStops result.tell.keeping (H.Keeper.may_leave result.keeper) }
     {
         let Locked {
             history: _,
@@ -142,12 +147,16 @@ impl<H: Holding, C: SiteDriver + Drop> Locked<H, C> {
     /// Answers an order at the end of the history. Where it changes something, its event is the next entry, and the keeper has
     /// the row that it adds or changes; a refusal, a fault and want of memory leave the history and the rows as they were. Where
     /// the entry revokes a grant, a fact is held from there on exactly where it had a derivation that doesn't use the grant.
+    ///
+    /// A stop leaves a list of rows that it could leave before, or the rows after the event in hand, and where an event with a
+    /// row was added the rows alone.
     #[tactic(auto, using(crate::proofs::Revoking::takes_away))]
     pub fn order(&mut self, alloc: Global, order: Order) -> Result<Reply, OrderFault>
         ensures ordered { Ordered (book_of C.Law.law self.old) (book_of C.Law.law self.new) order
             (length self.old.history) result }
         ensures revoked { TakesAway self.old.start self.old.history self.new.history }
         ensures stored { IsStored self.new.holds.keeping (replay self.new.start self.new.history).tables }
+        ensures stops { LeavesBehind C.Law.law H.Keeper.may_leave self.old self.new order }
     {
         answer(
             alloc,

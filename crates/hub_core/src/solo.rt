@@ -30,7 +30,7 @@ impl<H: Holding, C: SiteDriver> Model for SoloDesk<H, C> {
     ghost use Rattle.share_graph.specs.contracts.state.State as state_type;
     ghost use Rattle.hub_core.specs.Sharing.{Sharing};
 
-    ghost Value = { Sharing };
+    ghost Value = { Sharing H.Keeper };
 
     ghost coded = { Prim.hlevel (codes, state_type.the_row.coded, event_type.the_row.coded) };
 

@@ -1,11 +1,11 @@
 //! What is told outwards of an event.
 
-ghost use Rattle.std.specs.Prelude.{◌≡◌, ℕ, List, Some, option_map};
-ghost use Rattle.cloud_keeper.specs.Keeping.{RowsFollow};
+ghost use Rattle.std.specs.Prelude.{◌≡◌, ℕ, List, Some, OnOk, option_map};
+ghost use Rattle.cloud_keeper.specs.Keeping.{LeavesAsBefore, LeavesItsRows, RowsFollow, TheRowsAfter, put};
 ghost use Rattle.desk_base.specs.Terms.{EventFits, HasGrain, row};
 ghost use Rattle.hub_core.specs.Spawning.{IsOfApp};
 ghost use Rattle.share_graph.specs.declared.event.Event.TheVariants as event;
-ghost use Rattle.hub_core.specs.Inner.{HasItsRow, Told, ToldKeeper, ToldSpawner, kept_by};
+ghost use Rattle.hub_core.specs.Inner.{HasItsRow, LeavesBy, Told, ToldKeeper, ToldSpawner, kept_by};
 
 use crate::held::{Held, Holding};
 use cloud_keeper::{KeepFault, Keeper, Row};
@@ -97,6 +97,9 @@ fn tell_spawner<P: Spawner>(
 fn keep<K: Keeper>(alloc: Global, keeper: &mut K, row: &Row) -> Result<(), OrderFault>
     ensures told { ToldKeeper (K.keeping keeper.old) (K.keeping keeper.new) result }
     ensures rows { RowsFollow (K.keeping keeper.old) (K.keeping keeper.new) (kept_by (Some row.now) result) }
+    ensures stops { LeavesAsBefore (K.keeping keeper.new).clean (K.may_leave keeper.old) (K.may_leave keeper.new)
+        (TheRowsAfter (K.keeping keeper.old) (put row.now)) }
+    ensures settled { OnOk result (LeavesItsRows (K.keeping keeper.new) (K.may_leave keeper.new)) }
 {
     match keeper.commit(alloc, row) {
         Ok(()) => Ok(()),
@@ -116,8 +119,9 @@ pub fn tell<H: Holding>(
     token: &[u8],
 ) -> Result<(), OrderFault>
     requires { HasItsRow event.now row }
-    ensures told { Told held.old held.new event.now app token.now result }
-    ensures rows { RowsFollow held.old.keeping held.new.keeping (kept_by row result) }
+    ensures told { Told held.old.tell held.new.tell event.now app token.now result }
+    ensures rows { RowsFollow held.old.tell.keeping held.new.tell.keeping (kept_by row result) }
+    ensures leaves { LeavesBy H.Keeper.may_leave held.old held.new row result }
 {
     match row {
         Some(row) => keep(alloc, &mut held.keeper, &row),

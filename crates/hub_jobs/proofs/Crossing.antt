@@ -17,13 +17,13 @@ use Rattle.epoch_gate.specs.declared.seat.Placed as placed
 use Rattle.epoch_gate.proofs.hub.Hub.TheSendSync as hub
 use Rattle.epoch_gate.proofs.pass.Pass.TheSendSync as pass
 use Rattle.hub_core.specs.declared.held.Holding as holding
-use Rattle.hub_core.specs.declared.locked.Locked.{Locked}
+use Rattle.shared_hub.specs.declared.history.Outset.{Outset}
 use Rattle.shared_hub.specs.contracts.pass_desk.PassDesk as Desk
 use Rattle.shared_hub.proofs.Histories.{SharedHistory-send}
 use Rattle.hub_jobs.specs.contracts.worker.Worker as Worker
 
 module _ (l : NamedLft) (H C N L R J K S P W : RattleType) (b : placed.Ghosts N.Denot) (h : holding.Ghosts H.Denot K.Denot S.Denot P.Denot) (k : keeper.Ghosts K.Denot) (s : secrets.Ghosts S.Denot) (p : spawner.Ghosts P.Denot) (d : driver.Ghosts C.Denot W.Denot) (w : law.Ghosts W.Denot)
-    (n : named.Ghosts N.Denot (Locked H.Denot C.Denot K.Denot S.Denot P.Denot W.Denot)) (g : ledger.Ghosts L.Denot) where
+    (n : named.Ghosts N.Denot (Outset H.Denot C.Denot K.Denot S.Denot P.Denot W.Denot)) (g : ledger.Ghosts L.Denot) where
   desk_send : IsSync R → IsSend C → IsSend K → IsSend S → IsSend P → IsSend (Desk.the_row l H C N L R K S P W b h k s p d w n g)
   desk_send handle sites kept drawn spawned =
       view_send _ _ _ _ _ (declared_send (Desk.TheInside.the_type l H C N L R K S P W b h k s p d w n g) (

@@ -4,7 +4,7 @@ ghost use Rattle.std.specs.Prelude.{◌≡◌, ◌+◌, ◌≤◌, [], All, vec_
 ghost use Rattle.epoch_gate.specs.Books.{start_of};
 ghost use Rattle.hub_jobs.specs.Inner.{DoneBy};
 ghost use Rattle.hub_jobs.specs.Jobs.{DoneAtOnce};
-ghost use Rattle.shared_hub.specs.Since.{HasKept};
+ghost use Rattle.shared_hub.specs.Since.{HasKept, begun_of};
 ghost use Rattle.shared_hub.specs.Wanting.{blank};
 
 use crate::at_once::run_all;
@@ -14,7 +14,7 @@ use epoch_gate::{Hub, Maker, Named, PARTS, Pass, Unnamed};
 use host_base::Memory;
 use hub_core::{Holding, Locked};
 use share_graph::Event;
-use shared_hub::SharedHistory;
+use shared_hub::{Outset, SharedHistory};
 use site_caps::SiteDriver;
 use std::alloc::Global;
 use std::marker::Brand;
@@ -28,13 +28,13 @@ pub const MOST_JOBS: usize = 65536;
 
 // Room for so many workers, and for what they leave.
 #[derive(Drop)]
-struct Rooms<'a, H: Holding, C: SiteDriver + Drop, N: Named<Locked<H, C>>, L: Ledger, R, J: Drop> {
+struct Rooms<'a, H: Holding, C: SiteDriver + Drop, N: Named<Outset<H, C>>, L: Ledger, R, J: Drop> {
     workers: Vec<Worker<'a, H, C, N, L, R, J>>,
     passes: Vec<Pass<SharedHistory<H, C>, N, L>>,
     jobs: Vec<J>,
 }
 
-fn make_rooms<'a, H: Holding, C: SiteDriver + Drop, N: Named<Locked<H, C>>, L: Ledger, R, J: Drop>(
+fn make_rooms<'a, H: Holding, C: SiteDriver + Drop, N: Named<Outset<H, C>>, L: Ledger, R, J: Drop>(
     alloc: Global,
     count: usize,
 ) -> Result<Rooms<'a, H, C, N, L, R, J>, Memory>
@@ -52,7 +52,7 @@ fn make_rooms<'a, H: Holding, C: SiteDriver + Drop, N: Named<Locked<H, C>>, L: L
 
 // What workers leave: their passes and their jobs, or that memory ran out before one worked.
 #[derive(Drop)]
-struct Left<H: Holding, C: SiteDriver + Drop, N: Named<Locked<H, C>>, L: Ledger, J: Drop> {
+struct Left<H: Holding, C: SiteDriver + Drop, N: Named<Outset<H, C>>, L: Ledger, J: Drop> {
     passes: Vec<Pass<SharedHistory<H, C>, N, L>>,
     jobs: Vec<J>,
     outcome: Result<(), Memory>,
@@ -62,7 +62,7 @@ struct Left<H: Holding, C: SiteDriver + Drop, N: Named<Locked<H, C>>, L: Ledger,
 fn do_by<
     H: Holding + Send,
     C: SiteDriver + Drop + Send,
-    N: Named<Locked<H, C>> + Send + Sync,
+    N: Named<Outset<H, C>> + Send + Sync,
     L: Ledger + Send + Sync,
     R: Threads + Wait + Sync,
     J: Job + Drop + Send,
@@ -128,7 +128,7 @@ pub struct Done<H: Holding, C: SiteDriver + Drop, J: Drop> {
 fn do_under<
     H: Holding + Send,
     C: SiteDriver + Drop + Send,
-    N: Named<Locked<H, C>> + Send + Sync,
+    N: Named<Outset<H, C>> + Send + Sync,
     L: Ledger + Send + Sync,
     R: Threads + Wait + Sync,
     J: Job + Drop + Send,
@@ -147,7 +147,7 @@ where
     H::Spawner: Send,
     C::Law: Send,
     requires empty { locked.history ≡ [] }
-    requires start { locked ≡ start_of blank N.start }
+    requires start { begun_of locked ≡ start_of blank N.start }
     requires table { unnamed ≡ N.table }
     requires ledger { (unopened.name ≡ L.name) × (unopened.parts ≡ 65537) × (L.parts ≡ 65537) }
     requires few { vec_len jobs ≤ 65536 }

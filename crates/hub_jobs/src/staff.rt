@@ -5,8 +5,8 @@ ghost use Rattle.std.specs.Prelude.{◌≡◌, ◌+◌, ◌≤◌, All, map, vec
 use crate::worker::Worker;
 use epoch_gate::{Hub, Maker, Named, Pass};
 use host_base::Memory;
-use hub_core::{Holding, Locked};
-use shared_hub::{PassDesk, SharedHistory};
+use hub_core::Holding;
+use shared_hub::{Outset, PassDesk, SharedHistory};
 use site_caps::SiteDriver;
 use std::alloc::Global;
 use std::num::NonZeroUsize;
@@ -14,7 +14,7 @@ use std::sync::Wait;
 use std::sync::ledger::Ledger;
 
 /// Makes so many passes, whose caches have so much room.
-pub fn make_passes<H: Holding, C: SiteDriver + Drop, N: Named<Locked<H, C>>, L: Ledger, R: Wait>(
+pub fn make_passes<H: Holding, C: SiteDriver + Drop, N: Named<Outset<H, C>>, L: Ledger, R: Wait>(
     rt: &R,
     alloc: Global,
     hub: &Hub<SharedHistory<H, C>, N, L>,
@@ -39,7 +39,7 @@ pub fn make_passes<H: Holding, C: SiteDriver + Drop, N: Named<Locked<H, C>>, L: 
 }
 
 /// A worker for each job, with a desk of one of the passes.
-pub fn hire<'a, H: Holding, C: SiteDriver + Drop, N: Named<Locked<H, C>>, L: Ledger, R, J: Drop>(
+pub fn hire<'a, H: Holding, C: SiteDriver + Drop, N: Named<Outset<H, C>>, L: Ledger, R, J: Drop>(
     rt: &'a R,
     alloc: Global,
     hub: &'a Hub<SharedHistory<H, C>, N, L>,
@@ -66,7 +66,7 @@ pub fn hire<'a, H: Holding, C: SiteDriver + Drop, N: Named<Locked<H, C>>, L: Led
 }
 
 /// Takes workers apart: their passes, and their jobs.
-pub fn dismiss<'a, H: Holding, C: SiteDriver + Drop, N: Named<Locked<H, C>>, L: Ledger, R, J: Drop>(
+pub fn dismiss<'a, H: Holding, C: SiteDriver + Drop, N: Named<Outset<H, C>>, L: Ledger, R, J: Drop>(
     workers: Vec<Worker<'a, H, C, N, L, R, J>>,
     passes: &mut Vec<Pass<SharedHistory<H, C>, N, L>>,
     jobs: &mut Vec<J>,

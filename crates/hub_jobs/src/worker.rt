@@ -7,8 +7,8 @@ ghost use Rattle.shared_hub.specs.Wanting.{blank};
 
 use crate::at_once::Task;
 use epoch_gate::Named;
-use hub_core::{Desk, Holding, Locked};
-use shared_hub::PassDesk;
+use hub_core::{Desk, Holding};
+use shared_hub::{Outset, PassDesk};
 use site_caps::SiteDriver;
 use std::alloc::Global;
 use std::sync::Wait;
@@ -32,7 +32,7 @@ pub struct Worker<
     'a,
     H: Holding,
     C: SiteDriver + Drop,
-    N: Named<Locked<H, C>>,
+    N: Named<Outset<H, C>>,
     L: Ledger,
     R,
     J: Drop,
@@ -46,7 +46,7 @@ impl<
     'a,
     H: Holding,
     C: SiteDriver + Drop,
-    N: Named<Locked<H, C>>,
+    N: Named<Outset<H, C>>,
     L: Ledger,
     R: Wait,
     J: Job + Drop,

@@ -33,7 +33,7 @@ count_is : (more : Bool) (added : List Event) → length added ≤ 1 → (more �
 count_is true added few some none = let not = some refl in omega (arith, few, not)
 count_is false added few some none = none refl
 
-module _ (law : Law) (old new : Sharing) (order : Asked) (answer : Result Reply OrderFault) where
+module _ {K : Type 0} (law : Law) (old new : Sharing K) (order : Asked) (answer : Result Reply OrderFault) where
   -- what an order that was answered at the end of a history adds to it
   pub adds_to : (o : Ordered (book_of law old) (book_of law new) order (length old.history) answer) → new.history ≡ old.history ++ o.added
   adds_to o =

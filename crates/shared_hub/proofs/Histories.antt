@@ -14,6 +14,7 @@ use Rattle.live_access.proofs.solution.Solution.TheSendSync as solution
 use Rattle.hub_core.proofs.held.Held.TheSendSync as held
 use Rattle.hub_core.specs.contracts.history.History as History
 use Rattle.hub_core.specs.contracts.locked.Locked as Locked
+use Rattle.shared_hub.specs.contracts.history.Outset as Outset
 use Rattle.shared_hub.specs.contracts.history.SharedHistory as SharedHistory
 use Rattle.shared_hub.proofs.Events.{Event-send}
 use Rattle.shared_hub.proofs.States.{State-send}
@@ -30,6 +31,10 @@ module _ (H C K S P L : RattleType) (k : keeper.Ghosts K.Denot) (s : secrets.Gho
   Locked-send sites kept drawn spawned =
       view_send _ _ _ _ _ (declared_send (Locked.TheInside.the_type H C K S P L k s p d l) (history_send, (held.the_send H K S P k s p kept drawn spawned, (registry.the_send C L d l sites, tt))))
 
+  Outset-send : IsSend (Outset.the_row H C K S P L k s p d l)
+  Outset-send =
+      view_send _ _ _ _ _ (declared_send (Outset.TheInside.the_type H C K S P L k s p d l) (snapshot_send (Locked.the_row H C K S P L k s p d l), tt))
+
   pub SharedHistory-send : IsSend C → IsSend K → IsSend S → IsSend P → IsSend (SharedHistory.the_row H C K S P L k s p d l)
   SharedHistory-send sites kept drawn spawned =
-      view_send _ _ _ _ _ (declared_send (SharedHistory.TheInside.the_type H C K S P L k s p d l) (Locked-send sites kept drawn spawned, (snapshot_send (Locked.the_row H C K S P L k s p d l), tt)))
+      view_send _ _ _ _ _ (declared_send (SharedHistory.TheInside.the_type H C K S P L k s p d l) (Locked-send sites kept drawn spawned, (Outset-send, tt)))

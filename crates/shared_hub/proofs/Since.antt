@@ -73,7 +73,7 @@ kept_none start holds = record {
 }
 
 -- and once an order was answered
-pub kept_more : (law : Law) (began : Backing) (old new : Sharing) (order : Asked) (answer : Result Reply OrderFault)
+pub kept_more : {K : Type 0} (law : Law) (began : Backing) (old new : Sharing K) (order : Asked) (answer : Result Reply OrderFault)
     → Ordered (book_of law old) (book_of law new) order (length old.history) answer → HasKept old.start began old.holds old.history → HasKept old.start began new.holds new.history
 kept_more law began old new order answer o kept = record {
   counts = record {

@@ -9,9 +9,17 @@ use Rattle.hub_core.specs.Book.{Backing, CountsOn}
 use Rattle.hub_core.specs.Sharing.{Sharing}
 use Rattle.hub_core.specs.Spawning.{IsOfApp, stops_by}
 
+-- What a history was when it began to be shared: its state, and what the objects beside it told.
+pub record Begun : Type 0 where
+  pub start : State
+  pub holds : Backing
+
+abbrev pub begun_of : {K : Type 0} → Sharing K → Begun
+begun_of sharing = record { start = sharing.start; holds = sharing.holds }
+
 -- A history that many share: what it was when it began, its entries since, and what the objects beside it tell.
 pub record Common : Type 0 where
-  pub began : Sharing
+  pub began : Begun
   pub history : List Event
   pub holds : Backing
 

@@ -11,18 +11,17 @@ use Rattle.desk_orders.specs.declared.reply.OrderFault.TheVariants as fault
 use Rattle.desk_orders.specs.declared.reply.Reply.{Reply}
 use Rattle.epoch_gate.specs.declared.book.Faults.{Faults}
 use Rattle.hub_core.specs.Book.{IsFoundFor}
-use Rattle.hub_core.specs.Sharing.{Sharing}
 use Rattle.hub_core.specs.Spawning.{AreOfApp, HaveToken, token_of}
+use Rattle.shared_hub.specs.Since.{Begun}
 use Rattle.shared_hub.specs.declared.history.Told.{Told}
 use Rattle.shared_hub.specs.declared.history.Told.TheVariants as told
 use Rattle.shared_hub.specs.declared.history.Wanted.{Wanted}
 use Rattle.shared_hub.specs.declared.history.Wanted.TheVariants as wanted
 
--- a history without an entry on a state without rows, beside objects that tell nothing
-abbrev pub blank : Sharing
+-- a state without rows, beside objects that tell nothing
+abbrev pub blank : Begun
 blank = record {
   start = record { tables = record { accounts = []; apps = []; grains = []; grants = []; saved = [] }; sessions = []; runs = []; handles = [] };
-  history = [];
   holds = record {
     keeping = record { faults = 0; clean = false; rows = None };
     drawer = record { faults = 0; coming = None };

@@ -3,8 +3,7 @@
 ghost use Rattle.std.specs.Prelude.{◌≡◌, ◌≤◌, [], length};
 ghost use Rattle.desk_base.specs.Terms.{replay};
 ghost use Rattle.epoch_gate.specs.Books.{Acts};
-ghost use Rattle.hub_core.specs.Sharing.{Sharing};
-ghost use Rattle.shared_hub.specs.Since.{HasKept};
+ghost use Rattle.shared_hub.specs.Since.{Begun, HasKept, begun_of};
 ghost use Rattle.shared_hub.specs.Wanting.{AnswersOrder, faults_of};
 
 use desk_orders::{Order, OrderFault, Reply};
@@ -55,7 +54,7 @@ fn answer<H: Holding, C: SiteDriver + Drop>(
         AnswersOrder C.Law.law (replay locked.old.start locked.old.history) (length locked.old.history)
         order result.1 added (faults_of result.1)) }
     ensures short { length locked.new.history ≤ 1000000 }
-    ensures kept { (began : Sharing) → locked.old.start ≡ began.start
+    ensures kept { (began : Begun) → locked.old.start ≡ began.start
         → HasKept began.start began.holds locked.old.holds locked.old.history
         → HasKept began.start began.holds locked.new.holds locked.new.history }
 {
@@ -63,11 +62,29 @@ fn answer<H: Holding, C: SiteDriver + Drop>(
     (locked.entries() != before, answer)
 }
 
+/// What a history was when it began to be shared.
+#[derive(Drop)]
+pub struct Outset<H: Holding, C: SiteDriver> {
+    locked: Snapshot<Locked<H, C>>,
+}
+
+impl<H: Holding, C: SiteDriver> Model for Outset<H, C> {
+    ghost use Rattle.std.specs.Coded.{codes};
+    ghost use Rattle.share_graph.specs.contracts.state.State as state_type;
+    ghost use Rattle.shared_hub.specs.Since.{Begun, begun_of};
+
+    ghost Value = { Begun };
+
+    ghost coded = { Prim.hlevel (codes, state_type.the_row.coded) };
+
+    ghost view = { λ outset. begun_of outset.locked.value };
+}
+
 /// A history that many threads share, with what it was when they began to: since then its objects were told what its entries
 /// want, and nothing else.
 pub struct SharedHistory<H: Holding, C: SiteDriver> {
     locked: Locked<H, C>,
-    began: Snapshot<Locked<H, C>>,
+    began: Outset<H, C>,
 }
 
 // Written by hand, as that of `State` is.
@@ -91,28 +108,31 @@ impl<H: Holding, C: SiteDriver> Model for SharedHistory<H, C> {
 
     ghost coded = { Prim.hlevel (codes, state_type.the_row.coded, event_type.the_row.coded) };
 
-    ghost view = { λ shared. record { began = shared.began.value; history = shared.locked.history; holds = shared.locked.holds } };
+    ghost view = { λ shared. record { began = shared.began; history = shared.locked.history; holds = shared.locked.holds } };
 
-    ghost invariant = { λ shared. (shared.locked.start ≡ shared.began.value.start) × HasKept shared.began.value.start shared.began.value.holds shared.locked.holds shared.locked.history };
+    ghost invariant = { λ shared. (shared.locked.start ≡ shared.began.start) × HasKept shared.began.start shared.began.holds shared.locked.holds shared.locked.history };
 }
 
 impl<H: Holding, C: SiteDriver + Drop> SharedHistory<H, C> {
     /// The history, to be shared from now on. It has no entry yet.
     pub fn new(locked: Locked<H, C>) -> Self
         requires { locked.history ≡ [] }
-        ensures { result ≡ record { began = locked; history = []; holds = locked.holds } }
+        ensures { result ≡ record { began = begun_of locked; history = []; holds = locked.holds } }
     {
-        let began = Snapshot::of(&locked);
-        SharedHistory { locked, began }
+        let outset = Outset {
+            locked: Snapshot::of(&locked),
+        };
+        SharedHistory {
+            locked,
+            began: outset,
+        }
     }
 
     /// The history, shared no more.
     pub fn into_locked(self) -> Locked<H, C>
-        ensures locked { result ≡ record {
-          start = self.began.start;
-          history = self.history;
-          holds = self.holds;
-        } }
+        ensures start { result.start ≡ self.began.start }
+        ensures history { result.history ≡ self.history }
+        ensures holds { result.holds ≡ self.holds }
         ensures kept { HasKept self.began.start self.began.holds result.holds result.history }
     {
         let SharedHistory { locked, began: _ } = self;
@@ -121,7 +141,7 @@ impl<H: Holding, C: SiteDriver + Drop> SharedHistory<H, C> {
 }
 
 impl<H: Holding, C: SiteDriver + Drop> Book for SharedHistory<H, C> {
-    type Start = Locked<H, C>;
+    type Start = Outset<H, C>;
 
     type Entry = Event;
 

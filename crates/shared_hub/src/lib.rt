@@ -4,5 +4,5 @@
 mod history;
 mod pass_desk;
 
-pub use history::{SharedHistory, Told, Wanted};
+pub use history::{Outset, SharedHistory, Told, Wanted};
 pub use pass_desk::PassDesk;

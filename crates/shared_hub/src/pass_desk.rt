@@ -8,11 +8,11 @@ ghost use Rattle.epoch_gate.specs.Books.{start_of};
 ghost use Rattle.epoch_gate.specs.Passes.{same_key};
 ghost use Rattle.shared_hub.specs.Passing.{book_by};
 
-use crate::history::{SharedHistory, Told, Wanted};
+use crate::history::{Outset, SharedHistory, Told, Wanted};
 use desk_orders::{Order, OrderFault, Reply};
 use epoch_gate::{Hub, Named, Pass};
 use host_base::{Key, Memory, Verdict};
-use hub_core::{Desk, Holding, Locked};
+use hub_core::{Desk, Holding};
 use site_caps::{SiteDriver, SiteFault, SiteText};
 use std::alloc::Global;
 use std::marker::Model;
@@ -30,14 +30,14 @@ fn verdict_copy(verdict: &Verdict) -> Result<Verdict, Memory>
 }
 
 /// A desk that shares its history with others, by a pass of their hub.
-pub struct PassDesk<'a, H: Holding, C: SiteDriver + Drop, N: Named<Locked<H, C>>, L: Ledger, R> {
+pub struct PassDesk<'a, H: Holding, C: SiteDriver + Drop, N: Named<Outset<H, C>>, L: Ledger, R> {
     rt: &'a R,
     hub: &'a Hub<SharedHistory<H, C>, N, L>,
     pass: Pass<SharedHistory<H, C>, N, L>,
 }
 
 // Written by hand, as that of `State` is.
-impl<'a, H: Holding, C: SiteDriver + Drop, N: Named<Locked<H, C>>, L: Ledger, R> Drop
+impl<'a, H: Holding, C: SiteDriver + Drop, N: Named<Outset<H, C>>, L: Ledger, R> Drop
     for PassDesk<'a, H, C, N, L, R> {
     fn drop(self) {
         let PassDesk {
@@ -48,7 +48,7 @@ impl<'a, H: Holding, C: SiteDriver + Drop, N: Named<Locked<H, C>>, L: Ledger, R>
     }
 }
 
-impl<'a, H: Holding, C: SiteDriver + Drop, N: Named<Locked<H, C>>, L: Ledger, R> Model
+impl<'a, H: Holding, C: SiteDriver + Drop, N: Named<Outset<H, C>>, L: Ledger, R> Model
     for PassDesk<'a, H, C, N, L, R> {
     ghost use Rattle.std.specs.Coded.{codes};
     ghost use Rattle.share_graph.specs.contracts.event.Event as event_type;
@@ -63,7 +63,7 @@ impl<'a, H: Holding, C: SiteDriver + Drop, N: Named<Locked<H, C>>, L: Ledger, R>
     ghost view = { λ desk. desk.pass };
 }
 
-impl<'a, H: Holding, C: SiteDriver + Drop, N: Named<Locked<H, C>>, L: Ledger, R> PassDesk<
+impl<'a, H: Holding, C: SiteDriver + Drop, N: Named<Outset<H, C>>, L: Ledger, R> PassDesk<
     'a,
     H,
     C,
@@ -95,7 +95,7 @@ impl<'a, H: Holding, C: SiteDriver + Drop, N: Named<Locked<H, C>>, L: Ledger, R>
     }
 }
 
-impl<'a, H: Holding, C: SiteDriver + Drop, N: Named<Locked<H, C>>, L: Ledger, R: Wait> Desk
+impl<'a, H: Holding, C: SiteDriver + Drop, N: Named<Outset<H, C>>, L: Ledger, R: Wait> Desk
     for PassDesk<'a, H, C, N, L, R> {
     ghost book = { λ pass. book_by C.Law.law (start_of blank N.start).start pass };
 

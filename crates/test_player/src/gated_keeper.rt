@@ -1,6 +1,7 @@
 //! A keeper that stays in `commit` until a gate opens.
 
 ghost use Rattle.std.specs.Prelude.{◌≡◌};
+ghost use Rattle.hub_core.specs.Stopping.{OutliveStops};
 
 use crate::gate::Gate;
 use cloud_keeper::{KeepFault, Keeper, MemKeeper, Row};
@@ -16,7 +17,9 @@ pub struct GatedKeeper {
 
 impl GatedKeeper {
     pub fn new(keeper: MemKeeper, gate: Option<Arc<Gate, Global>>) -> Self
-        ensures { ⟦<GatedKeeper as Keeper>⟧.keeping result ≡ ⟦<MemKeeper as Keeper>⟧.keeping keeper }
+        ensures keeping { ⟦<GatedKeeper as Keeper>⟧.keeping result ≡ ⟦<MemKeeper as Keeper>⟧.keeping keeper }
+        ensures outlive { OutliveStops (⟦<MemKeeper as Keeper>⟧.keeping keeper) (⟦<MemKeeper as Keeper>⟧.may_leave keeper)
+            → OutliveStops (⟦<GatedKeeper as Keeper>⟧.keeping result) (⟦<GatedKeeper as Keeper>⟧.may_leave result) }
     {
         GatedKeeper { keeper, gate }
     }

@@ -1,4 +1,5 @@
 use Rattle.std.proofs.Common.{arith}
+use Rattle.hub_core.proofs.Stopping.{settled_outlives}
 use Rattle.admin_run.proofs.First.{first_formed, first_stored}
 use Rattle.admin_run.proofs.beginning.begin_anew.Goals as goal
 
@@ -14,3 +15,6 @@ returns-in-Ok-clause-begins g c = λ before none le clean.
       clean = λ is. clean (made.clean is);
       secrets_count = made.secrets_count;
     }
+
+pub returns-in-Ok-clause-outlive : goal.returns-in-Ok-clause-outlive
+returns-in-Ok-clause-outlive g c = settled_outlives (g.K.Keeper.keeping c.first_account.new.keeper) (g.K.Keeper.may_leave c.first_account.new.keeper) c.in-Ok.ensures.settled

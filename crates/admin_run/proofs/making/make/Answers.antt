@@ -2,7 +2,7 @@ use Rattle.std.proofs.Common.{ℕ, List, Some, length, refl, sym, ap, subst, ◌
 use Rattle.share_graph.specs.History.{replay}
 use Rattle.cloud_serve.specs.Served.{Wired}
 use Rattle.hub_core.specs.Book.{Backing}
-use Rattle.hub_core.specs.Sharing.{Sharing}
+use Rattle.hub_core.specs.Sharing.{Objects, Sharing}
 use Rattle.row_tables.specs.Kept.{IsStored}
 use Rattle.admin_run.specs.Connection.{ServesBook}
 use Rattle.admin_run.proofs.Made.{over_memory_is}
@@ -14,12 +14,12 @@ returns-in-Err-clause-makes g c = rw (← c.world.view_is)
     (let inside = c.world.inside in
     inr (record {
       status_is = refl;
-      same = c.joined-world.ensures
-          ∙ ap (λ (h : Backing). the_world (g.W.Input.Source.inlet inside.input) (g.W.Output.Sink.outlet inside.out) (g.W.Door.Link.Link.line inside.link) h (g.W.Clock.Clock.moments inside.clock) (g.W.Door.Door.doorway inside.door)) c.in-Err.ensures.err;
+      same = c.joined-world.ensures.tells
+          ∙ ap (λ (h : Backing). the_world (g.W.Input.Source.inlet inside.input) (g.W.Output.Sink.outlet inside.out) (g.W.Door.Link.Link.line inside.link) h (g.W.Clock.Clock.moments inside.clock) (g.W.Door.Door.doorway inside.door)) (ap (λ (o : Objects _). o.tell) c.in-Err.ensures.err);
     }))
 
 pub returns-clause-makes : goal.returns-clause-makes
-returns-clause-makes g c = rw (← c.world.view_is, c.joined-world-2.ensures)
+returns-clause-makes g c = rw (← c.world.view_is, c.joined-world-2.ensures.tells)
     (let end = c.serve_conn-end.result in
     let desk' = c.serve_conn-end.new.desk in
     inl (record {
@@ -30,12 +30,12 @@ returns-clause-makes g c = rw (← c.world.view_is, c.joined-world-2.ensures)
       wire = c.serve_conn-end.new.wire;
       line_is = sym (ap (λ (w : Wired). w.line) c.made.view_is);
       connection =
-          subst (λ (w : Wired). ServesBook g.C.Law.SiteLaw.law w c.serve_conn-end.new.wire c.world.inside.held c.into_held-held.result end.end end.served end.forwarded c.entries-entries.result)
+          subst (λ (w : Wired). ServesBook g.C.Law.SiteLaw.law w c.serve_conn-end.new.wire c.world.inside.held.tell c.into_held-held.result.tell end.end end.served end.forwarded c.entries-entries.result)
           (over_memory_is c.new-2.result c.new-3.result _ _ _ _ _ _ c.in-Ok.ensures c.new-2.ensures c.new-3.ensures.written c.new-3.ensures.count)
-          (serves_book g.C.Law.SiteLaw.law _ c.serve_conn-end.new.wire _ c.into_held-held.result end.end end.places end.served end.forwarded c.entries-entries.result c.in-Ok-small_desk.desk desk' end.from
-          c.in-Ok-small_desk.ensures.ok (c.into_held-held.ensures.held ∙ ap (λ (x : Sharing). x.holds) c.into_locked-locked.ensures) c.serve_conn-end.ensures.served
-          (subst (λ (x : Sharing). IsStored c.into_held-held.result.keeping (replay x.start x.history).tables) c.into_locked-locked.ensures c.into_held-held.ensures.stored)
-          (c.entries-entries.ensures.value ∙ ap (λ (x : Sharing). length x.history) c.into_locked-locked.ensures));
+          (serves_book g.C.Law.SiteLaw.law _ c.serve_conn-end.new.wire _ c.into_held-held.result.tell end.end end.places end.served end.forwarded c.entries-entries.result c.in-Ok-small_desk.desk desk' end.from _
+          c.in-Ok-small_desk.ensures.ok (ap (λ (o : Objects _). o.tell) c.into_held-held.ensures.held ∙ ap (λ (x : Sharing _). x.holds) c.into_locked-locked.ensures) c.serve_conn-end.ensures.served
+          (subst (λ (x : Sharing _). IsStored c.into_held-held.result.tell.keeping (replay x.start x.history).tables) c.into_locked-locked.ensures c.into_held-held.ensures.stored)
+          (c.entries-entries.ensures.value ∙ ap (λ (x : Sharing _). length x.history) c.into_locked-locked.ensures));
       output = c.written.result.now;
       output_is = sym (ap (λ (w : Wired). w.outlet.written) c.made.view_is) ∙ ap (λ (xs : List ℕ). Some xs) (sym c.written.ensures);
       told = c.summarize-status.ensures.tells;
@@ -43,7 +43,7 @@ returns-clause-makes g c = rw (← c.world.view_is, c.joined-world-2.ensures)
     }))
 
 pub returns-clause-cause : goal.returns-clause-cause
-returns-clause-cause g c = rw (← c.world.view_is, c.joined-world-2.ensures)
+returns-clause-cause g c = rw (← c.world.view_is, c.joined-world-2.ensures.tells)
     (record {
       taken = λ is. absurd (c.summarize-status.ensures.unread is);
       written = c.summarize-status.ensures.cause;

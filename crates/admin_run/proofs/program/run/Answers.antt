@@ -17,3 +17,6 @@ perform-requires-clause-registered g c κs within = λ which. c.requires.registe
 
 pub perform-requires-clause-order : goal.perform-requires-clause-order
 perform-requires-clause-order g c κs within = λ at. c.requires.order (c.in-Ok.line, c.in-Ok.ensures.line, at)
+
+pub perform-requires-clause-outlive : goal.perform-requires-clause-outlive
+perform-requires-clause-outlive g c κs within = λ from. c.requires.outlive (c.in-Ok.line, c.in-Ok.ensures.line, from)

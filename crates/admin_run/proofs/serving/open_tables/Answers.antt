@@ -8,5 +8,6 @@ returns-clause-ok g c =
     same ∙ (λ i. record {
       start = record { tables = c.args.tables; sessions = c.empty.ensures i; runs = c.empty-2.ensures i; handles = c.empty-3.ensures i };
       history = [];
-      holds = c.args.held;
+      holds = c.args.held.tell;
+      keeper = c.args.held.keeper;
     })) c.from_state.ensures.ok

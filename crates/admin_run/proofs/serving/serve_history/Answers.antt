@@ -6,6 +6,7 @@ use Rattle.share_graph.specs.History.{replay}
 use Rattle.share_graph.specs.declared.state.State.{State}
 use Rattle.row_tables.specs.Kept.{IsStored}
 use Rattle.hub_core.specs.Book.{Backing}
+use Rattle.hub_core.specs.Sharing.{Objects}
 use Rattle.shared_hub.specs.Since.{HasKept}
 use Rattle.hub_jobs.specs.Jobs.{DoneAtOnce}
 use Rattle.serve_door.specs.Working.{Post, Works, all_together, with_handles}
@@ -23,8 +24,9 @@ pub returns-in-Err-clause-serves : goal.returns-in-Err-clause-serves
 returns-in-Err-clause-serves g c =
     let door = g.W.Door.Door.doorway c.args.door in
     let back = c.in-Err.ensures.back in
-    serves_none g.C.Law.SiteLaw.law c.args.locked.start c.args.count c.args.locked.holds c.into_held-held.result c.args.locked.history door _ _
-    (kept_same c.args.locked.start c.args.locked.holds c.into_held-held.result c.args.locked.history c.into_held-held.ensures.held c.requires.empty) c.requires.empty c.into_held-held.ensures.stored
+    serves_none g.C.Law.SiteLaw.law c.args.locked.start c.args.count _ c.args.locked.holds c.into_held-held.result.tell c.args.locked.history door _ _
+    (kept_same c.args.locked.start c.args.locked.holds c.into_held-held.result.tell c.args.locked.history (ap (λ (o : Objects _). o.tell) c.into_held-held.ensures.held) c.requires.empty) c.requires.empty c.into_held-held.ensures.stored
+    c.into_held-held.ensures.outlive
     (ap (λ d. given_and_back (g.W.Door.Door.doorway d)) back ∙ ap given_and_back c.expect.ensures ∙ expecting_same door c.args.count)
 
 pub do_at_once-locked-requires-send-J : goal.do_at_once-locked-requires-send-J
@@ -54,9 +56,10 @@ returns-then-is_err-clause-serves g c =
     let none = err_is done.result.outcome (sym c.is_err.ensures.value ∙ c.if-is_err.true) done.ensures.none in
     let history = done.result.locked.history in
     let held = c.into_held-held-2.result in
-    serves_none g.C.Law.SiteLaw.law c.args.locked.start c.args.count c.args.locked.holds held history door _ _
-    (subst (λ (h : Backing). HasKept c.args.locked.start c.args.locked.holds h history) (sym c.into_held-held-2.ensures.held) done.ensures.kept) none.1
-    (subst (λ (s : State). IsStored held.keeping (replay s history).tables) done.ensures.start c.into_held-held-2.ensures.stored)
+    serves_none g.C.Law.SiteLaw.law c.args.locked.start c.args.count _ c.args.locked.holds held.tell history door _ _
+    (subst (λ (h : Backing). HasKept c.args.locked.start c.args.locked.holds h history) (sym (ap (λ (o : Objects _). o.tell) c.into_held-held-2.ensures.held)) done.ensures.kept) none.1
+    (subst (λ (s : State). IsStored held.tell.keeping (replay s history).tables) done.ensures.start c.into_held-held-2.ensures.stored)
+    c.into_held-held-2.ensures.outlive
     (ap given_and_back (c.dismiss-door.ensures.door hired.handles hired.main (ap (λ jobs. jobs.items) none.0 ∙ hired.all))
     ∙ handles_same hired.main.doorway hired.handles ∙ ap given_and_back hired.main_is ∙ expecting_same door c.args.count)
 
@@ -73,8 +76,9 @@ returns-clause-serves g c =
     let last = hired_stopped law start _ _ history c.in-Ok.workers.items hired posts done in
     record {
       history = history;
-      stored = subst (λ (s : State). IsStored held.keeping (replay s history).tables) jobs.ensures.start c.into_held-held-2.ensures.stored;
-      kept = subst (λ (h : Backing). HasKept c.args.locked.start c.args.locked.holds h history) (sym c.into_held-held-2.ensures.held) jobs.ensures.kept;
+      stored = subst (λ (s : State). IsStored held.tell.keeping (replay s history).tables) jobs.ensures.start c.into_held-held-2.ensures.stored;
+      outlive = c.into_held-held-2.ensures.outlive;
+      kept = subst (λ (h : Backing). HasKept c.args.locked.start c.args.locked.holds h history) (sym (ap (λ (o : Objects _). o.tell) c.into_held-held-2.ensures.held)) jobs.ensures.kept;
       ends = inr (record {
         before = c.in-Ok.workers.items;
         handles = last.handles;

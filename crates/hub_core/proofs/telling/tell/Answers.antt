@@ -1,3 +1,4 @@
+use Rattle.std.proofs.Common.{refl}
 use Rattle.hub_core.specs.Book.{Backing}
 use Rattle.hub_core.proofs.Adding.{follows_self}
 use Rattle.hub_core.proofs.telling.tell.Goals as goal
@@ -17,3 +18,9 @@ returns-in-None-clause-told g c =
 pub returns-in-None-clause-rows : goal.returns-in-None-clause-rows
 returns-in-None-clause-rows g c =
     rw (← c.held.view_is, c.in-None.is) (follows_self (g.H.Keeper.Keeper.keeping c.held.inside.keeper) c.tell_spawner.result)
+
+pub returns-in-Some-clause-leaves : goal.returns-in-Some-clause-leaves
+returns-in-Some-clause-leaves g c = rw (← c.held.view_is, c.in-Some.is) (c.keep.ensures.stops, c.keep.ensures.settled)
+
+pub returns-in-None-clause-leaves : goal.returns-in-None-clause-leaves
+returns-in-None-clause-leaves g c = rw (← c.held.view_is, c.in-None.is) (refl, refl)

@@ -8,7 +8,7 @@ use Rattle.shared_hub.proofs.history.SharedHistory.new.Goals as goal
 pub invariant_of-result : goal.invariant_of-result
 invariant_of-result g c =
     let locked = c.args.locked in (
-      ap (λ (sharing : Sharing). sharing.start) (sym c.of-began.ensures),
-      subst (λ (began : Sharing). HasKept began.start began.holds locked.holds locked.history) (sym c.of-began.ensures)
+      ap (λ (sharing : Sharing _). sharing.start) (sym c.of.ensures),
+      subst (λ (began : Sharing _). HasKept began.start began.holds locked.holds locked.history) (sym c.of.ensures)
           (subst (λ (history : List Event). HasKept locked.start locked.holds locked.holds history) (sym c.requires) (kept_none locked.start locked.holds)),
     )
