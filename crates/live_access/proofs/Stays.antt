@@ -1,29 +1,28 @@
 -- Where a new grant adds nothing, or revoking one takes nothing, what solved the tables solves those after it.
-use Rattle.std.proofs.Common.{◌≡◌, ◌≢◌, ◌<◌, ◌+◌, ℕ, zero, suc, Bool, true, false, not, Option, is_some, List, [], ◌∷◌, ◌++◌, Some, None, Contains, MatchOption, length, refl, sym, ◌∙◌, ap, subst, inl, inr, arith}
+use Rattle.std.proofs.Common.{◌≡◌, ◌≢◌, ◌<◌, ◌+◌, ℕ, zero, suc, true, not, Option, is_some, List, [], ◌∷◌, ◌++◌, Some, None, Contains, MatchOption, length, refl, sym, ◌∙◌, ap, subst, inl, inr, arith}
 use Rattle.std.proofs.Math.Dec.{eqb}
-use Rattle.std.proofs.lemmas.Bool.{eqb-true, eq-eqb}
-use Rattle.host_base.specs.declared.ids.AccountId.{AccountId}
+use Rattle.std.proofs.lemmas.Bool.{eq-eqb}
 use Rattle.host_base.specs.declared.ids.GrantId.{GrantId}
 use Rattle.share_graph.specs.declared.facts.Fact.{Fact}
 use Rattle.share_graph.specs.declared.facts.Fact.TheVariants.{Open}
 use Rattle.share_graph.specs.declared.facts.Node.{Node}
 use Rattle.share_graph.specs.declared.facts.Node.TheVariants as node
-use Rattle.share_graph.specs.declared.grants.Giver.TheVariants as giver
 use Rattle.share_graph.specs.declared.grants.Grant.{Grant}
 use Rattle.share_graph.specs.declared.grants.Need.{Need}
+use Rattle.share_graph.specs.declared.grants.Need.TheVariants as need
 use Rattle.share_graph.specs.declared.rows.App.{App}
-use Rattle.share_graph.specs.declared.rows.Grain.{Grain}
 use Rattle.share_graph.specs.declared.event.Event.{Event}
 use Rattle.share_graph.specs.declared.event.Event.TheVariants as event
 use Rattle.share_graph.specs.declared.state.State.{State}
 use Rattle.share_graph.specs.declared.state.Tables.{Tables}
 use Rattle.share_graph.specs.Coherent.{IsCoherent}
-use Rattle.share_graph.specs.Derivation.{Owns, IsFactOf, IsLive, LetsThrough, Derivation, own, via, site, HoldsWithout, Follows, IsOpenSite, Asks, AsksNow}
+use Rattle.share_graph.specs.Derivation.{IsLive, LetsThrough, Derivation, own, via, site, HoldsWithout, Uses, Follows, IsOpenSite, Asks, AsksNow}
 use Rattle.share_graph.specs.EventFits.{EventFits}
 use Rattle.share_graph.specs.Fitting.{IsAssignmentFor}
 use Rattle.share_graph.specs.History.{after}
-use Rattle.share_graph.specs.Nodes.{node_of, source_of, source_at, Gives}
+use Rattle.share_graph.specs.Nodes.{node_of, source_of, Gives}
 use Rattle.share_graph.specs.Revoking.{revoke_in}
+use Rattle.share_graph.specs.Region.{Feeds, seed, along, to_site}
 use Rattle.share_graph.specs.Rows.{row, IsAppOf, IsGrant}
 use Rattle.share_graph.specs.WellFormed.{AreNumbered}
 use Rattle.share_graph.proofs.Coherence.{coherent}
@@ -33,12 +32,12 @@ use Rattle.least_access.specs.Solved.{Table, HeldAt, IsSolutionOf}
 use Rattle.least_access.proofs.Following.{follows_source}
 use Rattle.least_access.proofs.Turns.{grant_id}
 use Rattle.state_step.proofs.Each.{push_old_row}
-use Rattle.region_work.proofs.Sums.{contains_none}
+use Rattle.region_work.specs.Owed.{holder_of}
+use Rattle.region_work.proofs.Sums.{contains_cons}
 use Rattle.region_access.specs.Arriving.{IsArrivalsOf}
 use Rattle.region_access.proofs.Trashed.{same_number}
-use Rattle.live_access.specs.Staying.{AddsNothing, GaveAsOwner, IsGivenOtherwise, TakesNothing}
+use Rattle.live_access.specs.Staying.{AddsNothing, IsFedOutside, IsGivenOtherwise, TakesNothing}
 use Rattle.live_access.proofs.Pushed.{row_new, row_pushed, next_number}
-use Rattle.live_access.proofs.Touched.{account_id}
 
 -- ---- a grant that is added
 
@@ -89,35 +88,70 @@ module _ (t : Tables) (grant : Grant) (next : grant.num.0 ≡ length t.grants + 
 -- ---- a grant that is revoked
 
 module _ (t : Tables) (table : Table) (g : GrantId) (solution : IsSolutionOf t table) (nothing : TakesNothing t table g) where
-  no_needs : (grant : Grant) → grant.needs ≡ [] → (q : Need) → Contains grant.needs q → ⊥
-  no_needs grant none q c = (let odd : Contains [] q = subst (λ (qs : List Need). Contains qs q) none c in contains_none q odd)
+  same_row : (h : GrantId) (x : Grant) → h.0 ≡ g.0 → IsGrant t h x → nothing.grant ≡ x
+  same_row h x same is =
+      let there : IsGrant t g x = subst (λ k. row t.grants k ≡ Some x) same is in
+      let rows : Some nothing.grant ≡ Some x = sym nothing.is_row ∙ there in
+      cc
 
-  -- what the owner gave by another grant holds without this one
-  by_owner : (at : Node) (fact : Fact) → IsGivenOtherwise t g at fact → HoldsWithout t g at fact
-  by_owner at fact (other, apart, gave) = subst (λ (n : Node). HoldsWithout t g n fact) gave.there (
-    via gave.through gave.source (own gave.owns gave.fact_of) (λ q c. absurd (no_needs gave.grant gave.needs q c)) (λ q c n asked a. absurd (no_needs gave.grant gave.needs q c)),
-    elim [
-      | inl same ↦ apart same
-      | inr (inl used) ↦ used
-      | inr (inr used) ↦ no_needs gave.grant gave.needs used.0 used.1
-    ],
-  )
+  -- what hangs on the node has the node, and what its nodes feed
+  within : Contains nothing.nodes (node_of g nothing.grant)
+  within = (nothing.region.exact (node_of g nothing.grant)).1 (seed ((contains_cons (node_of g nothing.grant) [] (node_of g nothing.grant)).1 (inl refl)))
+
+  goes_on : (from : Node) (h : GrantId) (x : Grant) → IsGrant t h x → Feeds from x → Contains nothing.nodes from → Contains nothing.nodes (node_of h x)
+  goes_on from h x is feeds inside = (nothing.region.exact (node_of h x)).1 (along ((nothing.region.exact from).0 inside) h x is feeds)
+
+  goes_to_site : (from : Node) (h : GrantId) (x : Grant) → IsGrant t h x → source_of x ≡ None → Feeds from x → Contains nothing.nodes from → Contains nothing.nodes (node.Grant h)
+  goes_to_site from h x is none feeds inside = (nothing.region.exact (node.Grant h)).1 (to_site ((nothing.region.exact from).0 inside) h x is none feeds)
+
+  -- outside of it no derivation uses the grant
+  never_used : {at : Node} {fact : Fact} (d : Derivation t at fact) → (Contains nothing.nodes at → ⊥) → Uses d g → ⊥
+  never_used (own o r) out used = used
+  never_used (via {g = h} {grant = x} {from = from} p s d now needs) out used =
+      elim used [
+        | inl same ↦
+            let one = same_row h x (ap (λ (k : GrantId). k.0) same) p.is_live.is_row in
+            out (subst (λ (k : GrantId). Contains nothing.nodes (node_of k x)) (sym same) (subst (λ (y : Grant). Contains nothing.nodes (node_of g y)) one within))
+        | inr (inl deep) ↦ never_used d (λ inside. out (goes_on from h x p.is_live.is_row (inl s) inside)) deep
+        | inr (inr (q, c, at, asked, a, deep)) ↦ never_used (needs q c at asked a) (λ inside. out (goes_on at h x p.is_live.is_row (inr (q, c, (asked, a))) inside)) deep
+      ]
+  never_used (site {g = h} {grant = x} o s now needs) out used =
+      elim used [
+        | inl same ↦
+            let one = same_row h x (ap (λ (k : GrantId). k.0) same) o.is_live.is_row in
+            absurd (let odd : Some nothing.from ≡ None = sym nothing.source ∙ ap source_of one ∙ s in cc)
+        | inr (q, c, at, asked, a, deep) ↦ never_used (needs q c at asked a) (λ inside. out (goes_to_site at h x o.is_live.is_row s (inr (q, c, (asked, a))) inside)) deep
+      ]
+
+  -- what another grant gives from outside holds without this one
+  by_other : (at : Node) (fact : Fact) → IsGivenOtherwise t table nothing.nodes g at fact → HoldsWithout t g at fact
+  by_other at fact gave =
+      let through = follows_source t (HeldAt table) gave.other gave.grant gave.fed.from (node_of gave.other gave.grant) fact gave.fed.source gave.follows in
+      let source : Derivation t gave.fed.from fact = (solution gave.fed.from fact).0 through.2 in
+      let needs : (q : Need) → Contains gave.grant.needs q → (n : Node) (asked : Fact) → Asks q n asked → Derivation t n asked = λ q c n asked a.
+      (solution n asked).0 ((gave.follows.met q c).1 n asked a) in
+      subst (λ (n : Node). HoldsWithout t g n fact) gave.there (
+        via through.0 gave.fed.source source (λ q c. (gave.follows.met q c).0) needs,
+        elim [
+          | inl same ↦ gave.apart same
+          | inr (inl used) ↦ never_used source gave.fed.out used
+          | inr (inr used) ↦ never_used (needs used.0 used.1 used.2 used.3 used.4) (gave.fed.needs used.0 used.1 used.2 used.3 used.4) used.5
+        ],
+      )
 
   by_this : (h : GrantId) (x : Grant) (from : Node) (fact : Fact) → h.0 ≡ g.0 → LetsThrough t h x fact → source_of x ≡ Some from → Derivation t from fact
       → ((q : Need) → Contains x.needs q → AsksNow t q) → ((q : Need) → Contains x.needs q → (at : Node) (asked : Fact) → Asks q at asked → Derivation t at asked) → HoldsWithout t g (node_of h x) fact
   by_this h x from fact same p s d now needs =
       let id : h ≡ g = ap (λ n. grant_id n) same in
-      let there : IsGrant t g x = subst (λ k. row t.grants k ≡ Some x) same p.is_live.is_row in
-      let rows : Some nothing.grant ≡ Some x = sym nothing.is_row ∙ there in
-      let one : nothing.grant ≡ x = cc in
+      let one : nothing.grant ≡ x = same_row h x same p.is_live.is_row in
       let follows : Follows t (HeldAt table) g x (node_of g x) fact = record {
         met = λ q c. (now q c, λ at asked a. (solution at asked).1 (needs q c at asked a));
         source = subst (λ o. MatchOption o (IsOpenSite t g x × (node_of g x ≡ node.Grant g) × (fact ≡ Open)) (λ (n : Node). LetsThrough t g x fact × (node_of g x ≡ node_of g x) × HeldAt table n fact))
             (sym s) (subst (λ (k : GrantId). LetsThrough t k x fact) id p, refl, (solution from fact).1 d);
       } in
-      let given : IsGivenOtherwise t g (node_of g x) fact =
-      subst (λ (y : Grant). Follows t (HeldAt table) g y (node_of g y) fact → IsGivenOtherwise t g (node_of g y) fact) one (nothing.given fact) follows in
-      subst (λ (k : GrantId). HoldsWithout t g (node_of k x) fact) (sym id) (by_owner (node_of g x) fact given)
+      let given : IsGivenOtherwise t table nothing.nodes g (node_of g x) fact =
+      subst (λ (y : Grant). Follows t (HeldAt table) g y (node_of g y) fact → IsGivenOtherwise t table nothing.nodes g (node_of g y) fact) one (nothing.given fact) follows in
+      subst (λ (k : GrantId). HoldsWithout t g (node_of k x) fact) (sym id) (by_other (node_of g x) fact given)
 
   without : {at : Node} {fact : Fact} → Derivation t at fact → HoldsWithout t g at fact
   without (own o r) = (own o r, λ used. used)
@@ -137,9 +171,7 @@ module _ (t : Tables) (table : Table) (g : GrantId) (solution : IsSolutionOf t t
   without (site {g = h} {grant = x} o s now needs) =
       elim (same_number h.0 g.0) [
         | inl same ↦ absurd (
-            let there : IsGrant t g x = subst (λ k. row t.grants k ≡ Some x) same o.is_live.is_row in
-            let rows : Some nothing.grant ≡ Some x = sym nothing.is_row ∙ there in
-            let one : nothing.grant ≡ x = cc in
+            let one : nothing.grant ≡ x = same_row h x same o.is_live.is_row in
             let odd : Some nothing.from ≡ None = sym nothing.source ∙ ap source_of one ∙ s in cc)
         | inr apart ↦ (
           site o s now (λ n c at asked a. (without (needs n c at asked a)).0),
@@ -162,44 +194,28 @@ module _ (t : Tables) (table : Table) (g : GrantId) (solution : IsSolutionOf t t
       let law = revoking_law t g first at fact in
       (λ h. law.1 (without ((solution at fact).0 h)), λ d. (solution at fact).1 (law.0 d).0)
 
--- ---- what an owner gave
-
-sure : (b : Bool) → false ≡ not b → b ≡ true
-sure true e = refl
-sure false e = cc
-
-pub same_account : (a b : AccountId) → false ≡ not (eqb a.0 b.0) → a ≡ b
-same_account a b e = ap account_id (eqb-true a.0 b.0 (sure (eqb a.0 b.0) e))
+-- ---- what other grants give
 
 pub some_of : (o : Option Node) → is_some o ≡ true → (from : Node) × (o ≡ Some from)
 some_of None e = cc
 some_of (Some from) e = (from, refl)
 
-pub as_owner : (t : Tables) (table : Table) (g : GrantId) (grant : Grant) (grain : Grain) (app : App) (a : AccountId) (fact : Fact) → grant.giver ≡ giver.Account a → grain.owner ≡ a → grant.needs ≡ []
-    → Owns t grant.grain grain app → IsFactOf app fact → Follows t (HeldAt table) g grant (node_of g grant) fact → GaveAsOwner t g (node_of g grant) fact
-as_owner t table g grant grain app a fact given owner needs owns is follows =
-    let from : source_of grant ≡ Some (node.User grant.grain a) = ap (source_at grant.grain) given in
-    record {
-      grant = grant;
-      grain = grain;
-      app = app;
-      through = (follows_source t (HeldAt table) g grant (node.User grant.grain a) (node_of g grant) fact from follows).0;
-      there = refl;
-      source = subst (λ (b : AccountId). source_of grant ≡ Some (node.User grant.grain b)) (sym owner) from;
-      needs = needs;
-      owns = owns;
-      fact_of = is;
-    }
-
 pub other_grant : (a b : GrantId) → true ≡ not (eqb a.0 b.0) → a ≢ b
 other_grant a b e same = (let one : eqb a.0 b.0 ≡ true = eq-eqb a.0 b.0 (ap (λ (g : GrantId). g.0) same) in cc)
 
--- what an owner gave by one more of the grants that go to a node
-pub given_more : (t : Tables) (into : Node → List GrantId) (at : Node) (num other : GrantId) (fact : Fact) → IsArrivalsOf t into → Contains (into at) other → other ≢ num
-    → ((grant : Grant) → IsGrant t other grant → GaveAsOwner t other (node_of other grant) fact) → IsGivenOtherwise t num at fact
-given_more t into at num other fact arrivals inside apart gave =
+-- what one more of the grants that go to a node gives from outside
+pub given_more : (t : Tables) (table : Table) (nodes : List Node) (into : Node → List GrantId) (at : Node) (num other : GrantId) (fact : Fact) → IsArrivalsOf t into → Contains (into at) other → other ≢ num
+    → ((grant : Grant) → IsGrant t other grant → Follows t (HeldAt table) other grant (node_of other grant) fact × IsFedOutside nodes grant) → IsGivenOtherwise t table nodes num at fact
+given_more t table nodes into at num other fact arrivals inside apart gave =
     let (grant, is, there) = (arrivals.exact at other).0 inside in
-    (other, apart, subst (λ (n : Node). GaveAsOwner t other n fact) there (gave grant is))
+    let both = gave grant is in
+    record { other = other; apart = apart; grant = grant; is_row = is; there = there; follows = both.0; fed = both.1 }
+
+-- a need that names no node asks nothing of one
+pub asks_none : (q : Need) (at : Node) (asked : Fact) → holder_of q ≡ None → Asks q at asked → ⊥
+asks_none (need.TokenValid h) at asked none a = cc none
+asks_none (need.PermissionsHeld holder set) at asked none a = cc none
+asks_none (need.UserIsAdmin u) at asked none a = a
 
 -- ---- by an event
 

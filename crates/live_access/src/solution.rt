@@ -6,6 +6,7 @@ ghost use Rattle.share_graph.specs.declared.facts.Fact.{Fact};
 ghost use Rattle.share_graph.specs.declared.facts.Node.{Node};
 ghost use Rattle.share_graph.specs.declared.state.State.{State};
 ghost use Rattle.share_graph.specs.Checked.{IsChecked};
+ghost use Rattle.share_graph.specs.Coherent.{IsCoherent};
 ghost use Rattle.share_graph.specs.EventFits.{EventFits};
 ghost use Rattle.share_graph.specs.History.{after};
 ghost use Rattle.share_graph.specs.Trees.{HasTree};
@@ -16,17 +17,19 @@ ghost use Rattle.region_work.specs.Starting.{bound_by, needs_by, most_evaluation
 ghost use Rattle.region_work.specs.Working.{owed_by};
 ghost use Rattle.live_access.specs.Kept.{IsSolvedFor};
 ghost use Rattle.live_access.specs.Ready.{AreSeedsFor, IsReadyFor};
+ghost use Rattle.live_access.specs.Staying.{TakesNothing};
 
 use crate::adding::added_by;
 use crate::region::Region;
 use crate::staying::{adds_nothing, takes_nothing};
-use host_base::Memory;
+use host_base::{GrantId, Memory};
 use least_access::Solved;
 use region_access::{
-    Indexes, arrivals_of, collect, drop_empty, edges_of, seeds_of, solve_anew, ties_of,
+    Indexes, arrivals_of, collect, drop_empty, edges_of, find_region, seeds_of, solve_anew, ties_of,
 };
+use region_work::emptying::empty_at;
 use region_work::{Counted, Probe, Steps, solve_region};
-use share_graph::{Event, Node, State, Tables};
+use share_graph::{Event, Node, State, Tables, grant, node_of};
 use std::alloc::Global;
 use std::marker::{Brand, Model};
 use std::sync::ledger::{Blank, Ledger};
@@ -86,32 +89,67 @@ impl Solution {
         &self.solved
     }
 
+    // Whether revoking a grant takes nothing, as far as the other grants tell that go to its node.
+    fn loses_nothing<V: Probe>(
+        &self,
+        alloc: Global,
+        probe: &V,
+        tables: &Tables,
+        num: GrantId,
+    ) -> Result<bool, Memory>
+        requires coherent { IsCoherent tables.now }
+        requires probed { V.tables probe.now ≡ tables.now }
+        requires solved { IsSolvedFor tables.now self.now }
+        ensures { IfOk result (λ nothing. IsTrue nothing → TakesNothing tables.now self.now.table num) }
+    {
+        let Some(grant) = grant(tables, num) else {
+            return Ok(false);
+        };
+        let nodes = find_region(alloc, probe, &self.indexes.edges, &[node_of(num, grant)])?;
+        let region = empty_at(alloc, nodes.as_slice())?;
+        let (table, arrivals) = (&self.solved.table, &self.indexes.arrivals);
+        Ok(takes_nothing(tables, table, arrivals, &region, num))
+    }
+
     // Whether every node holds after an event what it held, as far as a few rows tell.
-    fn stays(&self, state: &State, event: &Event) -> bool
+    fn stays<V: Probe>(
+        &self,
+        alloc: Global,
+        probe: &V,
+        state: &State,
+        event: &Event,
+    ) -> Result<bool, Memory>
         requires formed { IsWellFormed state.now }
+        requires probed { V.tables probe.now ≡ state.now.tables }
         requires fits { EventFits state.now event.now }
         requires solved { IsSolvedFor state.now.tables self.now }
-        ensures { IsTrue result → IsSolutionOf (after state.now event.now).tables self.now.table }
+        ensures { IfOk result (λ stays. IsTrue stays
+            → IsSolutionOf (after state.now event.now).tables self.now.table) }
     {
-        let table = &self.solved.table;
+        let (tables, table) = (&state.tables, &self.solved.table);
         match event {
-            Event::GrantAdded(grant) => adds_nothing(&state.tables, table, grant),
-            Event::Claimed(grant, _) => adds_nothing(&state.tables, table, grant),
-            Event::GrantRevoked(num) => {
-                takes_nothing(&state.tables, table, &self.indexes.arrivals, *num)
-            }
-            _ => false,
+            Event::GrantAdded(grant) => Ok(adds_nothing(tables, table, grant)),
+            Event::Claimed(grant, _) => Ok(adds_nothing(tables, table, grant)),
+            Event::GrantRevoked(num) => self.loses_nothing(alloc, probe, tables, *num),
+            _ => Ok(false),
         }
     }
 
     // The seeds of the region of an event: none where every node holds what it held.
-    fn seeds(&self, alloc: Global, state: &State, event: &Event) -> Result<Vec<Node>, Memory>
+    fn seeds<V: Probe>(
+        &self,
+        alloc: Global,
+        probe: &V,
+        state: &State,
+        event: &Event,
+    ) -> Result<Vec<Node>, Memory>
         requires formed { IsWellFormed state.now }
+        requires probed { V.tables probe.now ≡ state.now.tables }
         requires fits { EventFits state.now event.now }
         requires solved { IsSolvedFor state.now.tables self.now }
         ensures { IfOk result (λ seeds. AreSeedsFor state.now event.now self.now.table seeds.items) }
     {
-        if self.stays(state, event) {
+        if self.stays(alloc, probe, state, event)? {
             return Ok(Vec::new(alloc));
         }
         seeds_of(alloc, &state.tables, &self.indexes.ties, event)
@@ -134,12 +172,12 @@ impl Solution {
         ensures ok { IfOk result (IsReadyFor state.now event.now self.new) }
         ensures err { OnErr result (IsSolvedFor state.now.tables self.new) }
     {
-        let seeds = self.seeds(alloc, state, event)?;
-        let added = added_by(alloc, event)?;
         let probe = Counted {
             tables: &state.tables,
             steps: Steps::<L>::new(blank),
         };
+        let seeds = self.seeds(alloc, &probe, state, event)?;
+        let added = added_by(alloc, event)?;
         let room = region_access::prepare(
             alloc,
             &probe,

@@ -1,6 +1,6 @@
 //! Events after which every node holds what it held, seen from a few rows.
 
-ghost use Rattle.std.specs.Prelude.{◌≡◌, ◌↔◌, [], Some, ℕ, IsTrue, IfSome, length};
+ghost use Rattle.std.specs.Prelude.{◌≡◌, ◌↔◌, [], ◌∷◌, List, Some, ℕ, IsSome, IsTrue, IfSome, length};
 ghost use Rattle.perm_roles.specs.PermSet.{Has};
 ghost use Rattle.perm_roles.specs.Roles.{GivesPermission as AssignmentGives};
 ghost use Rattle.share_graph.specs.declared.facts.Fact.{Fact};
@@ -8,24 +8,27 @@ ghost use Rattle.share_graph.specs.declared.facts.Node.{Node};
 ghost use Rattle.share_graph.specs.declared.grants.Grant.{Grant};
 ghost use Rattle.share_graph.specs.declared.rows.App as the_app;
 ghost use Rattle.share_graph.specs.Coherent.{IsCoherent};
+ghost use Rattle.share_graph.specs.Derivation.{Asks, Follows};
 ghost use Rattle.share_graph.specs.Fitting.{IsAssignmentFor, IsSoundManifest};
 ghost use Rattle.share_graph.specs.Nodes.{node_of as the_node_of, source_of as the_source_of, Gives};
 ghost use Rattle.share_graph.specs.Rows.{IsAppOf, IsGrant};
 ghost use Rattle.least_access.specs.Held.{IsIn};
-ghost use Rattle.least_access.specs.Solved.{HeldAt};
+ghost use Rattle.least_access.specs.Solved.{held_at, HeldAt};
 ghost use Rattle.region_access.specs.Arriving.{IsArrivalsOf};
 ghost use Rattle.region_work.specs.Fed.{fed_in};
-ghost use Rattle.live_access.specs.Staying.{AddsNothing, GaveAsOwner, IsGivenOtherwise, TakesNothing};
+ghost use Rattle.region_access.specs.Reaching.{IsRegionOf};
+ghost use Rattle.region_work.specs.Emptying.{IsEmptyAt};
+ghost use Rattle.live_access.specs.Staying.{AddsNothing, IsFedOutside, IsGivenOtherwise, TakesNothing};
 
 use host_base::GrantId;
+use least_access::Held;
 use least_access::passing::passed;
 use least_access::table::{Table, holding};
-use least_access::{Held, owned};
 use perm_roles::PermSet;
 use region_work::edges::{Edges, fed_by};
+use region_work::meeting::holder_of;
 use share_graph::{
-    App, Giver, Grant, Node, Tables, app as find_app, app_of, grain as find_grain,
-    grant as find_grant, node_of, source_of,
+    App, Grant, Need, Node, Tables, app_of, grant as find_grant, node_of, source_of,
 };
 
 // Whether the first holds all that the second does.
@@ -33,16 +36,6 @@ fn covers(held: &Held, other: &Held) -> bool
     ensures { IsTrue result → (fact : Fact) → IsIn other.now fact → IsIn held.now fact }
 {
     (held.entry || !other.entry) && held.perms.contains(&other.perms)
-}
-
-// What both hold.
-fn common(held: &Held, other: &Held) -> Held
-    ensures { (fact : Fact) → IsIn result fact ↔ (IsIn held.now fact × IsIn other.now fact) }
-{
-    Held {
-        entry: held.entry && other.entry,
-        perms: held.perms.meet(&other.perms),
-    }
 }
 
 // What a grant gives by the application of its grain.
@@ -86,72 +79,89 @@ pub(crate) fn adds_nothing(tables: &Tables, table: &Table, grant: &Grant) -> boo
     }
 }
 
-// What an owner gave by a grant that needs nothing.
-fn owner_gave(tables: &Tables, table: &Table, num: GrantId, grant: &Grant) -> Held
-    requires coherent { IsCoherent tables.now }
-    requires row { IsGrant tables.now num grant.now }
-    requires none { grant.now.needs ≡ [] }
-    ensures { (fact : Fact) → IsIn result fact → GaveAsOwner tables.now num (the_node_of num grant.now) fact }
+// Whether a need names no node of a region.
+fn names_none(need: &Need, region: &Table) -> bool
+    ensures { IsTrue result → (at : Node) (asked : Fact) → Asks need.now at asked
+        → IsSome (held_at region.now.entries at) → ⊥ }
 {
-    let Giver::Account(giver) = grant.giver else {
-        return Held::none();
-    };
-    let Some(grain) = find_grain(tables, grant.grain) else {
-        return Held::none();
-    };
-    let Some(app) = find_app(tables, grain.app) else {
-        return Held::none();
-    };
-    if grain.owner != giver {
-        return Held::none();
+    match holder_of(need) {
+        Some(node) => !region.contains_key(&node),
+        None => true,
     }
-    common(
-        &owned(tables, grant.grain, grain, app),
-        &passed(tables, table, num, grant),
-    )
 }
 
-// What an owner gave by the grant of a number, if it needs nothing.
-fn gave_as_owner(tables: &Tables, table: &Table, num: GrantId) -> Held
-    requires coherent { IsCoherent tables.now }
-    ensures { (fact : Fact) (grant : Grant) → IsGrant tables.now num grant → IsIn result fact
-        → GaveAsOwner tables.now num (the_node_of num grant) fact }
+// Whether a grant is fed from outside of a region alone.
+fn is_fed_outside(region: &Table, grant: &Grant) -> bool
+    ensures { IsTrue result → (nodes : List Node) → IsEmptyAt nodes region.now.entries
+        → IsFedOutside nodes grant.now }
+{
+    match source_of(grant) {
+        Some(from) => {
+            !region.contains_key(&from)
+                && grant
+                    .needs
+                    .as_slice()
+                    .iter()
+                    .all(|need| names_none(need, region))
+        }
+        None => false,
+    }
+}
+
+// What the grant of a number passes on, if it is fed from outside of a region alone.
+fn gave_from_outside(tables: &Tables, table: &Table, region: &Table, num: GrantId) -> Held
+    requires { IsCoherent tables.now }
+    ensures { (nodes : List Node) (fact : Fact) (grant : Grant) → IsEmptyAt nodes region.now.entries
+        → IsGrant tables.now num grant → IsIn result fact → Follows tables.now (HeldAt table.now.entries) num grant
+        (the_node_of num grant) fact × IsFedOutside nodes grant }
 {
     match find_grant(tables, num) {
-        Some(grant) if grant.needs.as_slice().is_empty() => owner_gave(tables, table, num, grant),
+        Some(grant) if is_fed_outside(region, grant) => passed(tables, table, num, grant),
         _ => Held::none(),
     }
 }
 
-// Whether an owner gave all of this to a node by other grants.
+// Whether other grants give a node all of this, from outside of its region.
 fn is_given_otherwise(
     tables: &Tables,
     table: &Table,
     arrivals: &Edges,
+    region: &Table,
     at: Node,
     num: GrantId,
     passed: &Held,
 ) -> bool
     requires coherent { IsCoherent tables.now }
     requires arrivals { IsArrivalsOf tables.now (fed_in arrivals.now.entries) }
-    ensures { IsTrue result → (fact : Fact) → IsIn passed.now fact → IsGivenOtherwise tables.now num at fact }
+    ensures { IsTrue result → (nodes : List Node) (fact : Fact) → IsEmptyAt nodes region.now.entries
+        → IsIn passed.now fact → IsGivenOtherwise tables.now table.now.entries nodes num at fact }
 {
     let mut given = Held::none();
-    for other in fed_by(arrivals, at) {
+    let fed = fed_by(arrivals, at);
+    for k in (0..fed.len()).rev() {
+        let other = fed[k];
         if covers(&given, passed) {
             return true;
         }
-        if *other != num {
-            given = given.union(&gave_as_owner(tables, table, *other));
+        if other != num {
+            given = given.union(&gave_from_outside(tables, table, region, other));
         }
     }
     covers(&given, passed)
 }
 
-/// Whether revoking a grant takes nothing.
-pub(crate) fn takes_nothing(tables: &Tables, table: &Table, arrivals: &Edges, num: GrantId) -> bool
+/// Whether revoking a grant takes nothing. The region has a place for each node that its node reaches.
+pub(crate) fn takes_nothing(
+    tables: &Tables,
+    table: &Table,
+    arrivals: &Edges,
+    region: &Table,
+    num: GrantId,
+) -> bool
     requires coherent { IsCoherent tables.now }
     requires arrivals { IsArrivalsOf tables.now (fed_in arrivals.now.entries) }
+    requires region { (nodes : List Node) × IsEmptyAt nodes region.now.entries × ((grant : Grant)
+        → IsGrant tables.now num grant → IsRegionOf tables.now (the_node_of num grant ∷ []) nodes) }
     ensures { IsTrue result → TakesNothing tables.now table.now.entries num }
 {
     let Some(grant) = find_grant(tables, num) else {
@@ -161,5 +171,13 @@ pub(crate) fn takes_nothing(tables: &Tables, table: &Table, arrivals: &Edges, nu
         return false;
     }
     let passed = passed(tables, table, num, grant);
-    is_given_otherwise(tables, table, arrivals, node_of(num, grant), num, &passed)
+    is_given_otherwise(
+        tables,
+        table,
+        arrivals,
+        region,
+        node_of(num, grant),
+        num,
+        &passed,
+    )
 }
