@@ -9,3 +9,6 @@ pub mod Steps
 pub mod Views
 pub mod Strongest
 pub mod Insertion
+pub mod Order
+pub mod Walk
+pub mod Forms

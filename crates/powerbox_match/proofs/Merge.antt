@@ -9,8 +9,9 @@ use Rattle.std.specs.Str.{bytes_eq}
 use Rattle.std.proofs.lemmas.Cmp.{nat_list_cmp_total, nat_list_eq_equiv, tied_itself}
 use Rattle.std.proofs.lemmas.List.{drop_more}
 use Rattle.std.proofs.lemmas.Map.Text.{is_eq-slice_cmp}
-use Rattle.powerbox_match.specs.Value.{TagData, FieldsData, no_fields, field, is_below, is_ascending, is_tidy, are_fields_tidy, tag_data, fields_data}
+use Rattle.powerbox_match.specs.Value.{TagData, FieldsData, no_fields, field, is_below, is_ascending, tag_data, fields_data}
 use Rattle.powerbox_match.specs.Matching.{get_field, value_matches, fields_match}
+use Rattle.powerbox_match.specs.Sorted.{is_sorted, are_fields_sorted}
 use Rattle.powerbox_match.specs.Steps.{fields_not_below}
 use Rattle.powerbox_match.proofs.Tidy.{Entry, is_ascending-drop}
 
@@ -97,13 +98,13 @@ pub is_ascending-fields_not_below : (k : List ℕ) (gs : List Entry) → is_asce
 is_ascending-fields_not_below k [] h = h
 is_ascending-fields_not_below k (g ∷ gs) h = is_ascending-fields_not_below_at _ k g gs (is_ascending-fields_not_below k gs (second_so _ _ h)) h
 
-are_fields_tidy-fields_not_below_at : (b : Bool) (k : List ℕ) (g : Entry) (gs : List Entry) → are_fields_tidy (fields_data (fields_not_below k gs)) ≡ true → are_fields_tidy (fields_data (g ∷ gs)) ≡ true → are_fields_tidy (fields_data (cond b (fields_not_below k gs) (g ∷ gs))) ≡ true
-are_fields_tidy-fields_not_below_at true k g gs later here = later
-are_fields_tidy-fields_not_below_at false k g gs later here = here
+are_fields_sorted-fields_not_below_at : (b : Bool) (k : List ℕ) (g : Entry) (gs : List Entry) → are_fields_sorted (fields_data (fields_not_below k gs)) ≡ true → are_fields_sorted (fields_data (g ∷ gs)) ≡ true → are_fields_sorted (fields_data (cond b (fields_not_below k gs) (g ∷ gs))) ≡ true
+are_fields_sorted-fields_not_below_at true k g gs later here = later
+are_fields_sorted-fields_not_below_at false k g gs later here = here
 
-pub are_fields_tidy-fields_not_below : (k : List ℕ) (gs : List Entry) → are_fields_tidy (fields_data gs) ≡ true → are_fields_tidy (fields_data (fields_not_below k gs)) ≡ true
-are_fields_tidy-fields_not_below k [] h = h
-are_fields_tidy-fields_not_below k (g ∷ gs) h = are_fields_tidy-fields_not_below_at _ k g gs (are_fields_tidy-fields_not_below k gs (second_so _ _ h)) h
+pub are_fields_sorted-fields_not_below : (k : List ℕ) (gs : List Entry) → are_fields_sorted (fields_data gs) ≡ true → are_fields_sorted (fields_data (fields_not_below k gs)) ≡ true
+are_fields_sorted-fields_not_below k [] h = h
+are_fields_sorted-fields_not_below k (g ∷ gs) h = are_fields_sorted-fields_not_below_at _ k g gs (are_fields_sorted-fields_not_below k gs (second_so _ _ h)) h
 
 first_at : (b : Bool) (k : List ℕ) (g h : Entry) (gs : List Entry) → is_lt (slice_cmp nat_cmp g.0 k) ≡ b → (Some h ≡ slice_get (fields_not_below k gs) 0 → is_lt (slice_cmp nat_cmp h.0 k) ≡ false)
     → Some h ≡ slice_get (cond b (fields_not_below k gs) (g ∷ gs)) 0 → is_lt (slice_cmp nat_cmp h.0 k) ≡ false
@@ -168,11 +169,11 @@ pub fields_not_below_again : (k : List ℕ) (gs : List Entry) → fields_not_bel
 fields_not_below_again k [] = refl
 fields_not_below_again k (g ∷ gs) = fields_not_below_again_at _ k g gs refl (fields_not_below_again k gs)
 
--- a field of a tidy list is tidy
-pub get_field_tidy : (k : List ℕ) (fs : FieldsData) (v : TagData) → Some v ≡ get_field k fs → are_fields_tidy fs ≡ true → is_tidy v ≡ true
-get_field_tidy k no_fields v e h = absurd (cc)
-get_field_tidy k (field l w fs) v e h = get_field_tidy_at (bytes_eq k l) v w (get_field k fs) e (first_so _ _ h) (λ f. get_field_tidy k fs v f (second_so _ _ h))
+-- a field of a list that is sorted within is sorted
+pub get_field_sorted : (k : List ℕ) (fs : FieldsData) (v : TagData) → Some v ≡ get_field k fs → are_fields_sorted fs ≡ true → is_sorted v ≡ true
+get_field_sorted k no_fields v e h = absurd (cc)
+get_field_sorted k (field l w fs) v e h = get_field_sorted_at (bytes_eq k l) v w (get_field k fs) e (first_so _ _ h) (λ f. get_field_sorted k fs v f (second_so _ _ h))
   where
-    get_field_tidy_at : (b : Bool) (v w : TagData) (later : Option TagData) → Some v ≡ cond b (Some w) later → is_tidy w ≡ true → (Some v ≡ later → is_tidy v ≡ true) → is_tidy v ≡ true
-    get_field_tidy_at true v w later e here there = let is : v ≡ w = cc in rw is here
-    get_field_tidy_at false v w later e here there = there e
+    get_field_sorted_at : (b : Bool) (v w : TagData) (later : Option TagData) → Some v ≡ cond b (Some w) later → is_sorted w ≡ true → (Some v ≡ later → is_sorted v ≡ true) → is_sorted v ≡ true
+    get_field_sorted_at true v w later e here there = let is : v ≡ w = cc in rw is here
+    get_field_sorted_at false v w later e here there = there e

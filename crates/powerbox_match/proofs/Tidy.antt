@@ -5,6 +5,7 @@ use Rattle.std.proofs.lemmas.Bool.Decides.{nat_tests}
 use Rattle.std.proofs.lemmas.List.Recursion.{and_at, max_bounds}
 use Rattle.powerbox_match.specs.declared.value.TagValue.{TagValue}
 use Rattle.powerbox_match.specs.Value.{TagData, nesting, is_within_limits, items_nesting, fields_nesting, is_tidy, is_ascending, are_fields_tidy, are_items_tidy, tag_data, fields_data, items_data}
+use Rattle.powerbox_match.specs.Sorted.{is_sorted, are_fields_sorted, are_items_sorted}
 
 -- a field as a clause sees it
 abbrev pub Entry : Type 0
@@ -17,6 +18,14 @@ items_tidy_at = and_at (λ ys. are_items_tidy (items_data ys)) (λ v. is_tidy (t
 -- a field's value in a tidy list is tidy
 pub fields_tidy_at : (xs : List Entry) (i : ℕ) (d : Entry) → i < length xs → are_fields_tidy (fields_data xs) ≡ true → is_tidy (tag_data (get_or xs i d).1) ≡ true
 fields_tidy_at = and_at (λ ys. are_fields_tidy (fields_data ys)) (λ f. is_tidy (tag_data f.1)) refl (λ _ _. refl)
+
+-- an item of a list that is sorted within is sorted
+pub items_sorted_at : (xs : List TagValue) (i : ℕ) (d : TagValue) → i < length xs → are_items_sorted (items_data xs) ≡ true → is_sorted (tag_data (get_or xs i d)) ≡ true
+items_sorted_at = and_at (λ ys. are_items_sorted (items_data ys)) (λ v. is_sorted (tag_data v)) refl (λ _ _. refl)
+
+-- and a field's value
+pub fields_sorted_at : (xs : List Entry) (i : ℕ) (d : Entry) → i < length xs → are_fields_sorted (fields_data xs) ≡ true → is_sorted (tag_data (get_or xs i d).1) ≡ true
+fields_sorted_at = and_at (λ ys. are_fields_sorted (fields_data ys)) (λ f. is_sorted (tag_data f.1)) refl (λ _ _. refl)
 
 -- what is left of an ascending list ascends
 pub is_ascending-drop : (i : ℕ) (xs : List Entry) → is_ascending (fields_data xs) ≡ true → is_ascending (fields_data (drop i xs)) ≡ true

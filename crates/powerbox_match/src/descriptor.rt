@@ -1,8 +1,10 @@
 //! Tags, descriptors and queries, each within its limits.
 
-ghost use Rattle.std.specs.Prelude.{◌≡◌, ◌≤◌, IsTrue, length};
+ghost use Rattle.std.specs.Prelude.{◌≡◌, ◌≤◌, IfOk, IsTrue, length};
 ghost use Rattle.powerbox_match.specs.Value.{nesting, is_tidy, is_within_limits, tag_data};
+ghost use Rattle.powerbox_match.specs.Sorted.{is_sorted, MatchesAlike};
 
+use crate::sorted::sorted_form;
 use crate::value::{Quality, TagValue};
 use plain_data::List;
 use std::alloc::AllocError;
@@ -11,11 +13,13 @@ use std::marker::Model;
 /// A statement about an object: an id that says what is stated, and a value.
 ///
 /// The value nests at most 16 deep, each list in it has at most 1,000 entries, and the names of
-/// fields ascend by their bytes, so that none stands twice.
+/// fields ascend by their bytes, so that none stands twice. A form of it in which the items of
+/// each list stand in order is kept beside it, for matching.
 #[derive(Drop)]
 pub struct Tag {
     id: u64,
     value: TagValue,
+    sorted: TagValue,
 }
 
 impl Model for Tag {
@@ -23,6 +27,7 @@ impl Model for Tag {
     ghost use Rattle.std.specs.Coded.{coded×, coded_ℕ};
     ghost use Rattle.powerbox_match.specs.Value.{TagData, tag_data, nesting, is_tidy};
     ghost use Rattle.powerbox_match.specs.Code.{value_code};
+    ghost use Rattle.powerbox_match.specs.Sorted.{IsSortedForm};
 
     ghost Value = { ℕ × TagData };
 
@@ -30,16 +35,20 @@ impl Model for Tag {
 
     ghost view = { λ tag. (tag.id, tag_data tag.value) };
 
-    ghost invariant = { λ tag. (nesting (tag_data tag.value) ≤ 16) × IsTrue (is_tidy (tag_data tag.value)) };
+    ghost invariant = { λ tag. (nesting (tag_data tag.value) ≤ 16) × IsTrue (is_tidy (tag_data tag.value))
+        × IsSortedForm (tag_data tag.sorted) (tag_data tag.value) };
 }
 
 impl Tag {
     /// The tag of an id and a value that is within the limits of a tag.
-    pub fn new(id: u64, value: TagValue) -> Self
+    ///
+    /// Its only error is want of memory.
+    pub fn new(id: u64, value: TagValue) -> Result<Self, AllocError>
         requires { IsTrue (is_within_limits (tag_data value)) }
-        ensures { result ≡ (id, tag_data value) }
+        ensures { IfOk result (λ tag. tag ≡ (id, tag_data value)) }
     {
-        Tag { id, value }
+        let sorted = sorted_form(&value)?;
+        Ok(Tag { id, value, sorted })
     }
 
     /// The id, which says what the tag states.
@@ -58,6 +67,14 @@ impl Tag {
     {
         &self.value
     }
+
+    // The value in the form in which it is compared.
+    pub(crate) fn sorted(&self) -> &TagValue
+        ensures alike { MatchesAlike (tag_data result.now) self.now.1 }
+        ensures sorted { IsTrue (is_sorted (tag_data result.now)) }
+    {
+        &self.sorted
+    }
 }
 
 impl Clone for Tag {
@@ -65,7 +82,12 @@ impl Clone for Tag {
 
     fn clone(&self) -> Result<Tag, AllocError> {
         let value = self.value.clone()?;
-        Ok(Tag { id: self.id, value })
+        let sorted = self.sorted.clone()?;
+        Ok(Tag {
+            id: self.id,
+            value,
+            sorted,
+        })
     }
 }
 

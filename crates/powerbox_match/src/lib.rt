@@ -11,6 +11,7 @@ mod limits;
 mod matching;
 mod reading;
 mod shape;
+mod sorted;
 mod value;
 
 pub use choices::{Choice, Choices};

@@ -1,18 +1,21 @@
 //! When a query matches offers, and with which quality.
 
 ghost use Rattle.std.specs.Prelude.{◌≡◌, IsTrue, option_map};
-ghost use Rattle.powerbox_match.specs.Value.{is_tidy, is_ascending, are_fields_tidy, are_items_tidy, tag_data, fields_data, items_data};
-ghost use Rattle.powerbox_match.specs.Matching.{value_matches, fields_match, get_field, items_match, any_item, tag_matches, descriptor_matches, pair_quality, matches_with, match_of};
-ghost use Rattle.powerbox_match.specs.Steps.{fields_not_below, strongest, stronger};
+ghost use Rattle.std.specs.Ordering.{is_lt};
+ghost use Rattle.powerbox_match.specs.Value.{TagData, is_ascending, tag_data, fields_data, items_data};
+ghost use Rattle.powerbox_match.specs.Matching.{value_matches, fields_match, get_field, items_match, any_item, tag_matches, descriptor_matches, pair_quality, matches_with, some_match, match_of};
+ghost use Rattle.powerbox_match.specs.Sorted.{item_cmp, is_in_order, is_sorted, are_fields_sorted, are_items_sorted};
+ghost use Rattle.powerbox_match.specs.Steps.{fields_not_below, items_not_before, begins_with_any, begins_with_number, is_unacceptable, strongest, stronger};
 
 use crate::descriptor::{Descriptor, Query, Tag};
+use crate::sorted::item_order;
 use crate::value::{Quality, TagValue};
 use plain_data::Name;
 
 #[cycle(matching)]
 fn value_matches(wanted: &TagValue, given: &TagValue) -> bool
-    requires wanted_tidy { IsTrue (is_tidy (tag_data wanted.now)) }
-    requires given_tidy { IsTrue (is_tidy (tag_data given.now)) }
+    requires wanted_sorted { IsTrue (is_sorted (tag_data wanted.now)) }
+    requires given_sorted { IsTrue (is_sorted (tag_data given.now)) }
     ensures { result ≡ value_matches (tag_data wanted.now) (tag_data given.now) }
 {
     match (wanted, given) {
@@ -30,9 +33,9 @@ fn value_matches(wanted: &TagValue, given: &TagValue) -> bool
 #[cycle(matching)]
 fn fields_match(wanted: &[(Name, TagValue)], given: &[(Name, TagValue)]) -> bool
     requires wanted_ascending { IsTrue (is_ascending (fields_data wanted.now)) }
-    requires wanted_tidy { IsTrue (are_fields_tidy (fields_data wanted.now)) }
+    requires wanted_sorted { IsTrue (are_fields_sorted (fields_data wanted.now)) }
     requires given_ascending { IsTrue (is_ascending (fields_data given.now)) }
-    requires given_tidy { IsTrue (are_fields_tidy (fields_data given.now)) }
+    requires given_sorted { IsTrue (are_fields_sorted (fields_data given.now)) }
     ensures { result ≡ fields_match (fields_data wanted.now) (fields_data given.now) }
 {
     let mut rest = given;
@@ -74,32 +77,122 @@ fn first_named<'a>(name: &Name, fields: &'a [(Name, TagValue)]) -> Option<&'a Ta
     }
 }
 
+// Both lists stand in order, so one walk over the two is enough for numbers and texts.
 #[cycle(matching)]
-#[tactic(auto, using(crate::proofs::Tidy::items_tidy_at))]
 fn items_match(wanted: &[TagValue], given: &[TagValue]) -> bool
-    requires wanted_tidy { IsTrue (are_items_tidy (items_data wanted.now)) }
-    requires given_tidy { IsTrue (are_items_tidy (items_data given.now)) }
+    requires wanted_in_order { IsTrue (is_in_order (items_data wanted.now)) }
+    requires wanted_sorted { IsTrue (are_items_sorted (items_data wanted.now)) }
+    requires given_in_order { IsTrue (is_in_order (items_data given.now)) }
+    requires given_sorted { IsTrue (are_items_sorted (items_data given.now)) }
     ensures { result ≡ items_match (items_data wanted.now) (items_data given.now) }
 {
+    if begins_with_any(given) {
+        return true;
+    }
+    let mut rest = given;
     for item in wanted {
-        if !some_item_matches(item, given) {
+        rest = items_not_before(item, rest);
+        if !some_item_matches(item, rest) {
             return false;
         }
     }
     true
 }
 
+// Anything stands before all else.
+fn begins_with_any(items: &[TagValue]) -> bool
+    ensures { result ≡ begins_with_any (items_data items.now) }
+{
+    match items.first() {
+        Some(TagValue::Any) => true,
+        _ => false,
+    }
+}
+
+// The items without those in front that stand before a value.
+fn items_not_before<'a>(value: &TagValue, items: &'a [TagValue]) -> &'a [TagValue]
+    ensures { result.now ≡ items_not_before (tag_data value.now) items.now }
+{
+    match value {
+        TagValue::Number(number) => items_from_number(number, items),
+        _ => items_from(value, items),
+    }
+}
+
+fn items_from<'a>(value: &TagValue, items: &'a [TagValue]) -> &'a [TagValue]
+    ensures { result.now ≡ items_not_before (tag_data value.now) items.now }
+{
+    for (place, item) in items.iter().enumerate() {
+        if !item_order(item, value).is_lt() {
+            return &items[place..];
+        }
+    }
+    &[]
+}
+
+fn items_from_number<'a>(number: &i128, items: &'a [TagValue]) -> &'a [TagValue]
+    ensures { result.now ≡ items_not_before (TagData.number number.now) items.now }
+{
+    for (place, item) in items.iter().enumerate() {
+        if !is_before_number(item, number) {
+            return &items[place..];
+        }
+    }
+    &[]
+}
+
+fn is_before_number(item: &TagValue, number: &i128) -> bool
+    ensures { result ≡ is_lt (item_cmp (tag_data item.now) (TagData.number number.now)) }
+{
+    match item {
+        TagValue::Any => true,
+        TagValue::Number(other) => other < number,
+        TagValue::Text(_) => false,
+        TagValue::Fields(_) => false,
+        TagValue::Items(_) => false,
+    }
+}
+
 #[cycle(matching)]
-#[tactic(auto, using(crate::proofs::Tidy::items_tidy_at))]
 fn some_item_matches(wanted: &TagValue, given: &[TagValue]) -> bool
-    requires wanted_tidy { IsTrue (is_tidy (tag_data wanted.now)) }
-    requires given_tidy { IsTrue (are_items_tidy (items_data given.now)) }
+    requires wanted_sorted { IsTrue (is_sorted (tag_data wanted.now)) }
+    requires given_in_order { IsTrue (is_in_order (items_data given.now)) }
+    requires given_sorted { IsTrue (are_items_sorted (items_data given.now)) }
+    requires from_there { items_not_before (tag_data wanted.now) given.now ≡ given.now }
+    ensures { result
+        ≡ any_item (λ v. value_matches (tag_data wanted.now) v) (items_data given.now) }
+{
+    match wanted {
+        TagValue::Number(number) => begins_with_number(number, given),
+        _ => matches_one_of(wanted, given),
+    }
+}
+
+// A number that is among items from it on is the first of them.
+fn begins_with_number(number: &i128, items: &[TagValue]) -> bool
+    ensures { result ≡ begins_with_number number.now (items_data items.now) }
+{
+    match items.first() {
+        Some(TagValue::Number(other)) => number == other,
+        _ => false,
+    }
+}
+
+// Goes no further than the first item that a value stands before.
+#[cycle(matching)]
+fn matches_one_of(wanted: &TagValue, given: &[TagValue]) -> bool
+    requires wanted_sorted { IsTrue (is_sorted (tag_data wanted.now)) }
+    requires given_in_order { IsTrue (is_in_order (items_data given.now)) }
+    requires given_sorted { IsTrue (are_items_sorted (items_data given.now)) }
     ensures { result
         ≡ any_item (λ v. value_matches (tag_data wanted.now) v) (items_data given.now) }
 {
     for item in given {
         if value_matches(wanted, item) {
             return true;
+        }
+        if item_order(wanted, item).is_lt() {
+            return false;
         }
     }
     false
@@ -109,7 +202,7 @@ fn tag_matches(wanted: &Tag, given: &[Tag]) -> bool
     ensures { result ≡ tag_matches wanted.now given.now }
 {
     for tag in given {
-        if tag.id() == wanted.id() && value_matches(wanted.value(), tag.value()) {
+        if tag.id() == wanted.id() && value_matches(wanted.sorted(), tag.sorted()) {
             return true;
         }
     }
@@ -127,16 +220,35 @@ fn descriptor_matches(wanted: &Descriptor, given: &Descriptor) -> bool
     true
 }
 
-// The strongest quality with which a descriptor matches some offer.
+// The strongest quality with which a descriptor matches some offer. It looks no further once that
+// is unacceptable.
 fn strongest_match(wanted: &Descriptor, offers: &[Descriptor]) -> Option<Quality>
     ensures { result ≡ strongest
         (λ quality. matches_with quality wanted.now offers.now) }
 {
     let mut found = None;
     for offer in offers {
+        if is_unacceptable(found) {
+            return found;
+        }
         if descriptor_matches(wanted, offer) {
             found = stronger(found, Some(pair_quality(wanted.quality(), offer.quality())));
         }
+    }
+    found
+}
+
+// The strongest quality with which some descriptor matches some offer. It looks no further once
+// that is unacceptable.
+fn strongest_of(query: &[Descriptor], offers: &[Descriptor]) -> Option<Quality>
+    ensures { result ≡ strongest (λ quality. some_match quality query.now offers.now) }
+{
+    let mut found = None;
+    for wanted in query {
+        if is_unacceptable(found) {
+            return found;
+        }
+        found = stronger(found, strongest_match(wanted, offers));
     }
     found
 }
@@ -148,11 +260,7 @@ fn strongest_match(wanted: &Descriptor, offers: &[Descriptor]) -> Option<Quality
 pub fn matches(query: &Query, offers: &[Descriptor]) -> Option<Quality>
     ensures { result ≡ match_of query.now offers.now }
 {
-    let mut found = None;
-    for wanted in query.as_slice() {
-        found = stronger(found, strongest_match(wanted, offers));
-    }
-    match found {
+    match strongest_of(query.as_slice(), offers) {
         Some(Quality::Unacceptable) => None,
         Some(Quality::Preferred) => Some(Quality::Preferred),
         Some(Quality::Acceptable) => Some(Quality::Acceptable),
@@ -167,6 +275,17 @@ fn pair_quality(wanted: Quality, given: Quality) -> Quality
         (Quality::Unacceptable, _) | (_, Quality::Unacceptable) => Quality::Unacceptable,
         (Quality::Preferred, _) | (_, Quality::Preferred) => Quality::Preferred,
         (Quality::Acceptable, Quality::Acceptable) => Quality::Acceptable,
+    }
+}
+
+// Whether nothing is stronger.
+fn is_unacceptable(quality: Option<Quality>) -> bool
+    ensures { result ≡ is_unacceptable quality }
+{
+    match quality {
+        Some(Quality::Unacceptable) => true,
+        Some(_) => false,
+        None => false,
     }
 }
 

@@ -98,7 +98,7 @@ fn tag_from(alloc: Global, item: &Value) -> Result<Tag, ShapeFault>
         return Err(BAD_TAGS);
     };
     let value = stated_or_any(alloc, item.get("value"))?;
-    Ok(Tag::new(id, value))
+    Ok(Tag::new(id, value)?)
 }
 
 fn stated_or_any(alloc: Global, value: Option<&Value>) -> Result<TagValue, ShapeFault>

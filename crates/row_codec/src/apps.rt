@@ -90,7 +90,7 @@ impl RowField for Tag {
     fn read_field(alloc: Global, reader: &mut Reader) -> Result<Tag, ReadError> {
         let id = reader.u64()?;
         let value = value_of(alloc, reader, DEPTH)?;
-        Ok(Tag::new(id, value))
+        Ok(Tag::new(id, value)?)
     }
 
     fn write_field(&self, writer: &mut Writer) -> Result<(), Memory> {

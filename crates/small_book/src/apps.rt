@@ -44,7 +44,7 @@ fn offers(alloc: Global, id: u64) -> Result<Descriptors, Memory>
     ensures { IfOk result (λ rows. rows ≡ offer id ∷ []) }
 {
     let mut tags = Vec::new(alloc);
-    tags.push(Tag::new(id, TagValue::Any))?;
+    tags.push(Tag::new(id, TagValue::Any)?)?;
     let mut list = List::empty(alloc);
     list.push(Descriptor::new(tags, Quality::Acceptable))?;
     Ok(list)

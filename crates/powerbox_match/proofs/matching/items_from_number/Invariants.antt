@@ -1,0 +1,7 @@
+use Rattle.std.proofs.Common.{◌≡◌, drop}
+use Rattle.powerbox_match.specs.Value.{number}
+use Rattle.powerbox_match.specs.Steps.{items_not_before}
+use Rattle.powerbox_match.proofs.matching.items_from_number.Given as goal
+
+abbrev pub invariant-loop-place : goal.invariant-loop-place
+invariant-loop-place l = items_not_before (number l.number) (drop l.place l.items) ≡ items_not_before (number l.number) l.items
