@@ -1,5 +1,7 @@
 pub mod Rooms
 pub mod Nodes
+pub mod Kept
+pub mod OwnNodes
 pub mod NeedTests
 pub mod Following
 pub mod Raising

@@ -1,3 +1,4 @@
 pub mod Held
 pub mod Solved
+pub mod Entered
 pub mod Rounds

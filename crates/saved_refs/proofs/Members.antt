@@ -1,38 +1,19 @@
--- Lists in which each element stands before all later ones: what is kept of such a list, and one such list after another, is one again,
--- and its members make one such list.
-use Rattle.std.proofs.Common.{◌≡◌, ◌∙◌, ◌⊎◌, ◌++◌, zero, suc, List, [], ◌∷◌, Contains, Option, Some, None, refl, sym, subst, arith, inl, inr}
-use Rattle.std.specs.List.{AllPairs, cons_option, filter_map}
+-- Lists in which each element stands before all later ones: one such list after another is one again, and its members make one such list.
+use Rattle.std.proofs.Common.{◌≡◌, ◌∙◌, ◌⊎◌, ◌++◌, zero, suc, List, [], ◌∷◌, Contains, refl, sym, subst, arith, inl, inr}
+use Rattle.std.specs.List.{AllPairs}
 use Rattle.std.proofs.lemmas.List.Elements.{Contains-append_cases, Contains-get_or}
 use Rattle.std.proofs.lemmas.List.Kept.{AllPairs-cons}
-use Rattle.share_graph.proofs.Unused.{unfiltered}
+use Rattle.least_access.proofs.Kept.{first_before, rest_pairs}
 
 module _ {X : Type 0} (R : X → X → Type 0) where
-  before : (x : X) (xs : List X) → AllPairs R (x ∷ xs) → (z : X) → Contains xs z → R x z
-  before x xs pairs z (k, less, is) = subst (λ (w : X). R x w) is (pairs zero (suc k) z (omega arith) (omega arith))
-
-  tail : (x : X) (xs : List X) → AllPairs R (x ∷ xs) → AllPairs R xs
-  tail x xs pairs i j d less within = pairs (suc i) (suc j) d (omega arith) (omega arith)
-
   pub pairs_append : (xs ys : List X) → AllPairs R xs → AllPairs R ys → ((x y : X) → Contains xs x → Contains ys y → R x y) → AllPairs R (xs ++ ys)
   pairs_append [] ys one other across = other
   pairs_append (x ∷ xs) ys one other across =
       AllPairs-cons R x (xs ++ ys) (λ k d less. elim (Contains-append_cases xs ys _ (Contains-get_or (xs ++ ys) k d less)) [
-        | inl near ↦ before x xs one _ near
+        | inl near ↦ first_before R x xs one _ near
         | inr far ↦ across x _ (zero, omega arith, refl) far
       ])
-      (pairs_append xs ys (tail x xs one) other (λ y z (k, less, is) far. across y z (suc k, omega arith, is) far))
-
-module _ {X Y : Type 0} (R : X → X → Type 0) (S : Y → Y → Type 0) (f : X → Option Y) (keeps : (x z : X) (y w : Y) → f x ≡ Some y → f z ≡ Some w → R x z → S y w) where
-  kept_more : (x : X) (xs : List X) (o : Option Y) → f x ≡ o → AllPairs R (x ∷ xs) → AllPairs S (filter_map f xs) → AllPairs S (cons_option o (filter_map f xs))
-  kept_more x xs None is pairs rest = rest
-  kept_more x xs (Some y) is pairs rest =
-      AllPairs-cons S y (filter_map f xs) (λ k d less.
-      let (z, listed, made) = unfiltered f xs _ (Contains-get_or (filter_map f xs) k d less) in
-      keeps x z y _ is made (before R x xs pairs z listed)) rest
-
-  pub pairs_kept : (xs : List X) → AllPairs R xs → AllPairs S (filter_map f xs)
-  pairs_kept [] pairs = λ i j d less within. absurd (omega arith)
-  pairs_kept (x ∷ xs) pairs = kept_more x xs (f x) refl pairs (pairs_kept xs (tail R x xs pairs))
+      (pairs_append xs ys (rest_pairs R x xs one) other (λ y z (k, less, is) far. across y z (suc k, omega arith, is) far))
 
 module _ {X : Type 0} (R : X → X → Type 0) (apart : (x y : X) → R x y → R y x → ⊥) where
   cases : (x : X) (xs : List X) (z : X) → Contains (x ∷ xs) z → (x ≡ z) ⊎ Contains xs z
@@ -44,13 +25,13 @@ module _ {X : Type 0} (R : X → X → Type 0) (apart : (x y : X) → R x y → 
     | inl same ↦ sym same
     | inr after ↦ elim (cases x xs y back) [
       | inl same ↦ same
-      | inr other ↦ absurd (apart x y (before R x xs p y other) (before R y ys q x after))
+      | inr other ↦ absurd (apart x y (first_before R x xs p y other) (first_before R y ys q x after))
     ]
   ]
 
   others : (x y : X) (xs ys : List X) → x ≡ y → AllPairs R (x ∷ xs) → ((z : X) → Contains (x ∷ xs) z → Contains (y ∷ ys) z) → (z : X) → Contains xs z → Contains ys z
   others x y xs ys same p more z (k, less, is) = elim (cases y ys z (more z (suc k, omega arith, is))) [
-    | inl at ↦ (let own : R x x = subst (λ (w : X). R x w) (sym at ∙ sym same) (before R x xs p z (k, less, is)) in absurd (apart x x own own))
+    | inl at ↦ (let own : R x x = subst (λ (w : X). R x w) (sym at ∙ sym same) (first_before R x xs p z (k, less, is)) in absurd (apart x x own own))
     | inr among ↦ among
   ]
 
@@ -60,5 +41,5 @@ module _ {X : Type 0} (R : X → X → Type 0) (apart : (x y : X) → R x y → 
   one_list (x ∷ xs) [] p q f g = let (k, less, is) = f x (zero, omega arith, refl) in absurd (omega arith)
   one_list (x ∷ xs) (y ∷ ys) p q f g =
       let same : x ≡ y = same_first x y xs ys p q (f x (zero, omega arith, refl)) (g y (zero, omega arith, refl)) in
-      let rest : xs ≡ ys = one_list xs ys (tail R x xs p) (tail R y ys q) (others x y xs ys same p f) (others y x ys xs (sym same) q g) in
+      let rest : xs ≡ ys = one_list xs ys (rest_pairs R x xs p) (rest_pairs R y ys q) (others x y xs ys same p f) (others y x ys xs (sym same) q g) in
       cc

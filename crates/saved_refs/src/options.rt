@@ -3,7 +3,7 @@
 ghost use Rattle.desk_base.specs.Terms.{IsOne, IsSolutionOf, IsWellFormed};
 ghost use Rattle.saved_refs.specs.Options.{Options, AreOptions, IsAnswered};
 
-use crate::choosing::{Question, append_those, matches_of};
+use crate::choosing::{append_those, choices_of};
 use desk_base::caller_on;
 use host_base::GrainId;
 use least_access::Solved;
@@ -16,7 +16,8 @@ use std::alloc::Global;
 pub type GrainChoices = List<Choice>;
 
 /// The grains that the caller may choose for a grain: others to which it has access, and of whose application some offer matches the
-/// query. The query is matched once with each application's offers.
+/// query. Only the grains that the caller's account enters are looked at, and the query is matched once with the offers of each
+/// application of these.
 #[tactic(auto, using(crate::proofs::OneRow::options_one, crate::proofs::OneList::options_one_list))]
 pub fn grain_options(
     alloc: Global,
@@ -37,16 +38,10 @@ pub fn grain_options(
         Ok(account) => account.num,
         Err(refusal) => return Err(DeskFault::Refused(refusal)),
     };
-    let found = matches_of(alloc, state.tables.apps.as_slice(), query)?;
-    let question = Question {
-        num,
-        account,
-        solved,
-        found: &found,
-    };
-    let grains = state.tables.grains.as_slice();
+    let grains = solved.entered(alloc, account)?;
+    let found = choices_of(alloc, &state.tables, query, num, grains.as_slice())?;
     let mut choices = Vec::new(alloc);
-    append_those(&mut choices, &question, Quality::Preferred, grains)?;
-    append_those(&mut choices, &question, Quality::Acceptable, grains)?;
+    append_those(&mut choices, Quality::Preferred, found.as_slice())?;
+    append_those(&mut choices, Quality::Acceptable, found.as_slice())?;
     Ok(List::new(choices))
 }

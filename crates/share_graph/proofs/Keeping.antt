@@ -1,5 +1,6 @@
 -- Rows keep their room and their index where one of them is changed so that it has no further clue.
-use Rattle.std.proofs.Common.{if◌then◌else◌, ◌≡◌, ◌<◌, ℕ, true, Option, Some, None, inl, inr, slice_index_or, vec_len, length, refl, arith}
+use Rattle.std.proofs.Common.{if◌then◌else◌, ◌≡◌, ◌<◌, ℕ, Bool, true, Option, Some, None, inl, inr, slice_index_or, slice_set, vec_len, length, refl, sym, ◌∙◌, arith}
+use Rattle.std.proofs.lemmas.List.{length-set}
 use Rattle.std.specs.Global.{Vec}
 use Rattle.std.specs.Vec.{with_item}
 use Rattle.host_base.specs.declared.ids.GrainId.{GrainId}
@@ -24,20 +25,25 @@ use Rattle.share_graph.specs.Setting.{revoked, stopped}
 
 module _ {X : Type 0} (clues_of : X → Clues) (mark_of : X → Option ℕ) (link_of : X → Link) (f : X → X) (items : Vec X) (index : Index) (ways : Ways) (i : ℕ) (row : X)
     (fewer : (c : ℕ) → HasClue (clues_of (f row)) c → HasClue (clues_of row) c) (stands : link_of (f row) ≡ link_of row) where
-  pub rows_keep : mark_of (f row) ≡ mark_of row → i < vec_len items → row ≡ slice_index_or items.items i row → IsRowsOf clues_of mark_of link_of items index ways
-      → IsRowsOf clues_of mark_of link_of (with_item items i (f row)) index ways
+  same_number : length items.items ≡ length (slice_set items.items i (f row))
+  same_number = sym (length-set items.items i (f row))
+
+  pub rows_keep : {starved : Bool} → mark_of (f row) ≡ mark_of row → i < vec_len items → row ≡ slice_index_or items.items i row → IsRowsOf clues_of mark_of link_of items index ways starved
+      → IsRowsOf clues_of mark_of link_of (with_item items i (f row)) index ways starved
   rows_keep same within read is = record {
     room = is.room;
     index_of = index_keeps clues_of mark_of f items.items index i row fewer (omega (arith, within, items.ok.0)) read is.index_of same;
     ways_of = ways_keep link_of f items.items ways i row stands (omega (arith, within, items.ok.0)) read is.ways_of;
+    all = λ fed. let (indexed, led) = is.all fed in (indexed ∙ same_number, led ∙ same_number);
   }
 
-  pub rows_lose : (after : Index) (mark : ℕ) → mark_of row ≡ Some mark → mark_of (f row) ≡ None → after.slots ≡ index.slots → after.covered ≡ index.covered → ForgetsPlace index.marks after.marks mark i
-      → i < length items.items → row ≡ slice_index_or items.items i row → IsRowsOf clues_of mark_of link_of items index ways → IsRowsOf clues_of mark_of link_of (with_item items i (f row)) after ways
+  pub rows_lose : {starved : Bool} → (after : Index) (mark : ℕ) → mark_of row ≡ Some mark → mark_of (f row) ≡ None → after.slots ≡ index.slots → after.covered ≡ index.covered → ForgetsPlace index.marks after.marks mark i
+      → i < length items.items → row ≡ slice_index_or items.items i row → IsRowsOf clues_of mark_of link_of items index ways starved → IsRowsOf clues_of mark_of link_of (with_item items i (f row)) after ways starved
   rows_lose after mark had none slots covered forgets within read is = record {
     room = is.room;
     index_of = index_loses clues_of mark_of f items.items index i row fewer within read is.index_of mark after had none slots covered forgets;
     ways_of = ways_keep link_of f items.items ways i row stands within read is.ways_of;
+    all = λ fed. let (indexed, led) = is.all fed in (covered ∙ (indexed ∙ same_number), led ∙ same_number);
   }
 
 pub stopped_fewer : (run : Run) (c : ℕ) → HasClue (run_clues (stopped run)) c → HasClue (run_clues run) c

@@ -1,5 +1,6 @@
 pub mod Rows
 pub mod Nodes
+pub mod NodeOrder
 pub mod Derivation
 pub mod Trees
 pub mod Known

@@ -1,8 +1,11 @@
 ghost use Rattle.std.specs.Prelude.{◌≡◌, ◌∷◌, ◌++◌, [], ◌≤◌, ◌+◌, length, map, take, count_by, is_some, IsTrue, MatchOption, IfSome, IfOk, OnOk, OnErr, vec_len, vec_capacity};
 ghost use Rattle.row_index.specs.Marks.{has_mark, NoneHasMark, IsFirstMarked};
 ghost use Rattle.row_index.specs.Narrow.{Narrows, seen};
-ghost use Rattle.row_index.specs.Ways.{Leads};
-ghost use Rattle.share_graph.specs.Rooms.{IsBetweenPowers, HasRoom};
+ghost use Rattle.row_index.specs.Index.{IsIndexOf};
+ghost use Rattle.row_index.specs.Ways.{AreWaysOf, Leads};
+ghost use Rattle.row_index.specs.declared.index.Index.{Index};
+ghost use Rattle.row_index.specs.declared.ways.Ways.{Ways};
+ghost use Rattle.share_graph.specs.Rooms.{IsBetweenPowers, HasRoom, CoverAll};
 
 use row_index::{Candidates, Index, Keyed, Way, Ways};
 use std::alloc::{AllocError, Global};
@@ -15,6 +18,8 @@ pub struct Rows<T: Keyed> {
     pub(crate) items: Vec<T>,
     pub(crate) index: Index,
     ways: Ways,
+    // Memory ran out when rows were last covered.
+    starved: bool,
 }
 
 // Written by hand, so that whoever lets rows go makes one call.
@@ -24,6 +29,7 @@ impl<T: Keyed + Drop> Drop for Rows<T> {
             items: _,
             index: _,
             ways: _,
+            starved: _,
         } = self;
     }
 }
@@ -36,7 +42,7 @@ impl<T: Keyed> Model for Rows<T> {
 
     ghost view = { λ rows. rows.items.items };
 
-    ghost invariant = { λ rows. IsRowsOf T.clues_of T.mark_of T.link_of rows.items rows.index rows.ways };
+    ghost invariant = { λ rows. IsRowsOf T.clues_of T.mark_of T.link_of rows.items rows.index rows.ways rows.starved };
 }
 
 /// Room for one row more beside so many rows, which is the number that contracts see.
@@ -82,24 +88,43 @@ fn grown<T>(alloc: Global, length: usize) -> Result<Vec<T>, AllocError>
     Vec::with_capacity(alloc, room)
 }
 
+// Covers all rows, or as many as there is memory for: what isn't covered is looked through. Says whether memory ran out.
+fn cover<T: Keyed>(items: &Vec<T>, index: &mut Index, ways: &mut Ways) -> bool
+    requires index { IsIndexOf T.clues_of items.now.items T.mark_of index.old }
+    requires ways { AreWaysOf (map T.link_of items.now.items) ways.old }
+    ensures index { IsIndexOf T.clues_of items.now.items T.mark_of index.new }
+    ensures ways { AreWaysOf (map T.link_of items.now.items) ways.new }
+    ensures grows { (index.old.covered ≤ index.new.covered) × (ways.old.covered ≤ ways.new.covered) }
+    ensures all { CoverAll result (length items.now.items) index.new ways.new }
+{
+    let rows = items.as_slice();
+    let of_index = index.cover(rows).is_err();
+    let of_ways = ways.cover(rows).is_err();
+    of_index || of_ways
+}
+
 impl<T: Keyed> Rows<T> {
     /// No rows.
     pub fn empty(alloc: Global) -> Self
         ensures { result ≡ [] }
     {
-        Self::uncovered(Vec::new(alloc))
+        Self::covered(Vec::new(alloc))
     }
 
-    // Rows of which nothing is covered yet.
-    fn uncovered(items: Vec<T>) -> Self
+    // The rows of a list, of which all are covered, or as many as there is memory for.
+    fn covered(items: Vec<T>) -> Self
         requires { HasRoom (vec_len items) (vec_capacity items) }
         ensures { result ≡ items.items }
     {
         let alloc = *items.allocator();
+        let mut index = Index::empty(alloc);
+        let mut ways = Ways::empty(alloc);
+        let starved = cover(&items, &mut index, &mut ways);
         Rows {
             items,
-            index: Index::empty(alloc),
-            ways: Ways::empty(alloc),
+            index,
+            ways,
+            starved,
         }
     }
 
@@ -154,14 +179,6 @@ impl<T: Keyed> Rows<T> {
         self.ways.way(self.items.as_slice(), num)
     }
 
-    // Covers all rows, or as many as there is memory for: what isn't covered is looked through.
-    fn cover(&mut self)
-        ensures { self.new ≡ self.old }
-    {
-        self.index.cover(self.items.as_slice()).ok();
-        self.ways.cover(self.items.as_slice()).ok();
-    }
-
     /// Room for one row more.
     pub fn room(&self) -> Result<Room<T>, AllocError>
         ensures { IfOk result (λ room. room ≡ length self.now) }
@@ -208,14 +225,28 @@ fn add<T: Drop>(items: &mut Vec<T>, item: T, room: Room<T>)
     items.push_reserved(item);
 }
 
+// Adds a row to a list where there is room for it. What an index and ways say of its rows stays so.
+fn add_row<T: Keyed + Drop>(items: &mut Vec<T>, row: T, room: Room<T>)
+    requires room { room ≡ vec_len items.old }
+    requires has_room { HasRoom (vec_len items.old) (vec_capacity items.old) }
+    ensures items { items.new.items ≡ items.old.items ++ row ∷ [] }
+    ensures has_room { HasRoom (vec_len items.new) (vec_capacity items.new) }
+    ensures index { (index : Index) → IsIndexOf T.clues_of items.old.items T.mark_of index
+        → IsIndexOf T.clues_of items.new.items T.mark_of index }
+    ensures ways { (ways : Ways) → AreWaysOf (map T.link_of items.old.items) ways
+        → AreWaysOf (map T.link_of items.new.items) ways }
+{
+    add(items, row, room);
+}
+
 impl<T: Keyed + Drop> Rows<T> {
     /// Adds a row at the end, where there is room for it.
     pub fn put(&mut self, row: T, room: Room<T>)
         requires { room ≡ length self.old }
         ensures { self.new ≡ self.old ++ row ∷ [] }
     {
-        add(&mut self.items, row, room);
-        self.cover();
+        add_row(&mut self.items, row, room);
+        self.starved = cover(&self.items, &mut self.index, &mut self.ways);
     }
 
     /// Adds a row at the end. Want of memory leaves the rows as they were.
@@ -240,8 +271,6 @@ impl<T: Keyed + Clone + Drop> Clone for Rows<T> {
         if items.append(&mut copies).is_err() {
             unreachable!();
         }
-        let mut copy = Rows::uncovered(items);
-        copy.cover();
-        Ok(copy)
+        Ok(Rows::covered(items))
     }
 }
