@@ -78,8 +78,8 @@ LeavesBy may_leave old new (Some row) result =
 -- Where a history grew by an event that has a row, a stop leaves the rows that are told, and nothing else.
 abbrev pub SettlesEntry : Past → Past → Keeping → (List Row → Type 0) → Type 0
 SettlesEntry old new now may_leave =
-    (e : Event) (row : Row) → new.entries ≡ old.entries ++ e ∷ [] → row_after (state_of old).tables e ≡ Some row
-    → LeavesItsRows now may_leave
+    (e : Event) (row : Row) → new.entries ≡ old.entries ++ e ∷ []
+    → row_after (state_of old).tables e ≡ Some row → LeavesItsRows now may_leave
 
 -- What a stop may leave, from a history to a later one: a list that it could leave before, or such rows in hand.
 pub record Outlasts {K : Type 0} (may_leave : K → List Row → Type 0) (past past' : Past) (old new : Objects K)
@@ -92,8 +92,8 @@ pub record Outlasts {K : Type 0} (may_leave : K → List Row → Type 0) (past p
       → OutliveStops new.tell.keeping (may_leave new.keeper)
 
 -- the same of an order that is answered with what the sites have of what it chooses
-abbrev pub OutlastsOrder : {K : Type 0} → (K → List Row → Type 0) → Law → Option Bool → Past → Past → Objects K
-    → Objects K → Asked → Type 0
+abbrev pub OutlastsOrder : {K : Type 0} → (K → List Row → Type 0) → Law → Option Bool → Past → Past
+    → Objects K → Objects K → Asked → Type 0
 OutlastsOrder may_leave law found past past' old new order =
     IsFoundBy law (state_of past) order.caller order.command found
     → Outlasts may_leave past past' old new (AreInHand law (state_of past) (length past.entries) order)

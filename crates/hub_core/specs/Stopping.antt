@@ -28,5 +28,6 @@ pub record LeavesBehind {K : Type 0} (law : Law) (may_leave : K → List Row →
   pub stops : LeavesAsBefore new.holds.keeping.clean (may_leave old.keeper) (may_leave new.keeper)
       (AreInHand law (replay old.start old.history) (length old.history) order)
   pub settled : (e : Event) (row : Row) → new.history ≡ old.history ++ e ∷ []
-      → row_after (behind old.start old.history) e ≡ Some row → LeavesItsRows new.holds.keeping (may_leave new.keeper)
+      → row_after (behind old.start old.history) e ≡ Some row
+      → LeavesItsRows new.holds.keeping (may_leave new.keeper)
   pub outlive : OutliveStops new.holds.keeping (may_leave new.keeper)

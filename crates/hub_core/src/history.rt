@@ -18,11 +18,14 @@ use desk_orders::OrderFault;
 use host_base::{AppId, Memory};
 use least_access::Solved;
 use live_access::{Region, Solution, solve};
+use region_access::seeds_of;
+use region_work::{Counted, Steps};
 use row_tables::row_after;
 use share_graph::{Event, State, copy_of};
 use state_step::{Staged, apply, copy_of_event, prepare};
 use std::alloc::Global;
-use std::marker::Model;
+use std::marker::{Brand, Model};
+use std::sync::ledger::{Blank, Ledger};
 
 /// A history, with the state that it leads to and what each node holds by that.
 pub struct History {
@@ -88,13 +91,18 @@ struct Ready {
     region: Region,
 }
 
-// Makes all ready for an event but its room as an entry; what is solved is as before where memory runs out.
-fn make_ready(
+// Makes all ready for an event but its room as an entry; what is solved is as before where memory runs out. How many grants are
+// evaluated for it is bounded by `Solution::prepare`.
+fn make_ready<L: Ledger>(
     alloc: Global,
     state: &State,
     solution: &mut Solution,
     event: &Event,
+    blank: Blank,
 ) -> Result<Ready, Memory>
+    requires name { blank.name ≡ L.name }
+    requires parts { blank.parts ≡ L.parts }
+    requires some { 0 < blank.parts }
     requires formed { IsWellFormed state.now }
     requires fits { EventFits state.now event.now }
     requires solved { IsSolvedFor state.now.tables solution.old }
@@ -108,7 +116,12 @@ fn make_ready(
 {
     let row = row_after(alloc, &state.tables, event)?;
     let staged = prepare(state, copy_of_event(event)?)?;
-    let region = solution.prepare(alloc, state, event)?;
+    let seeds = seeds_of(alloc, &state.tables, solution.ties(), event)?;
+    let mut probe = Counted {
+        tables: &state.tables,
+        steps: Steps::<L>::new(blank),
+    };
+    let region = solution.prepare(alloc, &mut probe, event, seeds.as_slice())?;
     Ok(Ready {
         staged,
         row,
@@ -126,15 +139,20 @@ fn take_back(solution: &mut Solution, _staged: Staged, region: Region)
     solution.take_back(region);
 }
 
-// Lets an event happen for which all room was taken: in the state, in what is solved, and as the next entry.
-fn happen(
+// Lets an event happen for which all room was taken: in the state, in what is solved, and as the next entry. How many grants are
+// evaluated for it is bounded by `Solution::settle`.
+fn happen<L: Ledger>(
     state: &mut State,
     solution: &mut Solution,
     entries: &mut Vec<Event>,
     staged: Staged,
-    region: Region,
+    mut region: Region,
     event: Event,
+    blank: Blank,
 )
+    requires name { blank.name ≡ L.name }
+    requires parts { blank.parts ≡ L.parts }
+    requires some { 0 < blank.parts }
     requires staged { event_of staged ≡ event }
     requires staged_room { HasRoomFor state.old staged }
     requires ready { IsReadyFor state.old event solution.old region }
@@ -144,7 +162,12 @@ fn happen(
     ensures entry { entries.new.items ≡ entries.old.items ++ event ∷ [] }
 {
     apply(state, staged);
-    solution.settle(state, region);
+    let mut probe = Counted {
+        tables: &state.tables,
+        steps: Steps::<L>::new(blank),
+    };
+    solution.settle(&mut probe, &mut region);
+    solution.drop_places(region);
     entries.push_reserved(event);
 }
 
@@ -210,20 +233,22 @@ impl History {
             (AreRowsOf (tables_after (state_of self.old).tables event)) }
     {
         make_room(&mut self.entries)?;
+        let (state, solution) = (&self.state, &mut self.solution);
         let Ready {
             staged,
             row,
             region,
-        } = make_ready(alloc, &self.state, &mut self.solution, &event)?;
+        } = make_ready::<Brand>(alloc, state, solution, &event, Blank::new(1))?;
         match tell(alloc, held, &event, row, app, token) {
             Ok(()) => {
-                happen(
+                happen::<Brand>(
                     &mut self.state,
                     &mut self.solution,
                     &mut self.entries,
                     staged,
                     region,
                     event,
+                    Blank::new(1),
                 );
                 Ok(())
             }

@@ -64,11 +64,11 @@ touched s (event.AppAdded app) nodes set =
     touches_by_widening s.tables (after s (event.AppAdded app)).tables
     (record { accounts = λ a x is. is; apps = λ p x is. push_old_row s.tables.apps (app ∷ []) p.0 x is; grains = λ n. refl; grants = λ g. refl }) set.whole nodes set.closed
 touched s (event.GrainAdded grain) nodes set =
-    grain_added_touches s.tables grain nodes (next_number (λ (x : Grain). x.num.0) s.tables.grains grain set.numbered.grains) set.whole set.whole_after (set.inside (node.User grain.num grain.owner) refl) set.closed
+    grain_added_touches s.tables grain (next_number (λ (x : Grain). x.num.0) s.tables.grains grain set.numbered.grains) set.whole nodes set.whole_after (set.inside (node.User grain.num grain.owner) refl) set.closed
 touched s (event.GrantAdded grant) nodes set =
-    grant_added_touches s.tables grant nodes (next_number (λ (x : Grant). x.num.0) s.tables.grants grant set.numbered.grants) set.whole set.whole_after (set.inside (node_of grant.num grant) refl) set.closed
+    grant_added_touches s.tables grant (next_number (λ (x : Grant). x.num.0) s.tables.grants grant set.numbered.grants) nodes set.whole set.whole_after (set.inside (node_of grant.num grant) refl) set.closed
 touched s (event.Claimed grant handle) nodes set =
-    grant_added_touches s.tables grant nodes (next_number (λ (x : Grant). x.num.0) s.tables.grants grant set.numbered.grants) set.whole set.whole_after (set.inside (node_of grant.num grant) refl) set.closed
+    grant_added_touches s.tables grant (next_number (λ (x : Grant). x.num.0) s.tables.grants grant set.numbered.grants) nodes set.whole set.whole_after (set.inside (node_of grant.num grant) refl) set.closed
 touched s (event.GrantRevoked g) nodes set = grant_revoked_touches s.tables g nodes set.whole set.whole_after (λ grant is. set.inside (node_of g grant) (grant, is, refl)) set.closed
 touched s (event.TrashedSet n on) nodes set =
     trash_touches s.tables n on nodes (λ grain is. set.inside (node.User n grain.owner) (inl (grain, is, refl))) (λ g grant is same. set.inside (node_of g grant) (inr (g, grant, is, same, refl)))

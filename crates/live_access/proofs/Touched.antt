@@ -12,6 +12,7 @@ use Rattle.share_graph.specs.declared.state.Tables.{Tables}
 use Rattle.share_graph.specs.Changing.{change_row}
 use Rattle.share_graph.specs.Coherent.{IsCoherent}
 use Rattle.share_graph.specs.Nodes.{node_of}
+use Rattle.share_graph.specs.Region.{GivesOutside}
 use Rattle.share_graph.specs.Revoking.{revoke_in}
 use Rattle.share_graph.specs.Rows.{row, IsGrant, IsEnabled, IsAdmin}
 use Rattle.share_graph.specs.Setting.{revoked}
@@ -19,27 +20,41 @@ use Rattle.share_graph.proofs.Marked.{change_row_other}
 use Rattle.least_access.proofs.Turns.{grant_id}
 use Rattle.state_step.proofs.Each.{push_old_row}
 use Rattle.region_work.specs.Prepared.{LeadsNowhere, Touches}
-use Rattle.region_access.proofs.ManyAccounts.{with_accounts, HasOwnNodes, HasNeeding, touches_by_accounts}
-use Rattle.region_access.proofs.ManyGrains.{MayTouch, touches_by_grains}
-use Rattle.region_access.proofs.OneGrant.{touches, closed_since}
+use Rattle.region_access.proofs.ManyAccounts.{with_accounts, HasOwnNodes, HasNeeding, gives_by_accounts, touches_by_accounts}
+use Rattle.region_access.proofs.ManyGrains.{MayTouch, gives_by_grains, touches_by_grains}
+use Rattle.region_access.proofs.OneGrant.{closed_since, gives_back, gives_there, touches}
 use Rattle.region_access.proofs.Trashed.{row_changed, row_changed_back, same_number}
 use Rattle.live_access.proofs.Pushed.{row_before, row_pushed, none_next}
 
 -- ---- a grant that is added
 
-pub grant_added_touches : (t : Tables) (grant : Grant) (nodes : List Node) → grant.num.0 ≡ length t.grants + 1 → IsCoherent t → IsCoherent (record t { grants = t.grants ++ grant ∷ [] })
-    → Contains nodes (node_of grant.num grant) → LeadsNowhere t nodes → Touches nodes t (record t { grants = t.grants ++ grant ∷ [] })
-grant_added_touches t grant nodes next coherent coherent_after inside closed =
-    let gs : List Grant = t.grants ++ grant ∷ [] in
-    let g : GrantId = grant.num in
-    let others : (h : GrantId) → h ≢ g → row gs h.0 ≡ row t.grants h.0 = λ h apart. row_before t.grants grant h.0 (λ e. apart (ap (λ n. grant_id n) (e ∙ sym next))) in
-    let was : (x : Grant) → IsGrant t g x → Contains nodes (node_of g x) = λ x is. absurd (none_next t.grants g.0 x next is) in
-    let is : (x : Grant) → row gs g.0 ≡ Some x → Contains nodes (node_of g x) = λ x there.
-    (elim (row_pushed t.grants grant g.0 x there) [
-      | inl before ↦ absurd (none_next t.grants g.0 x next before)
-      | inr (last, same) ↦ subst (λ (y : Grant). Contains nodes (node_of g y)) same inside
-    ]) in
-    touches t gs g nodes others was is coherent coherent_after (closed_since t gs g nodes others was is closed)
+module _ (t : Tables) (grant : Grant) (next : grant.num.0 ≡ length t.grants + 1) where
+  abbrev pub with_grant : Tables
+  with_grant = record t { grants = t.grants ++ grant ∷ [] }
+
+  other_grants : (h : GrantId) → h ≢ grant.num → row with_grant.grants h.0 ≡ row t.grants h.0
+  other_grants h apart = row_before t.grants grant h.0 (λ e. apart (ap (λ n. grant_id n) (e ∙ sym next)))
+
+  no_grant : (nodes : List Node) (x : Grant) → IsGrant t grant.num x → Contains nodes (node_of grant.num x)
+  no_grant nodes x is = absurd (none_next t.grants grant.num.0 x next is)
+
+  the_grant : (nodes : List Node) → Contains nodes (node_of grant.num grant) → (x : Grant) → IsGrant with_grant grant.num x → Contains nodes (node_of grant.num x)
+  the_grant nodes inside x there =
+      elim (row_pushed t.grants grant grant.num.0 x there) [
+        | inl before ↦ absurd (none_next t.grants grant.num.0 x next before)
+        | inr (last, same) ↦ subst (λ (y : Grant). Contains nodes (node_of grant.num y)) same inside
+      ]
+
+  pub grant_added_touches : (nodes : List Node) → IsCoherent t → IsCoherent with_grant → Contains nodes (node_of grant.num grant) → LeadsNowhere t nodes → Touches nodes t with_grant
+  grant_added_touches nodes coherent coherent_after inside closed =
+      touches t with_grant.grants grant.num nodes other_grants (no_grant nodes) (the_grant nodes inside) coherent coherent_after
+      (closed_since t with_grant.grants grant.num nodes other_grants (the_grant nodes inside) closed)
+
+  pub grant_added_there : IsCoherent t → GivesOutside (Contains []) t with_grant
+  grant_added_there coherent = gives_there t with_grant.grants grant.num [] other_grants (no_grant []) coherent
+
+  pub grant_added_back : (nodes : List Node) → IsCoherent with_grant → Contains nodes (node_of grant.num grant) → GivesOutside (Contains nodes) with_grant t
+  grant_added_back nodes coherent_after inside = gives_back t with_grant.grants grant.num nodes other_grants (the_grant nodes inside) coherent_after
 
 -- ---- a grant that is revoked
 
@@ -50,29 +65,41 @@ grant_revoked_touches t g nodes coherent coherent_after was closed =
     let others : (h : GrantId) → h ≢ g → row gs h.0 ≡ row t.grants h.0 = λ h apart. change_row_other revoked t.grants g.0 h.0 (λ e. apart (ap (λ n. grant_id n) e)) in
     let is : (grant : Grant) → row gs g.0 ≡ Some grant → Contains nodes (node_of g grant) = λ grant there.
     (let (before, known, same) = row_changed_back revoked t.grants g.0 grant there in subst (λ (x : Grant). Contains nodes (node_of g x)) same (was before known)) in
-    touches t gs g nodes others was is coherent coherent_after (closed_since t gs g nodes others was is closed)
+    touches t gs g nodes others was is coherent coherent_after (closed_since t gs g nodes others is closed)
 
 -- ---- a grain that is added
 
 abbrev grain_id : ℕ → GrainId
 grain_id n = record { 0 = n }
 
-pub grain_added_touches : (t : Tables) (grain : Grain) (nodes : List Node) → grain.num.0 ≡ length t.grains + 1 → IsCoherent t → IsCoherent (record t { grains = t.grains ++ grain ∷ [] })
-    → Contains nodes (node.User grain.num grain.owner) → LeadsNowhere t nodes → Touches nodes t (record t { grains = t.grains ++ grain ∷ [] })
-grain_added_touches t grain nodes next coherent coherent_after inside closed =
-    let new : List Grain = t.grains ++ grain ∷ [] in
-    let none_on : (g : GrantId) (grant : Grant) → IsGrant t g grant → grant.grain.0 ≡ length t.grains + 1 → ⊥ = λ g grant is on.
-    (let (row_of, there) = (coherent.grants g grant is).knows.grain in none_next t.grains grant.grain.0 row_of on there) in
-    let forth : (n : GrainId) (x : Grain) → row t.grains n.0 ≡ Some x → MayTouch t nodes new n x = λ n x is. inl (push_old_row t.grains (grain ∷ []) n.0 x is) in
-    let back : (n : GrainId) (x : Grain) → row new n.0 ≡ Some x → MayTouch t nodes t.grains n x = λ n x is.
-    (elim (row_pushed t.grains grain n.0 x is) [
-      | inl before ↦ inl before
-      | inr (last, same) ↦
-          let here : grain.num ≡ n = ap (λ k. grain_id k) (next ∙ sym last) in
-          let own : Contains nodes (node.User n x.owner) = subst (λ (y : Grain). Contains nodes (node.User n y.owner)) same (subst (λ (m : GrainId). Contains nodes (node.User m grain.owner)) here inside) in
-          inr (own, (λ g grant there on. absurd (none_on g grant there (ap (λ (m : GrainId). m.0) on ∙ last))), inr (λ g grant there on. none_on g grant there (ap (λ (m : GrainId). m.0) on ∙ last)))
-    ]) in
-    touches_by_grains t nodes t.grains new coherent coherent_after forth back closed
+module _ (t : Tables) (grain : Grain) (next : grain.num.0 ≡ length t.grains + 1) (coherent : IsCoherent t) where
+  abbrev pub with_grain : Tables
+  with_grain = record t { grains = t.grains ++ grain ∷ [] }
+
+  none_on : (g : GrantId) (grant : Grant) → IsGrant t g grant → grant.grain.0 ≡ length t.grains + 1 → ⊥
+  none_on g grant is on = let (row_of, there) = (coherent.grants g grant is).knows.grain in none_next t.grains grant.grain.0 row_of on there
+
+  grain_before : (nodes : List Node) (n : GrainId) (x : Grain) → row t.grains n.0 ≡ Some x → MayTouch t nodes with_grain.grains n x
+  grain_before nodes n x is = inl (push_old_row t.grains (grain ∷ []) n.0 x is)
+
+  grain_after : (nodes : List Node) → Contains nodes (node.User grain.num grain.owner) → (n : GrainId) (x : Grain) → row with_grain.grains n.0 ≡ Some x → MayTouch t nodes t.grains n x
+  grain_after nodes inside n x is =
+      elim (row_pushed t.grains grain n.0 x is) [
+        | inl before ↦ inl before
+        | inr (last, same) ↦
+            let here : grain.num ≡ n = ap (λ k. grain_id k) (next ∙ sym last) in
+            let own : Contains nodes (node.User n x.owner) = subst (λ (y : Grain). Contains nodes (node.User n y.owner)) same (subst (λ (m : GrainId). Contains nodes (node.User m grain.owner)) here inside) in
+            inr (own, (λ g grant there on. absurd (none_on g grant there (ap (λ (m : GrainId). m.0) on ∙ last))), inr (λ g grant there on. none_on g grant there (ap (λ (m : GrainId). m.0) on ∙ last)))
+      ]
+
+  pub grain_added_touches : (nodes : List Node) → IsCoherent with_grain → Contains nodes (node.User grain.num grain.owner) → LeadsNowhere t nodes → Touches nodes t with_grain
+  grain_added_touches nodes coherent_after inside closed = touches_by_grains t nodes t.grains with_grain.grains coherent coherent_after (grain_before nodes) (grain_after nodes inside) closed
+
+  pub grain_added_there : GivesOutside (Contains []) t with_grain
+  grain_added_there = gives_by_grains t [] t.grains with_grain.grains coherent (grain_before [])
+
+  pub grain_added_back : (nodes : List Node) → IsCoherent with_grain → Contains nodes (node.User grain.num grain.owner) → GivesOutside (Contains nodes) with_grain t
+  grain_added_back nodes coherent_after inside = gives_by_grains t nodes with_grain.grains t.grains coherent_after (grain_after nodes inside)
 
 -- ---- an account that becomes an admin or is one no longer, or is enabled or disabled
 
@@ -139,3 +166,6 @@ module _ (t : Tables) (a : AccountId) (f : Account → Account) (nodes : List No
 
   pub account_set_touches : IsCoherent t → IsCoherent after_set → LeadsNowhere t nodes → Touches nodes t after_set
   account_set_touches coherent coherent_after closed = touches_by_accounts t nodes t.accounts set coherent coherent_after enabled enabled_before admin admin_before closed
+
+  pub account_set_back : IsCoherent after_set → GivesOutside (Contains nodes) after_set t
+  account_set_back coherent_after = gives_by_accounts t nodes set t.accounts coherent_after enabled_before admin_before

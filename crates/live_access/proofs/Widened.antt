@@ -102,7 +102,7 @@ module _ (t u : Tables) (widens : Widens t u) (coherent : IsCoherent t) where
   need_known : (g : GrantId) (grant : Grant) (q : Need) → IsGrant u g grant → Contains grant.needs q → KnowsNeed t q
   need_known g grant q is c = All-contains (KnowsNeed t) grant.needs q (coherent.grants g grant (grant_back g grant is)).knows.needs c
 
-  there : (nodes : List Node) → GivesOutside (Contains nodes) t u
+  pub there : (nodes : List Node) → GivesOutside (Contains nodes) t u
   there nodes = record {
     owned = λ n grain app out o. record { is_row = widens.grains n ∙ o.is_row; of_app = widens.apps grain.app app o.of_app; kept = o.kept; enabled = enabled_on grain.owner o.enabled };
     passed = λ g grant fact out p. record { is_live = live_on g grant p.is_live; received = received_on grant.target p.received; gives = gives_on grant fact p.gives };
@@ -111,7 +111,7 @@ module _ (t u : Tables) (widens : Widens t u) (coherent : IsCoherent t) where
     opened = λ g grant out none o. record { is_live = live_on g grant o.is_live; kept = kept_on grant.grain o.kept };
   }
 
-  back : (nodes : List Node) → GivesOutside (Contains nodes) u t
+  pub back : (nodes : List Node) → GivesOutside (Contains nodes) u t
   back nodes = record {
     owned = λ n grain app out o.
         let was = sym (widens.grains n) ∙ o.is_row in

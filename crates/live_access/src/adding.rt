@@ -1,8 +1,8 @@
-//! The grant that an event adds.
+//! What an event adds.
 
 ghost use Rattle.std.specs.Prelude.{◌≡◌, IfOk};
 ghost use Rattle.std.specs.Option.{option_copied};
-ghost use Rattle.live_access.specs.Adding.{grant_added, IsNewOf};
+ghost use Rattle.live_access.specs.Adding.{grant_added, may_take, IsNewOf};
 
 use host_base::Memory;
 use region_access::{NewGrant, new_grant};
@@ -27,5 +27,17 @@ pub fn added_by(alloc: Global, event: &Event) -> Result<Option<NewGrant>, Memory
     match added_grant(event) {
         Some(grant) => Ok(Some(new_grant(alloc, grant)?)),
         None => Ok(None),
+    }
+}
+
+/// Whether something may be lost by an event. Every other event only adds.
+pub fn may_take(event: &Event) -> bool
+    ensures { result ≡ may_take event.now }
+{
+    match event {
+        Event::GrantRevoked(_) => true,
+        Event::TrashedSet(_, on) => *on,
+        Event::AdminSet(_, on) | Event::EnabledSet(_, on) => !*on,
+        _ => false,
     }
 }

@@ -1,16 +1,14 @@
 //! Events after which every node holds what it held, seen from a few rows.
 
-ghost use Rattle.std.specs.Prelude.{◌≡◌, ◌↔◌, [], ◌∷◌, List, Some, ℕ, IsSome, IsTrue, IfSome, length};
-ghost use Rattle.perm_roles.specs.PermSet.{Has};
-ghost use Rattle.perm_roles.specs.Roles.{GivesPermission as AssignmentGives};
+ghost use Rattle.std.specs.Prelude.{◌≡◌, ◌≤◌, ◌+◌, [], ◌∷◌, List, IsSome, IsTrue, length};
 ghost use Rattle.share_graph.specs.declared.facts.Fact.{Fact};
 ghost use Rattle.share_graph.specs.declared.facts.Node.{Node};
-ghost use Rattle.share_graph.specs.declared.grants.Grant.{Grant};
+ghost use Rattle.share_graph.specs.declared.grants.Grant as the_grant;
 ghost use Rattle.share_graph.specs.declared.rows.App as the_app;
 ghost use Rattle.share_graph.specs.Coherent.{IsCoherent};
 ghost use Rattle.share_graph.specs.Derivation.{Asks, Follows};
-ghost use Rattle.share_graph.specs.Fitting.{IsAssignmentFor, IsSoundManifest};
-ghost use Rattle.share_graph.specs.Nodes.{node_of as the_node_of, source_of as the_source_of, Gives};
+ghost use Rattle.share_graph.specs.Fitting.{IsAssignmentFor};
+ghost use Rattle.share_graph.specs.Nodes.{node_of as the_node_of};
 ghost use Rattle.share_graph.specs.Rows.{IsAppOf, IsGrant};
 ghost use Rattle.least_access.specs.Held.{IsIn};
 ghost use Rattle.least_access.specs.Solved.{held_at, HeldAt};
@@ -22,14 +20,11 @@ ghost use Rattle.live_access.specs.Staying.{AddsNothing, IsFedOutside, IsGivenOt
 
 use host_base::GrantId;
 use least_access::Held;
-use least_access::passing::passed;
 use least_access::table::{Table, holding};
-use perm_roles::PermSet;
+use region_work::Probe;
 use region_work::edges::{Edges, fed_by};
 use region_work::meeting::holder_of;
-use share_graph::{
-    App, Grant, Need, Node, Tables, app_of, grant as find_grant, node_of, source_of,
-};
+use share_graph::{Grant, Need, Node, node_of};
 
 // Whether the first holds all that the second does.
 fn covers(held: &Held, other: &Held) -> bool
@@ -38,42 +33,16 @@ fn covers(held: &Held, other: &Held) -> bool
     (held.entry || !other.entry) && held.perms.contains(&other.perms)
 }
 
-// What a grant gives by the application of its grain.
-fn given_by(app: &App, grant: &Grant) -> PermSet
-    requires manifest { IsSoundManifest app.now.manifest }
-    requires assignment { IsAssignmentFor app.now.manifest grant.now.assignment }
-    ensures { (p : ℕ) → Has result p ↔ AssignmentGives app.now.manifest.roles
-        (length app.now.manifest.permissions) grant.now.assignment p }
-{
-    let count = app.manifest.permissions.as_slice().len() as u8;
-    perm_roles::granted(app.manifest.roles.as_slice(), count, &grant.assignment)
-}
-
-// The most that a new grant may add at its node: of what its source holds, what it gives.
-fn added_at_most(tables: &Tables, table: &Table, grant: &Grant) -> Option<Held>
-    requires coherent { IsCoherent tables.now }
-    requires fits { (app : the_app.App) → IsAppOf tables.now grant.now.grain app
+/// Whether a new grant adds nothing. It is evaluated once.
+pub(crate) fn adds_nothing<V: Probe>(probe: &mut V, table: &Table, grant: &Grant) -> bool
+    requires coherent { IsCoherent (V.tables probe.old) }
+    requires fits { (app : the_app.App) → IsAppOf (V.tables probe.old) grant.now.grain app
         → IsAssignmentFor app.manifest grant.now.assignment }
-    ensures { IfSome result (λ most. (from : Node) × (the_source_of grant.now ≡ Some from)
-        × ((fact : Fact) → HeldAt table.now.entries from fact → Gives tables.now grant.now fact → IsIn most fact)) }
+    ensures nothing { IsTrue result → AddsNothing (V.tables probe.old) table.now.entries grant.now }
+    ensures same { V.tables probe.new ≡ V.tables probe.old }
+    ensures counted { V.count probe.new ≡ V.count probe.old + 1 }
 {
-    let from = source_of(grant)?;
-    let app = app_of(tables, grant.grain)?;
-    let held = holding(table, from);
-    Some(Held {
-        entry: held.entry,
-        perms: held.perms.meet(&given_by(app, grant)),
-    })
-}
-
-/// Whether a new grant adds nothing.
-pub(crate) fn adds_nothing(tables: &Tables, table: &Table, grant: &Grant) -> bool
-    requires coherent { IsCoherent tables.now }
-    requires fits { (app : the_app.App) → IsAppOf tables.now grant.now.grain app
-        → IsAssignmentFor app.manifest grant.now.assignment }
-    ensures { IsTrue result → AddsNothing tables.now table.now.entries grant.now }
-{
-    match added_at_most(tables, table, grant) {
+    match probe.offer(grant, table) {
         Some(most) => covers(&holding(table, node_of(grant.num, grant)), &most),
         None => false,
     }
@@ -91,39 +60,41 @@ fn names_none(need: &Need, region: &Table) -> bool
 }
 
 // Whether a grant is fed from outside of a region alone.
-fn is_fed_outside(region: &Table, grant: &Grant) -> bool
-    ensures { IsTrue result → (nodes : List Node) → IsEmptyAt nodes region.now.entries
-        → IsFedOutside nodes grant.now }
+fn is_fed_outside<V: Probe>(probe: &V, region: &Table, num: GrantId) -> bool
+    requires { (grant : the_grant.Grant) × IsGrant (V.tables probe.now) num grant }
+    ensures { IsTrue result → (nodes : List Node) (grant : the_grant.Grant) → IsEmptyAt nodes region.now.entries
+        → IsGrant (V.tables probe.now) num grant → IsFedOutside nodes grant }
 {
-    match source_of(grant) {
+    match probe.source(num) {
         Some(from) => {
             !region.contains_key(&from)
-                && grant
-                    .needs
-                    .as_slice()
-                    .iter()
-                    .all(|need| names_none(need, region))
+                && probe.needs(num).iter().all(|need| names_none(need, region))
         }
         None => false,
     }
 }
 
 // What the grant of a number passes on, if it is fed from outside of a region alone.
-fn gave_from_outside(tables: &Tables, table: &Table, region: &Table, num: GrantId) -> Held
-    requires { IsCoherent tables.now }
-    ensures { (nodes : List Node) (fact : Fact) (grant : Grant) → IsEmptyAt nodes region.now.entries
-        → IsGrant tables.now num grant → IsIn result fact → Follows tables.now (HeldAt table.now.entries) num grant
-        (the_node_of num grant) fact × IsFedOutside nodes grant }
+fn gave_from_outside<V: Probe>(probe: &mut V, table: &Table, region: &Table, num: GrantId) -> Held
+    requires coherent { IsCoherent (V.tables probe.old) }
+    requires row { (grant : the_grant.Grant) × IsGrant (V.tables probe.old) num grant }
+    ensures gave { (nodes : List Node) (fact : Fact) (grant : the_grant.Grant) → IsEmptyAt nodes region.now.entries
+        → IsGrant (V.tables probe.old) num grant → IsIn result fact
+        → Follows (V.tables probe.old) (HeldAt table.now.entries) num grant (the_node_of num grant) fact
+        × IsFedOutside nodes grant }
+    ensures same { V.tables probe.new ≡ V.tables probe.old }
+    ensures counted { V.count probe.new ≤ V.count probe.old + 1 }
 {
-    match find_grant(tables, num) {
-        Some(grant) if is_fed_outside(region, grant) => passed(tables, table, num, grant),
-        _ => Held::none(),
+    if is_fed_outside(probe, region, num) {
+        probe.pass(num, table)
+    } else {
+        Held::none()
     }
 }
 
 // Whether other grants give a node all of this, from outside of its region.
-fn is_given_otherwise(
-    tables: &Tables,
+fn is_given_otherwise<V: Probe>(
+    probe: &mut V,
     table: &Table,
     arrivals: &Edges,
     region: &Table,
@@ -131,10 +102,12 @@ fn is_given_otherwise(
     num: GrantId,
     passed: &Held,
 ) -> bool
-    requires coherent { IsCoherent tables.now }
-    requires arrivals { IsArrivalsOf tables.now (fed_in arrivals.now.entries) }
-    ensures { IsTrue result → (nodes : List Node) (fact : Fact) → IsEmptyAt nodes region.now.entries
-        → IsIn passed.now fact → IsGivenOtherwise tables.now table.now.entries nodes num at fact }
+    requires coherent { IsCoherent (V.tables probe.old) }
+    requires arrivals { IsArrivalsOf (V.tables probe.old) (fed_in arrivals.now.entries) }
+    ensures given { IsTrue result → (nodes : List Node) (fact : Fact) → IsEmptyAt nodes region.now.entries
+        → IsIn passed.now fact → IsGivenOtherwise (V.tables probe.old) table.now.entries nodes num at fact }
+    ensures same { V.tables probe.new ≡ V.tables probe.old }
+    ensures counted { V.count probe.new ≤ V.count probe.old + length (fed_in arrivals.now.entries at) }
 {
     let mut given = Held::none();
     let fed = fed_by(arrivals, at);
@@ -144,40 +117,35 @@ fn is_given_otherwise(
             return true;
         }
         if other != num {
-            given = given.union(&gave_from_outside(tables, table, region, other));
+            given = given.union(&gave_from_outside(probe, table, region, other));
         }
     }
     covers(&given, passed)
 }
 
-/// Whether revoking a grant takes nothing. The region has a place for each node that its node reaches.
-pub(crate) fn takes_nothing(
-    tables: &Tables,
+/// Whether revoking a grant takes nothing. The region has a place for each node that its node reaches. The grant is evaluated once,
+/// and so is each other one that goes to its node, the newest first, until what is missed is found.
+pub(crate) fn takes_nothing<V: Probe>(
+    probe: &mut V,
     table: &Table,
     arrivals: &Edges,
     region: &Table,
     num: GrantId,
 ) -> bool
-    requires coherent { IsCoherent tables.now }
-    requires arrivals { IsArrivalsOf tables.now (fed_in arrivals.now.entries) }
-    requires region { (nodes : List Node) × IsEmptyAt nodes region.now.entries × ((grant : Grant)
-        → IsGrant tables.now num grant → IsRegionOf tables.now (the_node_of num grant ∷ []) nodes) }
-    ensures { IsTrue result → TakesNothing tables.now table.now.entries num }
+    requires coherent { IsCoherent (V.tables probe.old) }
+    requires arrivals { IsArrivalsOf (V.tables probe.old) (fed_in arrivals.now.entries) }
+    requires row { (grant : the_grant.Grant) × IsGrant (V.tables probe.old) num grant }
+    requires region { (nodes : List Node) × IsEmptyAt nodes region.now.entries × ((grant : the_grant.Grant)
+        → IsGrant (V.tables probe.old) num grant → IsRegionOf (V.tables probe.old) (the_node_of num grant ∷ []) nodes) }
+    ensures nothing { IsTrue result → TakesNothing (V.tables probe.old) table.now.entries num }
+    ensures same { V.tables probe.new ≡ V.tables probe.old }
+    ensures counted { (grant : the_grant.Grant) → IsGrant (V.tables probe.old) num grant
+        → V.count probe.new ≤ V.count probe.old + 1 + length (fed_in arrivals.now.entries (the_node_of num grant)) }
 {
-    let Some(grant) = find_grant(tables, num) else {
-        return false;
-    };
-    if source_of(grant).is_none() {
+    if probe.source(num).is_none() {
         return false;
     }
-    let passed = passed(tables, table, num, grant);
-    is_given_otherwise(
-        tables,
-        table,
-        arrivals,
-        region,
-        node_of(num, grant),
-        num,
-        &passed,
-    )
+    let passed = probe.pass(num, table);
+    let node = probe.node(num);
+    is_given_otherwise(probe, table, arrivals, region, node, num, &passed)
 }

@@ -18,60 +18,62 @@ module _ (t : Tables) (gs : List Grant) (g : GrantId) (nodes : List Node) where
   abbrev pub after : Tables
   after = record t { grants = gs }
 
-  module _ (others : (h : GrantId) → h ≢ g → row gs h.0 ≡ row t.grants h.0)
-      (was : (grant : Grant) → IsGrant t g grant → Contains nodes (node_of g grant))
-      (is : (grant : Grant) → IsGrant after g grant → Contains nodes (node_of g grant)) where
-    apart_before : (h : GrantId) (grant : Grant) → IsGrant t h grant → (Contains nodes (node_of h grant) → ⊥) → h ≢ g
-    apart_before h grant there out same = out (subst (λ (k : GrantId). Contains nodes (node_of k grant)) (sym same) (was grant (subst (λ (k : GrantId). IsGrant t k grant) same there)))
-
-    apart_after : (h : GrantId) (grant : Grant) → IsGrant after h grant → (Contains nodes (node_of h grant) → ⊥) → h ≢ g
-    apart_after h grant there out same = out (subst (λ (k : GrantId). Contains nodes (node_of k grant)) (sym same) (is grant (subst (λ (k : GrantId). IsGrant after k grant) same there)))
-
+  module _ (others : (h : GrantId) → h ≢ g → row gs h.0 ≡ row t.grants h.0) where
     live_after : (h : GrantId) (grant : Grant) → h ≢ g → IsLive t h grant → IsLive after h grant
     live_after h grant apart l = record { is_row = others h apart ∙ l.is_row; live = l.live }
 
     live_before : (h : GrantId) (grant : Grant) → h ≢ g → IsLive after h grant → IsLive t h grant
     live_before h grant apart l = record { is_row = sym (others h apart) ∙ l.is_row; live = l.live }
 
-    there : IsCoherent t → GivesOutside (Contains nodes) t after
-    there coherent = record {
-      owned = λ n grain app out o. record { is_row = o.is_row; of_app = o.of_app; kept = o.kept; enabled = o.enabled };
-      passed = λ h grant fact out p. record { is_live = live_after h grant (apart_before h grant p.is_live.is_row out) p.is_live; received = p.received; gives = p.gives };
-      asked = λ h grant q out row_is c now. now;
-      asked_of_site = λ h grant q out row_is none c now. now;
-      opened = λ h grant out none o.
-          let apart = apart_before h grant o.is_live.is_row (λ c. out (subst (λ (n : Node). Contains nodes n) (sym (node_of_site t coherent h grant o.is_live.is_row none)) c)) in
-          record { is_live = live_after h grant apart o.is_live; kept = o.kept };
-    }
+    module _ (was : (grant : Grant) → IsGrant t g grant → Contains nodes (node_of g grant)) where
+      apart_before : (h : GrantId) (grant : Grant) → IsGrant t h grant → (Contains nodes (node_of h grant) → ⊥) → h ≢ g
+      apart_before h grant there out same = out (subst (λ (k : GrantId). Contains nodes (node_of k grant)) (sym same) (was grant (subst (λ (k : GrantId). IsGrant t k grant) same there)))
 
-    back : IsCoherent after → GivesOutside (Contains nodes) after t
-    back coherent = record {
-      owned = λ n grain app out o. record { is_row = o.is_row; of_app = o.of_app; kept = o.kept; enabled = o.enabled };
-      passed = λ h grant fact out p. record { is_live = live_before h grant (apart_after h grant p.is_live.is_row out) p.is_live; received = p.received; gives = p.gives };
-      asked = λ h grant q out row_is c now. now;
-      asked_of_site = λ h grant q out row_is none c now. now;
-      opened = λ h grant out none o.
-          let apart = apart_after h grant o.is_live.is_row (λ c. out (subst (λ (n : Node). Contains nodes n) (sym (node_of_site after coherent h grant o.is_live.is_row none)) c)) in
-          record { is_live = live_before h grant apart o.is_live; kept = o.kept };
-    }
+      pub gives_there : IsCoherent t → GivesOutside (Contains nodes) t after
+      gives_there coherent = record {
+        owned = λ n grain app out o. record { is_row = o.is_row; of_app = o.of_app; kept = o.kept; enabled = o.enabled };
+        passed = λ h grant fact out p. record { is_live = live_after h grant (apart_before h grant p.is_live.is_row out) p.is_live; received = p.received; gives = p.gives };
+        asked = λ h grant q out row_is c now. now;
+        asked_of_site = λ h grant q out row_is none c now. now;
+        opened = λ h grant out none o.
+            let apart = apart_before h grant o.is_live.is_row (λ c. out (subst (λ (n : Node). Contains nodes n) (sym (node_of_site t coherent h grant o.is_live.is_row none)) c)) in
+            record { is_live = live_after h grant apart o.is_live; kept = o.kept };
+      }
 
-    -- what led nowhere before the change leads nowhere after it
-    pub closed_since : LeadsNowhere t nodes → LeadsNowhere after nodes
-    closed_since closed from h grant row_is feeds inside =
-        elim (same_grant h g) [
-          | inl same ↦ subst (λ (k : GrantId). Contains nodes (node_of k grant)) (sym same) (is grant (subst (λ (k : GrantId). IsGrant after k grant) same row_is))
-          | inr apart ↦ closed from h grant (sym (others h apart) ∙ row_is) feeds inside
-        ]
+    module _ (is : (grant : Grant) → IsGrant after g grant → Contains nodes (node_of g grant)) where
+      apart_after : (h : GrantId) (grant : Grant) → IsGrant after h grant → (Contains nodes (node_of h grant) → ⊥) → h ≢ g
+      apart_after h grant there out same = out (subst (λ (k : GrantId). Contains nodes (node_of k grant)) (sym same) (is grant (subst (λ (k : GrantId). IsGrant after k grant) same there)))
 
-    pub touches : IsCoherent t → IsCoherent after → LeadsNowhere after nodes → Touches nodes t after
-    touches coherent coherent_after closed = record {
-      coherent = coherent;
-      closed = λ from h grant row_is feeds inside.
+      pub gives_back : IsCoherent after → GivesOutside (Contains nodes) after t
+      gives_back coherent = record {
+        owned = λ n grain app out o. record { is_row = o.is_row; of_app = o.of_app; kept = o.kept; enabled = o.enabled };
+        passed = λ h grant fact out p. record { is_live = live_before h grant (apart_after h grant p.is_live.is_row out) p.is_live; received = p.received; gives = p.gives };
+        asked = λ h grant q out row_is c now. now;
+        asked_of_site = λ h grant q out row_is none c now. now;
+        opened = λ h grant out none o.
+            let apart = apart_after h grant o.is_live.is_row (λ c. out (subst (λ (n : Node). Contains nodes n) (sym (node_of_site after coherent h grant o.is_live.is_row none)) c)) in
+            record { is_live = live_before h grant apart o.is_live; kept = o.kept };
+      }
+
+      -- what led nowhere before the change leads nowhere after it
+      pub closed_since : LeadsNowhere t nodes → LeadsNowhere after nodes
+      closed_since closed from h grant row_is feeds inside =
           elim (same_grant h g) [
-            | inl same ↦ subst (λ (k : GrantId). Contains nodes (node_of k grant)) (sym same) (was grant (subst (λ (k : GrantId). IsGrant t k grant) same row_is))
-            | inr apart ↦ closed from h grant (others h apart ∙ row_is) feeds inside
-          ];
-      closed_after = closed;
-      there = there coherent;
-      back = back coherent_after;
-    }
+            | inl same ↦ subst (λ (k : GrantId). Contains nodes (node_of k grant)) (sym same) (is grant (subst (λ (k : GrantId). IsGrant after k grant) same row_is))
+            | inr apart ↦ closed from h grant (sym (others h apart) ∙ row_is) feeds inside
+          ]
+
+    module _ (was : (grant : Grant) → IsGrant t g grant → Contains nodes (node_of g grant))
+        (is : (grant : Grant) → IsGrant after g grant → Contains nodes (node_of g grant)) where
+      pub touches : IsCoherent t → IsCoherent after → LeadsNowhere after nodes → Touches nodes t after
+      touches coherent coherent_after closed = record {
+        coherent = coherent;
+        closed = λ from h grant row_is feeds inside.
+            elim (same_grant h g) [
+              | inl same ↦ subst (λ (k : GrantId). Contains nodes (node_of k grant)) (sym same) (was grant (subst (λ (k : GrantId). IsGrant t k grant) same row_is))
+              | inr apart ↦ closed from h grant (others h apart ∙ row_is) feeds inside
+            ];
+        closed_after = closed;
+        there = gives_there was coherent;
+        back = gives_back is coherent_after;
+      }

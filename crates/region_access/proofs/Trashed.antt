@@ -12,7 +12,8 @@ use Rattle.share_graph.specs.Rows.{row, IsGrain}
 use Rattle.share_graph.specs.Setting.{with_trashed}
 use Rattle.share_graph.proofs.Marked.{change_row_other}
 use Rattle.region_work.specs.Prepared.{LeadsNowhere, Touches}
-use Rattle.region_access.proofs.ManyGrains.{with_grains, HasNodesOn, MayTouch, touches_by_grains}
+use Rattle.share_graph.specs.Region.{GivesOutside}
+use Rattle.region_access.proofs.ManyGrains.{with_grains, HasNodesOn, MayTouch, gives_by_grains, touches_by_grains}
 
 changed : {X : Type 0} (f : X → X) (xs : List X) (i : ℕ) (x : X) → slice_get xs i ≡ Some x → slice_get (change f xs i) i ≡ Some (f x)
 changed f [] i x is = cc is
@@ -67,3 +68,6 @@ module _ (t : Tables) (n : GrainId) (on : Bool) (nodes : List Node)
 
   pub trash_touches : IsCoherent t → IsCoherent (with_grains t new) → LeadsNowhere t nodes → Touches nodes t (with_grains t new)
   trash_touches coherent coherent_after closed = touches_by_grains t nodes t.grains new coherent coherent_after forth back closed
+
+  pub trash_back : IsCoherent (with_grains t new) → GivesOutside (Contains nodes) (with_grains t new) t
+  trash_back coherent_after = gives_by_grains t nodes new t.grains coherent_after back

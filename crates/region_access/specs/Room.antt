@@ -1,5 +1,5 @@
 -- What is made ready for a change.
-use Rattle.std.specs.Prelude.{◌≡◌, ◌↔◌, List, Some}
+use Rattle.std.specs.Prelude.{◌≡◌, ◌↔◌, Bool, true, false, List, Some, Contains, IsSome}
 use Rattle.share_graph.specs.declared.facts.Fact.{Fact}
 use Rattle.share_graph.specs.declared.facts.Node.{Node}
 use Rattle.share_graph.specs.declared.state.Tables.{Tables}
@@ -19,14 +19,19 @@ HasSameFacts old new = (at : Node) (fact : Fact) → HeldAt new at fact ↔ Held
 abbrev pub HasEmptyPlace : Table → Node → Type 0
 HasEmptyPlace table at = (held : Held) × (held_at table at ≡ Some held) × ((fact : Fact) → IsIn held fact → ⊥)
 
--- The room has the region of the seeds, with places in the table, and the table is cleared there. The room has what was
--- there, and nothing was found yet.
+-- A table that is to grow stays. In another one the room's nodes are cleared, and the room has what they held.
+abbrev pub IsOpened : Bool → Room → Table → Table → Type 0
+IsOpened true room start new = new ≡ start
+IsOpened false room start new =
+    Clears room.nodes.items start new × IsWhatWas start room.nodes.items room.before.items
+
+-- The room has the region of the seeds, with places in the table, which is opened there, and nothing was found yet.
 pub record IsRoom (t : Tables) (seeds : List Node) (old new : Table) (room : Room) : Type 0 where
   pub region : IsRegionOf t seeds room.nodes.items
   pub start : Table
   pub same : HasSameFacts old start
-  pub clears : Clears room.nodes.items start new
-  pub before : IsWhatWas start room.nodes.items room.before.items
+  pub opened : IsOpened room.grows room start new
+  pub places : (at : Node) → Contains room.nodes.items at → IsSome (held_at new at)
   pub fresh : IsFresh room.nodes.items room.waiting
 
 -- the table is as it was when it was made ready with the room

@@ -27,7 +27,7 @@ pub use index::Ties;
 pub use indexes::Indexes;
 pub use indexing::edges_of;
 pub use preparing::{prepare, take_back};
-pub use reaching::find_region;
+pub use reaching::{distinct, find_region};
 pub use room::Room;
 pub use seeds::seeds_of;
 pub use tie::Tie;

@@ -1,6 +1,6 @@
 //! Making ready for a change, and taking that back.
 
-ghost use Rattle.std.specs.Prelude.{◌≡◌, IfOk, OnOk, OnErr, List, Contains, IsSome};
+ghost use Rattle.std.specs.Prelude.{◌≡◌, false, IfOk, OnOk, OnErr, List, Contains, IsSome};
 ghost use Rattle.share_graph.specs.declared.facts.Node.{Node};
 ghost use Rattle.share_graph.specs.declared.state.Tables.{Tables};
 ghost use Rattle.share_graph.specs.Coherent.{IsCoherent};
@@ -38,18 +38,21 @@ fn add_places(table: &mut Table, nodes: &[Node]) -> Result<(), Memory>
     Ok(())
 }
 
-// Finds the region of the seeds, takes all room that solving it again wants, and clears it. Where memory runs out, no fact is lost.
+// Finds the region of the seeds, takes all room that solving it again wants, and clears it, where it isn't to grow. Where memory runs
+// out, no fact is lost.
 fn make_room<V: Probe>(
     alloc: Global,
     probe: &V,
     table: &mut Table,
     edges: &Edges,
     seeds: &[Node],
+    grows: bool,
 ) -> Result<Room, Memory>
     requires coherent { IsCoherent (V.tables probe.now) }
     requires index { IsIndexOf (V.tables probe.now) (fed_in edges.now.entries) }
     ensures err { OnErr result (HasSameFacts table.old.entries table.new.entries) }
     ensures ok { IfOk result (IsRoom (V.tables probe.now) seeds.now table.old.entries table.new.entries) }
+    ensures mode { IfOk result (λ room. room.grows ≡ grows) }
 {
     let nodes = find_region(alloc, probe, edges, seeds)?;
     let waiting = Waiting::new(alloc, nodes.as_slice())?;
@@ -60,11 +63,14 @@ fn make_room<V: Probe>(
         drop_empty(table, nodes.as_slice());
         return Err(fault);
     }
-    clear(table, nodes.as_slice(), &mut before);
+    if !grows {
+        clear(table, nodes.as_slice(), &mut before);
+    }
     Ok(Room {
         nodes,
         before,
         waiting,
+        grows,
     })
 }
 
@@ -75,12 +81,14 @@ fn fill_back(table: &mut Table, room: Room)
         → IsRoom t seeds start table.old.entries room → HasSameFacts start table.new.entries }
     ensures dropped { (at : Node) → Contains room.nodes.items at → HasEmptyPlace table.new.entries at → ⊥ }
 {
-    undo(table, room.nodes.as_slice(), room.before.as_slice());
+    if !room.grows {
+        undo(table, room.nodes.as_slice(), room.before.as_slice());
+    }
     drop_empty(table, room.nodes.as_slice());
 }
 
-/// Finds the region of the seeds, takes all room that solving it again wants, clears it, and adds a new grant, if there is one, to
-/// the indexes. Where memory runs out, every fact and every index is as before.
+/// Finds the region of the seeds, takes all room that solving it again wants, clears it where it isn't to grow, and adds a new
+/// grant, if there is one, to the indexes. Where memory runs out, every fact and every index is as before.
 pub fn prepare<V: Probe>(
     alloc: Global,
     probe: &V,
@@ -88,6 +96,7 @@ pub fn prepare<V: Probe>(
     indexes: &mut Indexes,
     seeds: &[Node],
     added: &Option<NewGrant>,
+    grows: bool,
 ) -> Result<Room, Memory>
     requires coherent { IsCoherent (V.tables probe.now) }
     requires indexes { AreIndexesOf (V.tables probe.now) (entries_of indexes.old) }
@@ -95,7 +104,8 @@ pub fn prepare<V: Probe>(
     ensures err { OnErr result (HasSameFacts table.old.entries table.new.entries) }
     ensures err_indexes { OnErr result (HaveSame (entries_of indexes.old) (entries_of indexes.new)) }
     ensures ok { IfOk result (IsRoom (V.tables probe.now) seeds.now table.old.entries table.new.entries) }
-    ensures prepared { IfOk result (λ room. (after : Tables)
+    ensures mode { IfOk result (λ room. room.grows ≡ grows) }
+    ensures prepared { IfOk result (λ room. (after : Tables) → room.grows ≡ false
         → IsSolutionOf (V.tables probe.now) table.old.entries
         → Touches room.nodes.items (V.tables probe.now) after
         → IsPrepared after room.nodes.items table.new.entries) }
@@ -103,7 +113,7 @@ pub fn prepare<V: Probe>(
     ensures indexes_after { OnOk result ((after : Tables) → AddsGrant added.now (V.tables probe.now) after
         → AreIndexesOf after (entries_of indexes.new)) }
 {
-    let room = make_room(alloc, probe, table, &indexes.edges, seeds)?;
+    let room = make_room(alloc, probe, table, &indexes.edges, seeds, grows)?;
     match add_new(alloc, indexes, added) {
         Ok(()) => Ok(room),
         Err(fault) => {

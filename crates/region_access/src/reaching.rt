@@ -1,6 +1,6 @@
 //! Finding the region of a change.
 
-ghost use Rattle.std.specs.Prelude.{◌≡◌, ◌⊎◌, IfOk, OnOk, Contains};
+ghost use Rattle.std.specs.Prelude.{◌≡◌, ◌≢◌, ◌⊎◌, ◌↔◌, AllPairs, IfOk, OnOk, Contains};
 ghost use Rattle.host_base.specs.declared.ids.GrantId.{GrantId};
 ghost use Rattle.share_graph.specs.declared.facts.Node.{Node};
 ghost use Rattle.share_graph.specs.declared.grants.Grant.{Grant};
@@ -70,6 +70,17 @@ fn add_seeds(places: &mut Table, nodes: &mut Vec<Node>, seeds: &[Node]) -> Resul
         reach(places, nodes, *seed)?;
     }
     Ok(())
+}
+
+/// The same nodes, each once.
+pub fn distinct(alloc: Global, nodes: &[Node]) -> Result<Vec<Node>, Memory>
+    ensures same { IfOk result (λ found. (at : Node) → Contains found.items at ↔ Contains nodes.now at) }
+    ensures once { IfOk result (λ found. AllPairs (λ (a : Node) (b : Node). a ≢ b) found.items) }
+{
+    let mut places = BTreeMap::new(alloc);
+    let mut found = Vec::new(alloc);
+    add_seeds(&mut places, &mut found, nodes)?;
+    Ok(found)
 }
 
 /// The nodes that the seeds reach along shares and needs, each once.

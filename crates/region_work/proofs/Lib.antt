@@ -8,5 +8,6 @@ pub mod StepWorks
 pub mod Owned
 pub mod Started
 pub mod Resumed
+pub mod Grown
 pub mod Emptied
 pub mod Words

@@ -42,6 +42,18 @@ pub record IsPrepared (u : Tables) (nodes : List Node) (table : Table) : Type 0 
   pub clears : Clears nodes start table
   pub touches : Touches nodes tables u
 
+-- THE TABLE IS TO GROW: it solved some tables, of which the tables after the change give all, and more at the starts alone.
+-- The nodes, among which the starts are, have places, and no share or need leads from them to another one.
+pub record IsToGrow (u : Tables) (starts nodes : List Node) (table : Table) : Type 0 where
+  pub tables : Tables
+  pub coherent : IsCoherent tables
+  pub solved : IsSolutionOf tables table
+  pub adds : GivesOutside (Contains []) tables u
+  pub only : GivesOutside (Contains starts) u tables
+  pub within : (at : Node) → Contains starts at → Contains nodes at
+  pub places : (at : Node) → Contains nodes at → IsSome (held_at table at)
+  pub closed : LeadsNowhere u nodes
+
 -- nothing was found yet at the nodes
 pub record IsFresh (nodes : List Node) (work : Work) : Type 0 where
   pub places : (at : Node) → IsSome (held_at work.found at) ↔ Contains nodes at

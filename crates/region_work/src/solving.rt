@@ -1,12 +1,14 @@
 //! Solving a region again.
 
-ghost use Rattle.std.specs.Prelude.{◌≡◌, ◌≤◌, ◌+◌, length};
+ghost use Rattle.std.specs.Prelude.{◌≡◌, ◌≤◌, ◌+◌, List, length};
 ghost use Rattle.share_graph.specs.Coherent.{IsCoherent};
 ghost use Rattle.least_access.specs.Solved.{IsSolutionOf};
 ghost use Rattle.region_work.specs.Fed.{fed_in};
-ghost use Rattle.region_work.specs.Prepared.{HasGrants, IsPrepared, IsFresh};
+ghost use Rattle.host_base.specs.declared.ids.GrantId.{GrantId};
+ghost use Rattle.share_graph.specs.declared.facts.Node.{Node};
+ghost use Rattle.region_work.specs.Prepared.{HasGrants, IsPrepared, IsToGrow, IsFresh};
 ghost use Rattle.region_work.specs.Starting.{bound_by, needs_by, most_evaluations};
-ghost use Rattle.region_work.specs.Working.{IsIndexOf, owed_by};
+ghost use Rattle.region_work.specs.Working.{HasRegion, IsIndexOf, owed_by};
 
 use crate::edges::Edges;
 use crate::owning::find_owned;
@@ -44,5 +46,32 @@ pub fn solve_region<V: Probe>(
 {
     find_owned(probe, waiting, nodes);
     start_grants(probe, table, waiting, grants);
+    work_off(probe, table, waiting, edges);
+}
+
+/// Lets a table grow by what a change adds, in no memory and with nothing taken back: the table is then the solution. Each grant
+/// that goes to the starts costs one evaluation; beyond that there is one for each fact that the source of a grant gains, and for
+/// each need that becomes met.
+pub fn grow_region<V: Probe>(
+    probe: &mut V,
+    table: &mut Table,
+    waiting: &mut Waiting,
+    edges: &Edges,
+    starts: &[Node],
+    arrivals: &[GrantId],
+)
+    requires coherent { IsCoherent (V.tables probe.old) }
+    requires index { IsIndexOf (V.tables probe.old) (fed_in edges.now.entries) }
+    requires arrivals { HasGrants (V.tables probe.old) starts.now arrivals.now }
+    requires grows { (nodes : List Node) × IsToGrow (V.tables probe.old) starts.now nodes table.old.entries
+        × IsFresh nodes waiting.old }
+    ensures same { V.tables probe.new ≡ V.tables probe.old }
+    ensures solution { IsSolutionOf (V.tables probe.old) table.new.entries }
+    ensures spent { (fed : List GrantId) → HasRegion (V.tables probe.old) waiting.old.found fed
+        → V.count probe.new + owed_by (V.tables probe.old) table.new.entries fed
+        ≤ V.count probe.old + length arrivals.now + owed_by (V.tables probe.old) table.old.entries fed }
+{
+    find_owned(probe, waiting, starts);
+    start_grants(probe, table, waiting, arrivals);
     work_off(probe, table, waiting, edges);
 }

@@ -1,6 +1,6 @@
 //! Asking what grants pass on from the start.
 
-ghost use Rattle.std.specs.Prelude.{◌≡◌, ◌≤◌, ◌+◌, Contains, IsSome};
+ghost use Rattle.std.specs.Prelude.{◌≡◌, ◌≤◌, ◌+◌, length, Contains, IsSome};
 ghost use Rattle.host_base.specs.declared.ids.GrantId.{GrantId};
 ghost use Rattle.share_graph.specs.declared.facts.Fact.{Fact};
 ghost use Rattle.share_graph.specs.declared.grants.Grant.{Grant};
@@ -31,6 +31,7 @@ pub fn start_grants<V: Probe>(
     requires rows { (num : GrantId) → Contains grants.now num
         → (grant : Grant) × IsGrant (V.tables probe.old) num grant × IsSome (held_at waiting.old.found (node_of num grant)) }
     ensures same { V.tables probe.new ≡ V.tables probe.old }
+    ensures once { V.count probe.new ≡ V.count probe.old + length grants.now }
     ensures counted { V.count probe.new + owed_by (V.tables probe.old) table.now.entries grants.now
         ≤ V.count probe.old + bound_by (V.tables probe.old) grants.now }
     ensures finds { Finds waiting.old waiting.new }

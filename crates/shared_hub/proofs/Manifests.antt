@@ -19,7 +19,7 @@ value_send : IsSend TagValue.the_row
 value_send = search (knot.crosses, name.the_send, crosses, sendable) depth 20
 
 tag_send : IsSend Tag.the_row
-tag_send = view_send _ _ _ _ _ (declared_send Tag.TheInside.the_type (search sendable depth 5, (value_send, tt)))
+tag_send = view_send _ _ _ _ _ (declared_send Tag.TheInside.the_type (search sendable depth 5, (value_send, (value_send, tt))))
 
 descriptor_send : IsSend Descriptor.the_row
 descriptor_send = view_send _ _ _ _ _ (declared_send Descriptor.TheInside.the_type (Vec-send _ tag_send, (quality.the_send, tt)))

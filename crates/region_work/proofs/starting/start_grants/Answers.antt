@@ -21,7 +21,7 @@ try_grant-requires-clause-row g c =
     let (grant, is, place) = c.requires.rows num (Contains-get_or c.args.grants.now c.loop-num.num-index blank c.loop-num-test.true) in (
       grant,
       subst (λ (t : Tables). IsGrant t num grant) (sym c.loop-num.invariant.0) is,
-      (c.loop-num.invariant.2.finds.places (node_of num grant)).1 place,
+      (c.loop-num.invariant.3.finds.places (node_of num grant)).1 place,
     )
 
 pub loop-num-preserved : goal.loop-num-preserved
@@ -37,11 +37,12 @@ loop-num-preserved g c =
           let owes = sum_by_more (owed t c.args.table.now.entries) c.args.grants.now c.loop-num.num-index blank c.loop-num-test.true in
           let bounds = sum_by_more (bound_of t) c.args.grants.now c.loop-num.num-index blank c.loop-num-test.true in
           omega arith),
+      (let before = c.loop-num.invariant.2 in let one = c.try_grant.ensures.counted in omega arith),
       started_one t c.args.table.now.entries c.args.grants.now c.args.waiting.now c.loop-num.waiting c.try_grant.new.waiting c.loop-num.num-index blank
-          c.loop-num-test.true c.loop-num.invariant.2 c.try_grant.ensures.finds (rw same at c.try_grant.ensures.sound) (rw same at c.try_grant.ensures.tried),
+          c.loop-num-test.true c.loop-num.invariant.3 c.try_grant.ensures.finds (rw same at c.try_grant.ensures.sound) (rw same at c.try_grant.ensures.tried),
     )
 
 pub returns-clause-tried : goal.returns-clause-tried
 returns-clause-tried g c num grant fact has is f =
     let whole = take_all c.loop-num.num-index c.args.grants.now c.loop-num-test.false in
-    c.loop-num.invariant.2.tested num (subst (λ (gs : List GrantId). Contains gs num) (sym whole) has) grant fact is f
+    c.loop-num.invariant.3.tested num (subst (λ (gs : List GrantId). Contains gs num) (sym whole) has) grant fact is f

@@ -8,4 +8,5 @@ abbrev pub invariant-loop-num : goal.invariant-loop-num
 invariant-loop-num g l =
     (g.V.Probe.tables l.probe ≡ g.V.Probe.tables l.fn.probe)
     × (g.V.Probe.count l.probe + owed_by (g.V.Probe.tables l.fn.probe) l.table.entries (take l.num-index l.grants) ≤ g.V.Probe.count l.fn.probe + bound_by (g.V.Probe.tables l.fn.probe) (take l.num-index l.grants))
+    × (g.V.Probe.count l.probe ≡ g.V.Probe.count l.fn.probe + l.num-index)
     × StartedBelow (g.V.Probe.tables l.fn.probe) l.table.entries l.grants l.fn.waiting l.waiting l.num-index
