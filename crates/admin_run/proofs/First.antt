@@ -1,15 +1,16 @@
 -- The tables with the first account alone are a well-formed state without sessions, and a keeper that has just its row has them.
-use Rattle.std.proofs.Common.{◌≡◌, ◌∙◌, ◌≤◌, ℕ, zero, suc, IsTrue, List, [], ◌∷◌, Option, None, Some, length, refl, ap, sym, subst, arith}
+use Rattle.std.proofs.Common.{◌≡◌, ◌∙◌, ◌≤◌, ℕ, zero, suc, IsTrue, List, [], ◌∷◌, Option, None, Some, Ok, length, refl, ap, sym, subst, arith}
 use Rattle.std.proofs.lemmas.List.{nil_from_length}
 use Rattle.cloud_keeper.specs.Keeping.{Keeping, RowsFollow, TellsStill}
 use Rattle.cloud_keeper.specs.declared.row.Row.{Row}
 use Rattle.share_graph.specs.declared.rows.Account.{Account}
 use Rattle.share_graph.specs.declared.state.Tables.{Tables}
 use Rattle.share_graph.specs.WellFormed.{AreNumbered, IsWellFormed, IsWithinLimits}
+use Rattle.row_tables.specs.Checks.{GivesTables}
 use Rattle.row_tables.specs.Kept.{AreRowsOf, IsStored}
 use Rattle.row_tables.specs.Numbered.{TablesAreNumbered}
 use Rattle.host_base.specs.Drawing.{Drawer}
-use Rattle.admin_run.specs.Beginning.{Begins, BeginsWith, HadNoRows, StatesTables}
+use Rattle.admin_run.specs.Beginning.{Begins, BeginsWith, HadRows}
 use Rattle.first_account.specs.First.{HasJust, HasNoRows, first_admin, first_row, first_tables}
 use Rattle.first_account.proofs.Opening.{first_checked, first_kept}
 use Rattle.hub_core.specs.Opening.{AreOfKeeper, opened}
@@ -60,8 +61,12 @@ none_loaded keeping items loaded none = λ rows told. sym (loaded rows told) ∙
 pub of_keeper : (old now : Keeping) (items : List Row) → ((rows : List Row) → now.rows ≡ Some rows → items ≡ rows) → TellsStill old now (λ rows. rows) → AreOfKeeper old now items
 of_keeper old now items loaded tells = λ clean rows was. loaded rows (tells.told clean rows was)
 
-pub had_none : (old now : Keeping) (items : List Row) → AreOfKeeper old now items → length items ≡ 0 → HadNoRows old now
+pub had_none : (old now : Keeping) (items : List Row) → AreOfKeeper old now items → length items ≡ 0 → HadRows old now (λ rows. rows ≡ [])
 had_none old now items are none = λ clean rows was. sym (are clean rows was) ∙ nil_from_length items none
+
+-- these tables are stated by rows, and are well formed
+abbrev pub StatesTables : List Row → Tables → Type 0
+StatesTables rows t = GivesTables (Ok t) rows × AreRowsOf t rows × IsWellFormed (opened t)
 
 -- it begins again with the tables of its rows
 pub begins_again : (old new : Keeping) (drawer : Drawer) (items : List Row) (tables : Tables) → ((rows : List Row) → new.rows ≡ Some rows → items ≡ rows) → TellsStill old new (λ rows. rows) → (length items ≡ 0 → ⊥)
@@ -69,9 +74,9 @@ pub begins_again : (old new : Keeping) (drawer : Drawer) (items : List Row) (tab
 begins_again old new drawer items tables loaded tells some states counts clean =
     let are = of_keeper old new items loaded tells in
     record {
-      with = (λ is rows was none. some (ap length (are is rows was ∙ none)), record { rows = items; told = are; read = states.read });
-      formed = states.formed;
-      stored = record { told = λ rows told. subst (λ (list : List Row). AreRowsOf tables list) (loaded rows told) states.found };
+      with = (λ is rows was none. some (ap length (are is rows was ∙ none)), record { rows = items; told = are; read = states.0 });
+      formed = states.2;
+      stored = record { told = λ rows told. subst (λ (list : List Row). AreRowsOf tables list) (loaded rows told) states.1 };
       drew = refl;
       store_counts = counts;
       clean = clean;

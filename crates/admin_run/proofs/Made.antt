@@ -5,7 +5,7 @@ use Rattle.host_base.specs.InMemory.{MemInput, MemOutput, is_at_end}
 use Rattle.host_base.specs.Outside.{Inlet, Outlet}
 use Rattle.grain_supervise.specs.Line.{Line}
 use Rattle.cloud_serve.specs.Served.{Wired}
-use Rattle.admin_run.specs.Making.{all_left, nothing_written, over_memory}
+use Rattle.admin_run.specs.Making.{over_memory}
 
 -- what a source and a sink in memory tell
 abbrev pub told_in : MemInput → Inlet
@@ -13,6 +13,12 @@ told_in s = record { faults = s.count.faults; ended = is_at_end s.left; left = S
 
 abbrev pub told_out : MemOutput → Outlet
 told_out s = record { faults = s.count.faults; written = Some s.written }
+
+abbrev all_left : List ℕ → Inlet
+all_left bytes = record { faults = 0; ended = is_at_end bytes; left = Some bytes; whole = Some bytes }
+
+abbrev nothing_written : Outlet
+nothing_written = record { faults = 0; written = Some [] }
 
 abbrev outlet_by : CallCounts → List ℕ → Outlet
 outlet_by count written = record { faults = count.faults; written = Some written }

@@ -1,10 +1,11 @@
 -- One connection that was served from the small book by a desk of one's own.
-use Rattle.std.proofs.Common.{◌≡◌, ℕ, List, [], Option, length, sym, subst, arith}
+use Rattle.std.proofs.Common.{◌≡◌, ℕ, List, [], Option, sym, subst, arith}
 use Rattle.host_base.specs.Outside.{Inlet, Outlet}
 use Rattle.grain_supervise.specs.Line.{Line}
 use Rattle.serve_door.specs.Doors.{Doorway}
 use Rattle.share_graph.specs.declared.state.State.{State}
 use Rattle.share_graph.specs.History.{replay}
+use Rattle.cloud_serve.specs.declared.serve.ConnEnd.{ConnEnd}
 use Rattle.cloud_serve.specs.declared.serve.End.{End}
 use Rattle.cloud_serve.specs.declared.serve.End.TheVariants as end
 use Rattle.cloud_serve.specs.Served.{Wired, Served, with_book}
@@ -31,27 +32,23 @@ not_nine (end.CutOff n) is = omega (arith, is)
 not_nine end.Memory is = omega (arith, is)
 not_nine end.Spent is = omega (arith, is)
 
-module _ {K : Type 0} (law : Law) (wire wire' : Wired) (old new : Backing) (e : End) (places : List ℕ) (served forwarded entries : ℕ) where
+module _ {K : Type 0} (law : Law) (wire wire' : Wired) (old new : Backing) (e : ConnEnd) where
   -- it ended with this desk
-  abbrev Ends : Sharing K → ℕ → Type 0
-  Ends desk from = Served (with_book wire (book_with law [] old)) (with_book wire' (book_of law desk)) e from places served forwarded
+  abbrev Ends : Sharing K → Type 0
+  Ends desk = Served (with_book wire (book_with law [] old)) (with_book wire' (book_of law desk)) e.end e.from e.places e.served e.forwarded
 
-  pub serves_book : (desk desk' : Sharing K) (from : ℕ) (keeper : K) → desk ≡ record { start = small_book; history = []; holds = old; keeper = keeper } → new ≡ desk'.holds
-      → Served (with_book wire (book_of law desk)) (with_book wire' (book_of law desk')) e from places served forwarded
-      → IsStored new.keeping (replay desk'.start desk'.history).tables → entries ≡ length desk'.history → ServesBook law wire wire' old new e served forwarded entries
-  serves_book desk desk' from keeper fresh back s stored is =
-      let begun : Ends desk' from = subst (λ (x : Sharing K). Served (with_book wire (book_of law x)) (with_book wire' (book_of law desk')) e from places served forwarded) fresh s in
-      let first : Ends desk' 0 = subst (λ (n : ℕ). Ends desk' n) begun.from_is begun in
+  abbrev pub serves_book : (desk desk' : Sharing K) (keeper : K) → desk ≡ record { start = small_book; history = []; holds = old; keeper = keeper } → new ≡ desk'.holds
+      → Served (with_book wire (book_of law desk)) (with_book wire' (book_of law desk')) e.end e.from e.places e.served e.forwarded
+      → IsStored new.keeping (replay desk'.start desk'.history).tables → ServesBook law wire wire' old new
+  serves_book desk desk' keeper fresh back s stored =
+      let begun : Ends desk' = subst (λ (x : Sharing K). Served (with_book wire (book_of law x)) (with_book wire' (book_of law desk')) e.end e.from e.places e.served e.forwarded) fresh s in
       let same_start = begun.ordered_of.later.start in
-      let started : Ends (record desk' { start = small_book }) 0 =
-      subst (λ (x : State). Ends (record desk' { start = x }) 0) same_start first in
-      let one : Ends (record desk' { start = small_book; holds = new }) 0 =
-      subst (λ (x : Backing). Ends (record desk' { start = small_book; holds = x }) 0) (sym back) started in
+      let started : Ends (record desk' { start = small_book }) = subst (λ (x : State). Ends (record desk' { start = x })) same_start begun in
+      let one : Ends (record desk' { start = small_book; holds = new }) = subst (λ (x : Backing). Ends (record desk' { start = small_book; holds = x })) (sym back) started in
       record {
-        places = places;
+        end = e;
         history = desk'.history;
         headline = one;
         written = one.ordered_of.alone (omega (arith, one.ordered_of.accepted));
         stored = subst (λ (x : State). IsStored new.keeping (replay x desk'.history).tables) same_start stored;
-        entries_are = is;
       }

@@ -1,18 +1,16 @@
 -- What `serve` begins with.
-use Rattle.std.specs.Prelude.{◌≡◌, ◌≢◌, IsTrue, ◌≤◌, ◌⊎◌, ℕ, List, [], Option, None, Some, Ok}
-use Rattle.admin_run.specs.Terms.{AreLoaded, AreRowsOf, BadRow, Coming, Drawer, DrewOneAtMost, first_tables, GivesTables, HasBadRow, IsStored, IsTokenOfNext, IsWellFormed, Keeping, opened, Rose, Row, RowsFollow, Tables}
+use Rattle.std.specs.Prelude.{◌≡◌, ◌≢◌, IsTrue, ◌≤◌, ◌⊎◌, ℕ, List, [], Option, None, Some}
+use Rattle.admin_run.specs.Terms.{AreLoaded, BadRow, Coming, Drawer, DrewOneAtMost, first_tables, HasBadRow, IsStored, IsTokenOfNext, IsWellFormed, Keeping, opened, Rose, Row, RowsFollow, Tables}
 
--- a keeper had rows, or none, where it told them and its store is clean still
-abbrev pub HadSomeRows : Keeping → Keeping → Type 0
-HadSomeRows keeping now = IsTrue now.clean → (rows : List Row) → keeping.rows ≡ Some rows → rows ≢ []
-
-abbrev pub HadNoRows : Keeping → Keeping → Type 0
-HadNoRows keeping now = IsTrue now.clean → (rows : List Row) → keeping.rows ≡ Some rows → rows ≡ []
+-- this holds of a keeper's rows, where it told them and its store is clean still
+abbrev pub HadRows : Keeping → Keeping → (List Row → Type 0) → Type 0
+HadRows keeping now are = IsTrue now.clean → (rows : List Row) → keeping.rows ≡ Some rows → are rows
 
 -- WHAT IT BEGINS WITH: the tables that the keeper's rows state; or where there are none, those with the first account alone, whose login is a token.
 abbrev pub BeginsWith : Keeping → Keeping → Tables → Option (List ℕ) → Type 0
-BeginsWith keeping now tables None = HadSomeRows keeping now × AreLoaded keeping now tables
-BeginsWith keeping now tables (Some token) = HadNoRows keeping now × (tables ≡ first_tables token)
+BeginsWith keeping now tables None = HadRows keeping now (λ rows. rows ≢ []) × AreLoaded keeping now tables
+BeginsWith keeping now tables (Some token) =
+    HadRows keeping now (λ rows. rows ≡ []) × (tables ≡ first_tables token)
 
 -- that token is the first of the secrets to come, and where there is none no secret was drawn
 abbrev pub DrewLogin : Option (List ℕ) → Option Coming → Option Coming → Type 0
@@ -37,9 +35,3 @@ pub record CannotBegin (keeping keeping' : Keeping) (drawer drawer' : Drawer) (s
       ⊎ (((status ≡ 10) × ((bad : BadRow) × HasBadRow keeping keeping' bad)) ⊎ (status ≡ 7))
   pub kept : RowsFollow keeping keeping' (λ rows. rows)
   pub drawn : DrewOneAtMost drawer.coming drawer'.coming
-
--- These tables are stated by rows, and are well formed.
-pub record StatesTables (rows : List Row) (t : Tables) : Type 0 where
-  pub read : GivesTables (Ok t) rows
-  pub found : AreRowsOf t rows
-  pub formed : IsWellFormed (opened t)

@@ -17,8 +17,7 @@ JudgesRows old new rows status =
 abbrev pub Judges : Outlet → Outlet → Keeping → Keeping → ℕ → Type 0
 Judges old new keeping keeping' status =
     ((rows : List Row) × AreOfKeeper keeping keeping' rows × JudgesRows old new rows status)
-    ⊎ (((status ≡ 9) × Rose keeping.faults keeping'.faults × (new ≡ old))
-    ⊎ ((status ≡ 7) × (new ≡ old)))
+    ⊎ (((status ≡ 9) × Rose keeping.faults keeping'.faults × (new ≡ old)) ⊎ ((status ≡ 7) × (new ≡ old)))
 
 -- `check`: the keeper's rows are judged and stay as they are, and nothing else is asked.
 pub record ChecksRows (old new : Outside) (status : ℕ) : Type 0 where

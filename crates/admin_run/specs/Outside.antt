@@ -31,9 +31,8 @@ pub record DoesNothing (old new : Outside) (status : ℕ) : Type 0 where
 abbrev pub Tells : Outlet → Outlet → List ℕ → ℕ → ℕ → Type 0
 Tells old new text done status =
     ((status ≡ done) × ((before : List ℕ) → old.written ≡ Some before → new.written ≡ Some (before ++ text)))
-    ⊎ ((status ≡ 5) × Rose old.faults new.faults
-    × ((before : List ℕ) → old.written ≡ Some before → (n : ℕ)
-    × (new.written ≡ Some (before ++ take n text))))
+    ⊎ ((status ≡ 5) × Rose old.faults new.faults × ((before : List ℕ) → old.written ≡ Some before
+    → (n : ℕ) × (new.written ≡ Some (before ++ take n text))))
 
 -- the usage line
 abbrev pub usage_line : List ℕ

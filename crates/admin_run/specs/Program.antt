@@ -21,24 +21,21 @@ abbrev pub AtDoor : Line → Type 0
 AtDoor (line.Serve port count) = Unit {0}
 AtDoor _ = ⊥
 
--- What a line does, by the law of the sites and what a stop may leave of the keeper at the end. Words that are no line get the
--- usage line.
+-- What a line does, by the law of the sites and what a stop may leave of the keeper at the end; `play` and `gen` want memory
+-- before they do anything. Words that are no line get the usage line.
 abbrev pub Does : Law → Line → (List Row → Type 0) → Outside → Outside → ℕ → Type 0
 Does law line.Play may_leave old new status = Plays law old new status ⊎ DoesNothing old new status
-Does law (line.Gen count seed) may_leave old new status = Makes law count seed old new status
+Does law (line.Gen count seed) may_leave old new status =
+    Makes law count seed old new status ⊎ DoesNothing old new status
 Does law line.Check may_leave old new status = ChecksRows old new status
 Does law (line.Grain count) may_leave old new status = ServesGrain count old new status
 Does law (line.Serve port count) may_leave old new status = Serves law count may_leave old new status
 Does law line.Unknown may_leave old new status = TellsUsage old new status
 
--- the words are a line of which this holds
-abbrev pub AreLine : (Line → Type 0) → List (String Global) → Type 0
-AreLine which words = (l : Line) × IsLine words l × which l
-
 -- the words begin with the small book
 abbrev pub BeginWithBook : List (String Global) → Type 0
-BeginWithBook words = AreLine FromBook words
+BeginWithBook words = (l : Line) × IsLine words l × FromBook l
 
 -- the words have connections served at the door
 abbrev pub ServeAtDoor : List (String Global) → Type 0
-ServeAtDoor words = AreLine AtDoor words
+ServeAtDoor words = (l : Line) × IsLine words l × AtDoor l

@@ -18,10 +18,6 @@ served_line answered = (codes "served " ++ decimal answered) ++ codes "\n"
 abbrev pub logins : Tables → List Digest
 logins t = map (λ account. account.login) t.accounts
 
--- how many workers there are beside the one at the door itself
-abbrev pub other_workers : ℕ
-other_workers = 127
-
 -- what a door gave and what came back, where it tells that
 abbrev pub given_and_back : Doorway → Option (ℕ × List Connection)
 given_and_back door = option_map (λ t. (t.given, t.returned)) door.traffic
@@ -39,14 +35,14 @@ pub record ServesNone (text : List ℕ) (history : List Event) (door door' : Doo
   pub untaken : given_and_back door' ≡ given_and_back door
   pub told : Tells out out' text 7 status
 
--- WORKERS SERVED at a door, which is to give so many connections: one at the door itself, and others at handles that it took back.
+-- WORKERS SERVED at a door, which is to give so many connections: one at the door itself, and 127 others at handles that it
+-- took back.
 pub record ServesAtOnce (law : Law) (start : State) (count : ℕ) (text : List ℕ) (history : List Event)
-    (door door' : Doorway) (out out' : Outlet)
-    (status : ℕ) : Type 0 where
+    (door door' : Doorway) (out out' : Outlet) (status : ℕ) : Type 0 where
   pub before : List Post
   pub handles : List Post
   pub main : Post
-  pub hired : AreHired (expecting door count) other_workers before
+  pub hired : AreHired (expecting door count) 127 before
   pub done : DoneAtOnce Works law start history before (handles ++ main ∷ [])
   pub taken_back : door' ≡ with_handles main.doorway handles
   pub stopped : Stopped
@@ -62,22 +58,16 @@ EndsServing law start count text history door door' out out' status =
 
 -- Connections are served, or none is, on a history that the keeper, the secrets and the spawner were told of.
 pub record ServesHistory (law : Law) (start : State) (count : ℕ) (may_leave : List Row → Type 0)
-    (holds holds' : Backing) (door door' : Doorway) (out out' : Outlet) (status : ℕ)
-    : Type 0 where
+    (holds holds' : Backing) (door door' : Doorway) (out out' : Outlet) (status : ℕ) : Type 0 where
   pub history : List Event
   pub stored : IsStored holds'.keeping (replay start history).tables
   pub outlive : OutliveStops holds'.keeping may_leave
   pub kept : HasKept start holds holds' history
   pub ends : EndsServing law start count [] history door door' out out' status
 
--- the secrets that were drawn: the login's, where there is a first account, and then those of the orders
-abbrev pub DrewAll : Option (List ℕ) → Option Coming → Option Coming → Type 0
-DrewAll login coming rest =
-    (between : Option Coming) × DrewLogin login coming between
-    × ((drawn : List (List ℕ)) × DrawsAll between rest drawn)
-
 -- THE HEADLINE of `serve`. A history begins with the tables of the rows that the keeper told, or of the first account, whose login's token is printed; connections
--- are served on it; and the keeper has the tables at its end, in which the accounts still have their logins. The spawner was told the starts and stops of its
+-- are served on it; and the keeper has the tables at its end, in which the accounts still have their logins. The secrets that were
+-- drawn are the login's, where there is a first account, and then those of the orders. The spawner was told the starts and stops of its
 -- entries, and no count fell. Neither the input, the link nor the clock is asked. What a stop may leave at its end is the rows of these tables, or those after one event more.
 pub record ServesFrom (law : Law) (count : ℕ) (may_leave : List Row → Type 0) (old new : Outside) (status : ℕ)
     : Type 0 where
@@ -89,7 +79,8 @@ pub record ServesFrom (law : Law) (count : ℕ) (may_leave : List Row → Type 0
   pub outlive : OutliveStops new.holds.keeping may_leave
   pub added : List Digest
   pub logins_stay : logins (replay (opened tables) history).tables ≡ logins tables ++ added
-  pub drew : DrewAll login old.holds.drawer.coming new.holds.drawer.coming
+  pub drew : (between : Option Coming) × DrewLogin login old.holds.drawer.coming between
+      × ((drawn : List (List ℕ)) × DrawsAll between new.holds.drawer.coming drawn)
   pub spawned : SpawnedSince (opened tables) old.holds.spawns new.holds.spawns history
   pub counts : CountsOn old.holds new.holds
   pub ends : EndsServing law (opened tables) count (login_line login) history

@@ -1,6 +1,6 @@
 -- The statuses of ends.
 use Rattle.std.specs.Prelude.{ℕ}
-use Rattle.admin_run.specs.Terms.{Bad, Cut, Done, End, Ending, GrainEnd, Last}
+use Rattle.admin_run.specs.Terms.{Bad, Cut, End, Ending, GrainEnd}
 use Rattle.grain_program.specs.declared.grain.GrainEnd.TheVariants as grain_end
 use Rattle.cloud_serve.specs.declared.serve.End.TheVariants as end
 
@@ -22,10 +22,9 @@ status_of_made other = status_by other
 
 -- the status that the end of a stream asks for
 abbrev pub status_of_stream : Ending → ℕ
-status_of_stream Done = 0
-status_of_stream Last = 0
 status_of_stream (Cut n) = 6
 status_of_stream (Bad refusal at) = 3
+status_of_stream _ = 0
 
 -- the status of each end of a grain's program
 abbrev pub status_of_grain : GrainEnd → ℕ

@@ -2,13 +2,13 @@
 pub use Rattle.cloud_keeper.specs.Keeping.{Keeping, RowsFollow}
 pub use Rattle.cloud_keeper.specs.declared.row.Row.{Row}
 pub use Rattle.cloud_serve.specs.Acts.{added_by}
-pub use Rattle.cloud_serve.specs.Served.{acts_in, limit, Served, Wired, with_book}
-pub use Rattle.cloud_serve.specs.declared.serve.End.{End}
+pub use Rattle.cloud_serve.specs.Served.{limit, Served, turns_in, Wired, with_book}
+pub use Rattle.cloud_serve.specs.declared.serve.{ConnEnd.ConnEnd, End.End}
 pub use Rattle.command_line.specs.Words.{IsLine}
 pub use Rattle.desk_orders.specs.Secrets.{DrawsAll}
 pub use Rattle.first_account.specs.Drawn.{DrewOneAtMost, IsTokenOfNext}
-pub use Rattle.first_account.specs.First.{first_tables, HasNoRows}
-pub use Rattle.front_http.specs.Stream.{Bad, Cut, Done, Ending, IsStream, Last, Requests}
+pub use Rattle.first_account.specs.First.{first_tables}
+pub use Rattle.front_http.specs.Stream.{Bad, Cut, Ending, IsStream, Requests}
 pub use Rattle.grain_program.specs.Answering.{Prints}
 pub use Rattle.grain_program.specs.Taking.{Takes}
 pub use Rattle.grain_program.specs.declared.grain.GrainEnd.{GrainEnd}
@@ -29,15 +29,12 @@ pub use Rattle.row_tables.specs.TablesRows.{tables_of}
 pub use Rattle.row_tables.specs.declared.stored.BadRow.{BadRow}
 pub use Rattle.serve_door.specs.Doors.{Connection, Doorway, expecting}
 pub use Rattle.serve_door.specs.Working.{all_together, AreHired, Post, with_handles, Works}
-pub use Rattle.serve_door.specs.declared.serving.Stop.{Stop}
-pub use Rattle.serve_door.specs.declared.serving.Stopped.{Stopped}
+pub use Rattle.serve_door.specs.declared.{serving.Stop.Stop, serving.Stopped.Stopped}
 pub use Rattle.sha2.specs.Sha256.{sha256}
 pub use Rattle.share_graph.specs.Checked.{IsChecked}
 pub use Rattle.share_graph.specs.History.{replay}
 pub use Rattle.share_graph.specs.WellFormed.{IsWellFormed}
-pub use Rattle.share_graph.specs.declared.event.Event.{Event}
-pub use Rattle.share_graph.specs.declared.state.State.{State}
-pub use Rattle.share_graph.specs.declared.state.Tables.{Tables}
+pub use Rattle.share_graph.specs.declared.{event.Event.Event, state.State.State, state.Tables.Tables}
 pub use Rattle.shared_hub.specs.Since.{HasKept, SpawnedSince}
 pub use Rattle.site_caps.specs.Law.{Law}
 pub use Rattle.small_book.specs.SmallBook.{small_book}

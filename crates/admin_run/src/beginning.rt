@@ -1,12 +1,15 @@
 //! What `serve` begins with.
-ghost use Rattle.std.specs.Prelude.{◌≡◌, ◌≤◌, ◌⊎◌, IsTrue, IfOk, IfErr, OnOk};
+ghost use Rattle.std.specs.Prelude.{◌≡◌, ◌≤◌, ◌⊎◌, [], IsTrue, Ok, IfOk, IfErr, OnOk};
 ghost use Rattle.host_base.specs.Outside.{Rose};
 ghost use Rattle.cloud_keeper.specs.Keeping.{Keeping, RowsFollow};
 ghost use Rattle.first_account.specs.First.{HasNoRows};
+ghost use Rattle.hub_core.specs.Opening.{opened};
 ghost use Rattle.hub_core.specs.Stopping.{OutliveStops};
 ghost use Rattle.row_tables.specs.declared.stored.BadRow.{BadRow};
-ghost use Rattle.row_tables.specs.Checks.{IsBadRow};
-ghost use Rattle.admin_run.specs.Beginning.{Begins, CannotBegin, HadNoRows, StatesTables};
+ghost use Rattle.row_tables.specs.Checks.{GivesTables, IsBadRow};
+ghost use Rattle.row_tables.specs.Kept.{AreRowsOf};
+ghost use Rattle.share_graph.specs.WellFormed.{IsWellFormed};
+ghost use Rattle.admin_run.specs.Beginning.{Begins, CannotBegin, HadRows};
 ghost use Rattle.admin_run.specs.Outside.{Tells};
 ghost use Rattle.admin_run.specs.Serving.{login_line};
 
@@ -34,7 +37,7 @@ fn begin_anew<K: Keeper, S: Secrets>(
     requires { HasNoRows (K.keeping keeper.old) }
 
     // Whatever the keeper was before it had no rows.
-    ensures begins { (before : Keeping) → HadNoRows before (K.keeping keeper.old)
+    ensures begins { (before : Keeping) → HadRows before (K.keeping keeper.old) (λ rows. rows ≡ [])
         → before.faults ≤ (K.keeping keeper.old).faults
         → (IsTrue (K.keeping keeper.old).clean → IsTrue before.clean)
         → IfOk result (λ begun. Begins before (K.keeping keeper.new) (S.drawer secrets.old)
@@ -57,7 +60,8 @@ fn begin_anew<K: Keeper, S: Secrets>(
 
 // The tables that rows state. The error is the status.
 fn tables_in(alloc: Global, rows: &[Row]) -> Result<Tables, u8>
-    ensures tables { IfOk result (λ tables. StatesTables rows.now tables) }
+    ensures tables { IfOk result (λ tables. GivesTables (Ok tables) rows.now × AreRowsOf tables rows.now
+        × IsWellFormed (opened tables)) }
     ensures fails { IfErr result (λ status.
         ((status ≡ 10) × ((bad : BadRow) × IsBadRow rows.now bad)) ⊎ (status ≡ 7)) }
 {

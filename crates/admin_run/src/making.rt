@@ -1,11 +1,11 @@
 //! `gen`: requests that are made from a seed, and served over memory.
-ghost use Rattle.std.specs.Prelude.{◌≡◌, ◌≢◌, map};
+ghost use Rattle.std.specs.Prelude.{◌≡◌, ◌≢◌, ◌⊎◌, map};
 ghost use Rattle.host_base.specs.Outside.{Rose};
 ghost use Rattle.site_caps.specs.Registered.{IsRegistered};
 ghost use Rattle.hub_core.specs.Stopping.{OutliveStops};
 ghost use Rattle.admin_run.specs.Connection.{HasBook};
 ghost use Rattle.admin_run.specs.Making.{Makes, TellsMade};
-ghost use Rattle.admin_run.specs.Outside.{HasStatusCause};
+ghost use Rattle.admin_run.specs.Outside.{DoesNothing, HasStatusCause};
 
 use crate::connection::small_desk;
 use crate::lines::summary_lines;
@@ -47,7 +47,8 @@ pub(crate) fn make<W: Setting, C: SiteDriver + Drop>(
     requires book { HasBook world.tells.holds.keeping }
     requires outlive { OutliveStops world.tells.holds.keeping (W.Keeper.may_leave world.keeper) }
     requires registered { IsRegistered C.Law.law.tags (map C.tag_of sites.items) }
-    ensures makes { Makes C.Law.law count seed world.tells result.world.tells result.status }
+    ensures makes { Makes C.Law.law count seed world.tells result.world.tells result.status
+        ⊎ DoesNothing world.tells result.world.tells result.status }
     ensures cause { HasStatusCause world.tells result.world.tells result.status }
 {
     let Ok(requests) = generate(alloc, count, seed) else {

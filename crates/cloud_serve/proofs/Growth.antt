@@ -1,5 +1,5 @@
 -- What was so stays so when more is seen, and effects one after another.
-use Rattle.std.proofs.Common.{◌≡◌, ℕ, ◌+◌, ◌≤◌, ◌++◌, List, [], cond, Some, length, refl, sym, ◌∙◌, ap, subst, arith, append_assoc, append-nil, length-append}
+use Rattle.std.proofs.Common.{◌≡◌, ℕ, ◌+◌, ◌≤◌, ◌++◌, List, [], cond, Some, length, count_by, refl, sym, ◌∙◌, ap, subst, arith, append_assoc, append-nil, length-append}
 use Rattle.std.specs.Prelude.{is_none}
 use Rattle.std.proofs.lemmas.List.Sums.{sum_by-append}
 use Rattle.host_base.specs.declared.key.Key.{Key}
@@ -12,7 +12,7 @@ use Rattle.session_table.specs.Verdict.{IsVerdict}
 use Rattle.grain_supervise.specs.declared.ask.Ask.{Ask}
 use Rattle.grain_supervise.specs.Line.{Line}
 use Rattle.hub_core.specs.Book.{Book, Later, Judged, TakesNone}
-use Rattle.cloud_serve.specs.Effects.{failures, AskedOf}
+use Rattle.cloud_serve.specs.Effects.{AskedOf}
 use Rattle.host_base.specs.Outside.{Grew}
 
 pub later_trans : (old mid new : Book) → Later old mid → Later mid new → Later old new
@@ -50,11 +50,15 @@ later_longer old new a = omega (arith, ap length a.seen, length-append old.seen 
 pub grew_trans : (a b c n m : ℕ) → b ≤ c → Grew a b n → Grew b c m → Grew a c (n + m)
 grew_trans a b c n m le f h = λ lt. let first : a + n ≤ b = f (omega arith) in let second : b + m ≤ c = h lt in omega arith
 
+-- how many asks failed
+abbrev fails : List Ask → ℕ
+fails asked = count_by (λ (ask : Ask). is_none ask.back) asked
+
 pub asked_trans : (a b c : Line) (xs ys : List Ask) → AskedOf a b xs → AskedOf b c ys → AskedOf a c (xs ++ ys)
 asked_trans a b c xs ys f h = record {
   told = λ list is. h.told (list ++ xs) (f.told list is) ∙ ap Some (append_assoc list xs ys);
   counts = omega (arith, f.counts, h.counts);
-  counted = subst (λ n. Grew a.faults c.faults n) (sym (sum_by-append (λ (x : Ask). cond (is_none x.back) 1 0) xs ys)) (grew_trans a.faults b.faults c.faults (failures xs) (failures ys) h.counts f.counted h.counted);
+  counted = subst (λ n. Grew a.faults c.faults n) (sym (sum_by-append (λ (x : Ask). cond (is_none x.back) 1 0) xs ys)) (grew_trans a.faults b.faults c.faults (fails xs) (fails ys) h.counts f.counted h.counted);
 }
 
 pub asked_none : (line : Line) → AskedOf line line []

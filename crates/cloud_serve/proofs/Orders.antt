@@ -1,7 +1,6 @@
 -- Orders one after another, and what stands at their places.
 use Rattle.std.proofs.Common.{◌≡◌, ℕ, ◌+◌, ◌≤◌, ◌++◌, Bool, List, [], ◌∷◌, cond, Option, Some, Result, Ok, Err, length, count_by, refl, sym, ◌∙◌, ap, subst, arith, append_assoc, append-nil, length-append}
 use Rattle.host_base.specs.Drawing.{Coming}
-use Rattle.std.specs.List.{flat_map}
 use Rattle.std.proofs.lemmas.Grind.{flat_map-append}
 use Rattle.std.proofs.lemmas.List.Sums.{sum_by-append}
 use Rattle.share_graph.specs.declared.event.Event.{Event}
@@ -20,11 +19,11 @@ use Rattle.desk_orders.specs.Commands.{Asked}
 use Rattle.desk_orders.specs.Secrets.{DrawsAll}
 use Rattle.site_caps.specs.Law.{Law}
 use Rattle.hub_core.specs.Book.{Book, Later, TakesNone, IsFoundFor, Placed, IsCounted, Ordered}
-use Rattle.hub_core.specs.Spawning.{AreOfApp, Spawned, starts_by, stops_by, token_of}
-use Rattle.cloud_serve.specs.Acts.{Act, added_by, drawn_by, started_by, stopped_by, is_store, is_secrets, is_start, store_failures, secret_failures, start_failures}
-use Rattle.cloud_serve.specs.Effects.{SpawnedOf, OrderedOf}
+use Rattle.hub_core.specs.Spawning.{AreOfApp, Spawned, starts_by, stops_by, token_of, WasTold}
+use Rattle.cloud_serve.specs.Acts.{Act, added_by, drawn_by, started_by, stopped_by, is_fault, failures}
+use Rattle.cloud_serve.specs.Effects.{OrderedOf}
 use Rattle.host_base.specs.Outside.{Grew}
-use Rattle.cloud_serve.proofs.Growth.{later_trans, later_refl, later_longer, none_taken, grew_trans}
+use Rattle.cloud_serve.proofs.Growth.{later_trans, later_longer, none_taken, grew_trans}
 
 -- what was drawn in two parts
 pub draws_trans : (a b c : Option Coming) (xs ys : List (List ℕ)) → DrawsAll a b xs → DrawsAll b c ys → DrawsAll a c (xs ++ ys)
@@ -45,6 +44,10 @@ same_front (x ∷ xs) (y ∷ ys) us vs same long =
     let tails : xs ++ us ≡ ys ++ vs = cc in
     let (fronts, backs) = same_front xs ys us vs tails (omega (arith, long)) in
     (ap (λ (z : Event). z ∷ xs) heads ∙ ap (λ (zs : List Event). y ∷ zs) fronts, backs)
+
+-- the spawner was told what orders added and no more
+abbrev SpawnedOf : Spawns → Spawns → List Act → Type 0
+SpawnedOf before after acts = WasTold before after (started_by acts) (stopped_by acts)
 
 -- nothing was ordered
 pub ordered_none : (old new : Book) → TakesNone old new → OrderedOf old new []
@@ -106,9 +109,9 @@ ordered_trans old mid new xs ys f h =
       accepted = omega (arith, f.accepted, h.accepted, long);
       draws = subst (λ (ds : List (List ℕ)). DrawsAll old.holds.drawer.coming new.holds.drawer.coming ds) (sym drawn) (draws_trans old.holds.drawer.coming mid.holds.drawer.coming new.holds.drawer.coming (drawn_by xs) (drawn_by ys) f.draws h.draws);
       spawned = spawned_trans old.holds.spawns mid.holds.spawns new.holds.spawns xs ys f.spawned h.spawned;
-      store = fails_trans is_store old.holds.keeping.faults mid.holds.keeping.faults new.holds.keeping.faults xs ys h.later.counts.store f.store h.store;
-      secrets = fails_trans is_secrets old.holds.drawer.faults mid.holds.drawer.faults new.holds.drawer.faults xs ys h.later.counts.secrets f.secrets h.secrets;
-      starts = fails_trans is_start old.holds.spawns.faults mid.holds.spawns.faults new.holds.spawns.faults xs ys h.later.counts.starts f.starts h.starts;
+      store = fails_trans (is_fault fault.Store) old.holds.keeping.faults mid.holds.keeping.faults new.holds.keeping.faults xs ys h.later.counts.store f.store h.store;
+      secrets = fails_trans (is_fault fault.Secrets) old.holds.drawer.faults mid.holds.drawer.faults new.holds.drawer.faults xs ys h.later.counts.secrets f.secrets h.secrets;
+      starts = fails_trans (is_fault fault.Start) old.holds.spawns.faults mid.holds.spawns.faults new.holds.spawns.faults xs ys h.later.counts.starts f.starts h.starts;
       grows = omega (arith, f.grows, h.grows, long);
       alone = λ same.
           let first : length mid.seen ≡ length old.seen + length (added_by xs) = omega (arith, f.grows, h.grows, long, same) in
@@ -120,21 +123,21 @@ ordered_trans old mid new xs ys f h =
 abbrev pub act_of : Asked → ℕ → Result Reply OrderFault → List (List ℕ) → List Event → AppId → Act
 act_of order place answer drawn added app = record { order = order; place = place; answer = answer; drawn = drawn; added = added; app = app }
 
-store_one : (old new : Book) (order : Asked) (place : ℕ) (drawn : List (List ℕ)) (added : List Event) (app : AppId) (answer : Result Reply OrderFault) → old.holds.keeping.faults ≤ new.holds.keeping.faults → IsCounted old.holds new.holds answer → Grew old.holds.keeping.faults new.holds.keeping.faults (store_failures (act_of order place answer drawn added app ∷ []))
+store_one : (old new : Book) (order : Asked) (place : ℕ) (drawn : List (List ℕ)) (added : List Event) (app : AppId) (answer : Result Reply OrderFault) → old.holds.keeping.faults ≤ new.holds.keeping.faults → IsCounted old.holds new.holds answer → Grew old.holds.keeping.faults new.holds.keeping.faults (failures fault.Store (act_of order place answer drawn added app ∷ []))
 store_one old new order place drawn added app (Ok reply) less counted = λ lt. omega (arith, less)
 store_one old new order place drawn added app (Err fault.Store) less counted = λ lt. omega (arith, less, counted (omega (arith, less, lt)))
 store_one old new order place drawn added app (Err fault.Secrets) less counted = λ lt. omega (arith, less)
 store_one old new order place drawn added app (Err fault.Start) less counted = λ lt. omega (arith, less)
 store_one old new order place drawn added app (Err fault.Memory) less counted = λ lt. omega (arith, less)
 
-secret_one : (old new : Book) (order : Asked) (place : ℕ) (drawn : List (List ℕ)) (added : List Event) (app : AppId) (answer : Result Reply OrderFault) → old.holds.drawer.faults ≤ new.holds.drawer.faults → IsCounted old.holds new.holds answer → Grew old.holds.drawer.faults new.holds.drawer.faults (secret_failures (act_of order place answer drawn added app ∷ []))
+secret_one : (old new : Book) (order : Asked) (place : ℕ) (drawn : List (List ℕ)) (added : List Event) (app : AppId) (answer : Result Reply OrderFault) → old.holds.drawer.faults ≤ new.holds.drawer.faults → IsCounted old.holds new.holds answer → Grew old.holds.drawer.faults new.holds.drawer.faults (failures fault.Secrets (act_of order place answer drawn added app ∷ []))
 secret_one old new order place drawn added app (Ok reply) less counted = λ lt. omega (arith, less)
 secret_one old new order place drawn added app (Err fault.Secrets) less counted = λ lt. omega (arith, less, counted (omega (arith, less, lt)))
 secret_one old new order place drawn added app (Err fault.Store) less counted = λ lt. omega (arith, less)
 secret_one old new order place drawn added app (Err fault.Start) less counted = λ lt. omega (arith, less)
 secret_one old new order place drawn added app (Err fault.Memory) less counted = λ lt. omega (arith, less)
 
-start_one : (old new : Book) (order : Asked) (place : ℕ) (drawn : List (List ℕ)) (added : List Event) (app : AppId) (answer : Result Reply OrderFault) → old.holds.spawns.faults ≤ new.holds.spawns.faults → IsCounted old.holds new.holds answer → Grew old.holds.spawns.faults new.holds.spawns.faults (start_failures (act_of order place answer drawn added app ∷ []))
+start_one : (old new : Book) (order : Asked) (place : ℕ) (drawn : List (List ℕ)) (added : List Event) (app : AppId) (answer : Result Reply OrderFault) → old.holds.spawns.faults ≤ new.holds.spawns.faults → IsCounted old.holds new.holds answer → Grew old.holds.spawns.faults new.holds.spawns.faults (failures fault.Start (act_of order place answer drawn added app ∷ []))
 start_one old new order place drawn added app (Ok reply) less counted = λ lt. omega (arith, less)
 start_one old new order place drawn added app (Err fault.Start) less counted = λ lt. omega (arith, less, counted (omega (arith, less, lt)))
 start_one old new order place drawn added app (Err fault.Store) less counted = λ lt. omega (arith, less)

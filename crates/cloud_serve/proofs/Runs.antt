@@ -1,5 +1,5 @@
 -- What stands while a connection is served, and what serving it comes to.
-use Rattle.std.proofs.Common.{◌≡◌, ℕ, ◌+◌, ◌<◌, ◌≤◌, ◌⊎◌, ◌++◌, List, [], ◌∷◌, false, Some, length, map, refl, sym, ◌∙◌, ap, subst, arith, inl, inr, append_assoc, append-nil, length-append}
+use Rattle.std.proofs.Common.{◌≡◌, ℕ, ◌+◌, ◌<◌, ◌≤◌, ◌⊎◌, ◌++◌, List, [], ◌∷◌, true, Some, length, map, refl, sym, ◌∙◌, ap, subst, arith, inl, inr, append_assoc, append-nil, length-append}
 use Rattle.std.proofs.lemmas.List.{map-append}
 use Rattle.std.proofs.lemmas.List.{length-map}
 use Rattle.std.proofs.lemmas.Bool.{cases_lt}
@@ -7,7 +7,7 @@ use Rattle.std.specs.List.{flat_map}
 use Rattle.std.proofs.lemmas.Grind.{flat_map-append}
 use Rattle.host_base.specs.Outside.{Inlet, Outlet, Rose, CountStands}
 use Rattle.host_base.specs.declared.request.Request.{Request}
-use Rattle.front_http.specs.Reading.{Reading, unread}
+use Rattle.front_http.specs.Reading.{Reading, IsRemaining, unread}
 use Rattle.front_http.specs.Stream.{Requests, Bad, IsStream}
 use Rattle.grain_supervise.specs.declared.ask.Ask.{Ask}
 use Rattle.cloud_serve.specs.declared.showing.Showing.{Showing}
@@ -20,9 +20,9 @@ use Rattle.cloud_serve.specs.Effects.{AskedOf, OrderedOf}
 use Rattle.desk_orders.specs.Commands.{Asked}
 use Rattle.site_caps.specs.Law.{Law}
 use Rattle.host_base.specs.declared.key.Key.{Key}
-use Rattle.cloud_serve.specs.Turns.{Turn, FollowsVerdict, IsKeyed, passed_to, IsMade, MakesOne, MakesBoth, EndsWith, IsLawfulBy, IsLawful, AreLawful, past}
-use Rattle.cloud_serve.specs.Served.{World, InHand, Nothing, Refusing, Answering, Broken, NoRoom, request_in, asked_in, acts_in, HandAt, CauseAt, IsOver, StreamAt, Complete, limit, Splits, Served}
-use Rattle.cloud_serve.specs.Inner.Serving.{ClosesWith, OneMore, StopsServing, SoFar}
+use Rattle.cloud_serve.specs.Turns.{Turn, FollowsVerdict, IsKeyed, passed_to, IsMade, MakesLast, MakesBoth, IsLawfulBy, IsLawful, AreLawful, past}
+use Rattle.cloud_serve.specs.Served.{World, InHand, Nothing, Refusing, Answering, Broken, NoRoom, turns_in, HandAt, CauseAt, EndsLast, IsOver, StreamAt, Complete, limit, Splits, Served}
+use Rattle.cloud_serve.specs.Inner.{OneMore, StopsServing}
 use Rattle.cloud_serve.proofs.Growth.{later_longer, asked_none, asked_trans, judged_later, judged_within}
 use Rattle.cloud_serve.proofs.Orders.{ordered_refl, ordered_trans, placed_later, placed_within}
 
@@ -31,22 +31,20 @@ made_later : (old new : Book) → Later old new → (low : ℕ) (order : Asked) 
 made_later old new later low order act m =
     record { order_is = m.order_is; placed = placed_later old new low low order act.place act.answer act.drawn act.added act.app later (omega arith) m.placed }
 
-abbrev makes_later : (old new : Book) → Later old new → (low : ℕ) (order : Asked) (turn : Turn) → MakesOne old low order turn → MakesOne new low order turn
-makes_later old new later low order turn m = record { act = m.act; acts_are = m.acts_are; made = made_later old new later low order m.act m.made; ends = m.ends }
+abbrev makes_later : (old new : Book) → Later old new → (low : ℕ) (earlier : List Act) (order : Asked) (turn : Turn) → MakesLast old low earlier order turn → MakesLast new low earlier order turn
+makes_later old new later low earlier order turn m =
+    record { act = m.act; acts_are = m.acts_are; made = made_later old new later low order m.act m.made; place_is = m.place_is; reached_is = m.reached_is; unasked = m.unasked }
 
 abbrev both_later : (old new : Book) → Later old new → (low : ℕ) (first second : Asked) (turn : Turn) → MakesBoth old low first second turn → MakesBoth new low first second turn
 both_later old new later low first second turn m = record {
   before = m.before;
-  act = m.act;
-  acts_are = m.acts_are;
-  first_made = made_later old new later low first m.before m.first_made;
+  made = made_later old new later low first m.before m.made;
   done = m.done;
-  made = made_later old new later (past m.before) second m.act m.made;
-  ends = m.ends;
+  second_made = makes_later old new later (past m.before) (m.before ∷ []) second turn m.second_made;
 }
 
-made_within : (book : Book) (low : ℕ) (order : Asked) (act : Act) (turn : Turn) → IsMade book low order act → EndsWith act turn → turn.reached ≤ length book.seen
-made_within book low order act turn m ends = omega (arith, ends.reached_is, placed_within book low order act.place act.answer act.drawn act.added act.app m.placed)
+made_within : (book : Book) (low : ℕ) (earlier : List Act) (order : Asked) (turn : Turn) → MakesLast book low earlier order turn → turn.reached ≤ length book.seen
+made_within book low earlier order turn m = omega (arith, m.reached_is, placed_within book low order m.act.place m.act.answer m.act.drawn m.act.added m.act.app m.made.placed)
 
 keyed_later : (old new : Book) → Later old new → (low : ℕ) (key : Key) (passed : Request) (turn : Turn) → IsKeyed old low key passed turn → IsKeyed new low key passed turn
 keyed_later old new later low key passed turn is = record {
@@ -65,8 +63,8 @@ lawful_later (showing.BadBody field) old new later low last turn is = is
 lawful_later (showing.BadManifest bad) old new later low last turn is = is
 lawful_later (showing.Keyed key) old new later low last turn is = keyed_later old new later low key turn.request turn is
 lawful_later (showing.Used key target) old new later low last turn is = keyed_later old new later low key (passed_to target turn.request) turn is
-lawful_later (showing.Wants order) old new later low last turn is = (makes_later old new later low order turn is.0, is.1)
-lawful_later (showing.Opens first second) old new later low last turn (inl is) = inl (makes_later old new later low first turn is.0, is.1, is.2)
+lawful_later (showing.Wants order) old new later low last turn is = (makes_later old new later low [] order turn is.0, is.1)
+lawful_later (showing.Opens first second) old new later low last turn (inl is) = inl (makes_later old new later low [] first turn is.0, is.1, is.2)
 lawful_later (showing.Opens first second) old new later low last turn (inr is) = inr (both_later old new later low first second turn is.0, is.1)
 
 reached_within : (r : Showing) (book : Book) (low last : ℕ) (turn : Turn) → low ≤ length book.seen → IsLawfulBy r book low last turn → turn.reached ≤ length book.seen
@@ -74,9 +72,9 @@ reached_within showing.NoRoute book low last turn less is = omega (arith, is.rea
 reached_within showing.NoCredential book low last turn less is = omega (arith, is.reached_is)
 reached_within (showing.BadBody field) book low last turn less is = omega (arith, is.reached_is)
 reached_within (showing.BadManifest bad) book low last turn less is = omega (arith, is.reached_is)
-reached_within (showing.Wants order) book low last turn less is = made_within book low order is.0.act turn is.0.made is.0.ends
-reached_within (showing.Opens first second) book low last turn less (inl is) = made_within book low first is.0.act turn is.0.made is.0.ends
-reached_within (showing.Opens first second) book low last turn less (inr is) = made_within book (past is.0.before) second is.0.act turn is.0.made is.0.ends
+reached_within (showing.Wants order) book low last turn less is = made_within book low [] order turn is.0
+reached_within (showing.Opens first second) book low last turn less (inl is) = made_within book low [] first turn is.0
+reached_within (showing.Opens first second) book low last turn less (inr is) = made_within book (past is.0.before) (is.0.before ∷ []) second turn is.0.second_made
 reached_within (showing.Keyed key) book low last turn less is = omega (arith, is.reached_is, judged_within book low key turn.place is.verdict is.judged)
 reached_within (showing.Used key target) book low last turn less is = omega (arith, is.reached_is, judged_within book low key turn.place is.verdict is.judged)
 
@@ -99,6 +97,25 @@ splits_trans all mid more front back a b = record {
 -- one more piece of each turn
 more_pieces : {A : Type 0} (f : Turn → List A) (turns : List Turn) (turn : Turn) → flat_map f turns ++ f turn ≡ flat_map f (turns ++ turn ∷ [])
 more_pieces f turns turn = sym (flat_map-append f turns (turn ∷ []) ∙ ap (λ xs. flat_map f turns ++ xs) (append-nil (f turn)))
+
+-- What stands while a connection is served.
+pub record SoFar (old now : World) (reading : Reading) (from last : ℕ) (places : List ℕ) (served forwarded : ℕ) : Type 0 where
+  pub turns : List Turn
+  pub high : ℕ
+  pub high_within : high ≤ length now.book.seen
+  pub lawful : AreLawful now.book from from turns high last
+  pub ordered_of : OrderedOf old.book now.book (flat_map (λ turn. turn.acts) turns)
+  pub places_are : places ≡ map (λ turn. turn.place) turns
+  pub served_is : served ≡ length turns
+  pub asked_of : AskedOf old.line now.line (flat_map (λ turn. turn.asked) turns)
+  pub forwarded_is : forwarded ≡ length (flat_map (λ turn. turn.asked) turns)
+  pub closes : reading.closed ≡ true → EndsLast turns
+  pub stream : (input : List ℕ) → old.inlet.left ≡ Some input → (rest : List ℕ) × (now.inlet.left ≡ Some rest)
+      × ((all : Requests) → IsStream 0 input all → (more : Requests) × IsRemaining reading rest more × Splits all (map (λ turn. turn.request) turns) more)
+  pub written : (text : List ℕ) → old.outlet.written ≡ Some text → now.outlet.written ≡ Some (text ++ flat_map (λ turn. turn.answer) turns)
+  pub reads : old.inlet.faults ≤ now.inlet.faults
+  pub writes : old.outlet.faults ≤ now.outlet.faults
+  pub whole : now.inlet.whole ≡ old.inlet.whole
 
 pub so_far_none : (world : World) (from : ℕ) → from ≡ length world.book.seen → SoFar world world unread from from [] 0 0
 so_far_none world from is = record {
@@ -171,18 +188,26 @@ served_when old now new reading from last places served forwarded forwarded' e i
   high = s.high;
   last = last;
   from_is = is;
-  ordered_of = ordered_trans old.book now.book new.book (flat_map (λ (t : Turn). t.acts) s.turns) (acts_in o.hand) s.ordered_of o.ordered_of;
+  ordered_of = subst (λ (xs : List Act). OrderedOf old.book new.book xs) (sym (flat_map-append (λ (t : Turn). t.acts) s.turns (turns_in o.hand)))
+      (ordered_trans old.book now.book new.book (flat_map (λ (t : Turn). t.acts) s.turns) (flat_map (λ (t : Turn). t.acts) (turns_in o.hand)) s.ordered_of o.ordered_of);
   lawful = turns_later now.book new.book o.ordered_of.later from from s.turns s.high last s.lawful;
   in_hand = o.lawful;
   places_are = s.places_are;
   served_is = s.served_is;
-  asked_of = asked_trans old.line now.line new.line (flat_map (λ (t : Turn). t.asked) s.turns) (asked_in o.hand) s.asked_of o.asked_of;
-  forwarded_is = o.counts_is ∙ ap (λ (n : ℕ). n + length (asked_in o.hand)) s.forwarded_is ∙ sym (length-append (flat_map (λ (t : Turn). t.asked) s.turns) (asked_in o.hand));
+  asked_of = subst (λ (xs : List Ask). AskedOf old.line new.line xs) (sym (flat_map-append (λ (t : Turn). t.asked) s.turns (turns_in o.hand)))
+      (asked_trans old.line now.line new.line (flat_map (λ (t : Turn). t.asked) s.turns) (flat_map (λ (t : Turn). t.asked) (turns_in o.hand)) s.asked_of o.asked_of);
+  forwarded_is = o.counts_is ∙ ap (λ (n : ℕ). n + length (flat_map (λ (t : Turn). t.asked) (turns_in o.hand))) s.forwarded_is
+      ∙ sym (length-append (flat_map (λ (t : Turn). t.asked) s.turns) (flat_map (λ (t : Turn). t.asked) (turns_in o.hand)))
+      ∙ ap length (sym (flat_map-append (λ (t : Turn). t.asked) s.turns (turns_in o.hand)));
   stream = λ input told all means.
       let before = s.stream input told in
       let first = before.2 all means in
-      let after = o.stream before.0 before.1 first.0 first.1 in
-      (after.0, splits_trans all first.0 after.0 (map (λ (t : Turn). t.request) s.turns) (request_in o.hand) first.2 after.1, after.2);
+      let after = o.stream before.0 before.1 first.0 first.1 in (
+        after.0,
+        subst (λ (rs : List Request). Splits all rs after.0) (sym (map-append (λ (t : Turn). t.request) s.turns (turns_in o.hand)))
+            (splits_trans all first.0 after.0 (map (λ (t : Turn). t.request) s.turns) (map (λ (t : Turn). t.request) (turns_in o.hand)) first.2 after.1),
+        after.2,
+      );
   written = λ text told. o.written (text ++ flat_map (λ (t : Turn). t.answer) s.turns) (s.written text told);
   done = λ is. elim (o.done is) [ inl ended ↦ inl ended | inr closed ↦ inr (s.closes closed) ];
   hand_at = o.hand_at;
@@ -198,16 +223,16 @@ served_spent old now reading from last places forwarded is s = record {
   high = s.high;
   last = last;
   from_is = is;
-  ordered_of = subst (λ (xs : List Act). OrderedOf old.book now.book xs) (sym (append-nil (flat_map (λ (t : Turn). t.acts) s.turns))) s.ordered_of;
+  ordered_of = subst (λ (ts : List Turn). OrderedOf old.book now.book (flat_map (λ (t : Turn). t.acts) ts)) (sym (append-nil s.turns)) s.ordered_of;
   lawful = s.lawful;
   in_hand = tt;
   places_are = s.places_are;
   served_is = s.served_is;
-  asked_of = subst (λ (xs : List Ask). AskedOf old.line now.line xs) (sym (append-nil (flat_map (λ (t : Turn). t.asked) s.turns))) s.asked_of;
-  forwarded_is = s.forwarded_is ∙ ap length (sym (append-nil (flat_map (λ (t : Turn). t.asked) s.turns)));
+  asked_of = subst (λ (ts : List Turn). AskedOf old.line now.line (flat_map (λ (t : Turn). t.asked) ts)) (sym (append-nil s.turns)) s.asked_of;
+  forwarded_is = s.forwarded_is ∙ ap (λ (ts : List Turn). length (flat_map (λ (t : Turn). t.asked) ts)) (sym (append-nil s.turns));
   stream = λ input told all means.
       let first = (s.stream input told).2 all means in
-      (first.0, subst (λ (rs : List Request). Splits all rs first.0) (sym (append-nil (map (λ (t : Turn). t.request) s.turns))) first.2, tt);
+      (first.0, subst (λ (ts : List Turn). Splits all (map (λ (t : Turn). t.request) ts) first.0) (sym (append-nil s.turns)) first.2, tt);
   written = λ text told. s.written text told ∙ ap Some (sym (append-nil (text ++ flat_map (λ (t : Turn). t.answer) s.turns)));
   done = λ is. cc;
   hand_at = tt;
@@ -215,21 +240,26 @@ served_spent old now reading from last places forwarded is s = record {
   count = refl;
 }
 
+-- the requests of turns and of those in hand
+abbrev requests_of : List Turn → List Request
+requests_of turns = map (λ (t : Turn). t.request) turns
+
+front_long : (all : Requests) (front back : List Turn) (more : Requests) → Splits all (requests_of (front ++ back)) more → length all.list ≡ length front + length back + length more.list
+front_long all front back more split =
+    omega (arith, ap length split.list, length-append (requests_of (front ++ back)) more.list, length-map (front ++ back) (λ (t : Turn). t.request), length-append front back)
+
 -- with nothing in hand and nothing more, the front is all
-front_all : (all : Requests) (front back : List Request) (more : Requests) → Splits all (front ++ back) more → back ≡ [] → more.list ≡ [] → length front ≡ length all.list
-front_all all front back more split none over = omega (arith, ap length split.list, length-append (front ++ back) more.list, length-append front back, ap length none, ap length over)
+front_all : (all : Requests) (front back : List Turn) (more : Requests) → Splits all (requests_of (front ++ back)) more → back ≡ [] → more.list ≡ [] → length front ≡ length all.list
+front_all all front back more split none over = omega (arith, front_long all front back more split, ap length none, ap length over)
 
-front_le : (all : Requests) (front back : List Request) (more : Requests) → Splits all (front ++ back) more → length front ≤ length all.list
-front_le all front back more split = omega (arith, ap length split.list, length-append (front ++ back) more.list, length-append front back)
-
-bare_done : (hand : InHand) → HandAt end.Done hand → request_in hand ≡ []
+bare_done : (hand : InHand) → HandAt end.Done hand → turns_in hand ≡ []
 bare_done Nothing h = refl
 bare_done (Refusing why at) h = refl
 bare_done (Answering turn) h = absurd h
 bare_done (Broken turn) h = absurd h
 bare_done NoRoom h = refl
 
-bare_cut : (n : ℕ) (hand : InHand) → HandAt (end.CutOff n) hand → request_in hand ≡ []
+bare_cut : (n : ℕ) (hand : InHand) → HandAt (end.CutOff n) hand → turns_in hand ≡ []
 bare_cut n Nothing h = refl
 bare_cut n (Refusing why at) h = refl
 bare_cut n (Answering turn) h = absurd h
@@ -238,10 +268,10 @@ bare_cut n NoRoom h = refl
 
 -- Where no count rises, every request is answered and the end is the stream's, or memory ran out.
 complete_refused : (status at : ℕ) (hand : InHand) → HandAt (end.Refused status at) hand → (turns : List Turn) (served : ℕ) → served ≡ length turns → (all more : Requests)
-    → Splits all (map (λ (t : Turn). t.request) turns ++ request_in hand) more → StreamAt (end.Refused status at) hand more → Complete all (end.Refused status at) served
+    → Splits all (requests_of (turns ++ turns_in hand)) more → StreamAt (end.Refused status at) hand more → Complete all (end.Refused status at) served
 complete_refused status at (Refusing why place) h turns served is all more split ends =
-    let long = front_all all (map (λ (t : Turn). t.request) turns) [] more split refl ends.0 in
-    record { all = is ∙ sym (length-map turns (λ (t : Turn). t.request)) ∙ long; ends = (why, h.0, split.end ∙ ends.1 ∙ ap (Bad why) h.1) }
+    let long = front_all all turns [] more split refl ends.0 in
+    record { all = is ∙ long; ends = (why, h.0, split.end ∙ ends.1 ∙ ap (Bad why) h.1) }
 complete_refused status at Nothing h turns served is all more split ends = absurd h
 complete_refused status at (Answering turn) h turns served is all more split ends = absurd h
 complete_refused status at (Broken turn) h turns served is all more split ends = absurd h
@@ -251,12 +281,12 @@ pub complete_when : (old new : World) (e : End) (from : ℕ) (places : List ℕ)
     → length all.list < limit → CountStands old.inlet.faults new.inlet.faults → CountStands old.outlet.faults new.outlet.faults → (e ≡ end.Memory) ⊎ Complete all e served
 complete_when old new end.Done from places served forwarded s input all told means few reads writes =
     let st = s.stream input told all means in
-    let long = front_all all (map (λ (t : Turn). t.request) s.turns) (request_in s.hand) st.0 st.1 (bare_done s.hand s.hand_at) st.2.0 in
-    inr (record { all = s.served_is ∙ sym (length-map s.turns (λ (t : Turn). t.request)) ∙ long; ends = subst IsOver (sym st.1.end) st.2.1 })
+    let long = front_all all s.turns (turns_in s.hand) st.0 st.1 (bare_done s.hand s.hand_at) st.2.0 in
+    inr (record { all = s.served_is ∙ long; ends = subst IsOver (sym st.1.end) st.2.1 })
 complete_when old new (end.CutOff n) from places served forwarded s input all told means few reads writes =
     let st = s.stream input told all means in
-    let long = front_all all (map (λ (t : Turn). t.request) s.turns) (request_in s.hand) st.0 st.1 (bare_cut n s.hand s.hand_at) st.2.0 in
-    inr (record { all = s.served_is ∙ sym (length-map s.turns (λ (t : Turn). t.request)) ∙ long; ends = st.1.end ∙ st.2.1 })
+    let long = front_all all s.turns (turns_in s.hand) st.0 st.1 (bare_cut n s.hand s.hand_at) st.2.0 in
+    inr (record { all = s.served_is ∙ long; ends = st.1.end ∙ st.2.1 })
 complete_when old new (end.Refused status at) from places served forwarded s input all told means few reads writes =
     let st = s.stream input told all means in
     inr (complete_refused status at s.hand s.hand_at s.turns served s.served_is all st.0 st.1 st.2)
@@ -267,8 +297,6 @@ complete_when old new end.WriteFault from places served forwarded s input all to
     let rose : old.outlet.faults < new.outlet.faults = s.cause writes.small in absurd (omega (arith, writes.same))
 complete_when old new end.Spent from places served forwarded s input all told means few reads writes =
     let st = s.stream input told all means in
-    let requests : List Request = map (λ (t : Turn). t.request) s.turns in
-    let mapped : length requests ≡ length s.turns = length-map s.turns (λ (t : Turn). t.request) in
-    let le : length requests ≤ length all.list = front_le all requests (request_in s.hand) st.0 st.1 in
+    let long = front_long all s.turns (turns_in s.hand) st.0 st.1 in
     let spent : served ≡ 1000000 = s.count in
-    absurd (omega (arith, few, s.served_is))
+    absurd (omega (arith, few, s.served_is, long))

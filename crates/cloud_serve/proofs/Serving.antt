@@ -1,6 +1,7 @@
 -- What serving one request comes to, over plain values.
-use Rattle.std.proofs.Common.{◌≡◌, ◌⊎◌, ℕ, ◌<◌, ◌++◌, Bool, true, false, List, [], ◌∷◌, Option, Some, None, Result, Ok, Err, take, refl, sym, ◌∙◌, ap, subst, arith, append-nil, inl, inr}
+use Rattle.std.proofs.Common.{◌≡◌, ◌⊎◌, ℕ, ◌+◌, ◌<◌, ◌++◌, Bool, true, false, List, [], ◌∷◌, Option, Some, None, Result, Ok, Err, length, take, refl, sym, ◌∙◌, ap, subst, arith, append-nil, inl, inr}
 use Rattle.host_base.specs.Outside.{Outlet, Rose}
+use Rattle.host_base.specs.declared.bytes.Memory.{Memory}
 use Rattle.host_base.specs.declared.request.Request.{Request}
 use Rattle.front_http.specs.declared.fault.FrontFault.{FrontFault}
 use Rattle.front_http.specs.declared.fault.FrontFault.TheVariants as fault
@@ -12,71 +13,16 @@ use Rattle.grain_supervise.specs.Line.{Line}
 use Rattle.cloud_serve.specs.declared.serve.End.{End}
 use Rattle.cloud_serve.specs.declared.serve.End.TheVariants as end
 use Rattle.hub_core.specs.Book.{Book}
+use Rattle.grain_supervise.specs.declared.ask.Ask.{Ask}
+use Rattle.cloud_serve.specs.Acts.{Act}
 use Rattle.cloud_serve.specs.Effects.{AskedOf, OrderedOf}
+use Rattle.cloud_serve.specs.Turns.{Turn}
 use Rattle.reply_texts.specs.Texts.{wants_head, refusal_status, memory_text}
-use Rattle.cloud_serve.specs.Inner.Taking.{TookTurn, BreaksOff}
-use Rattle.cloud_serve.specs.Served.{World, InHand, Nothing, Refusing, Answering, Broken, NoRoom, request_in, asked_in, acts_in, text_in, IsLawfulIn, HandAt, CauseAt, IsOver, IsRefusedIn, StreamAt, WrittenAt, CountAt, limit, Splits}
-use Rattle.cloud_serve.specs.Inner.Serving.{ClosesWith, RefusesBy, Halts, TookOne, StopsOne, TakesOne, StopsServing, Steps}
+use Rattle.cloud_serve.specs.Served.{World, InHand, Nothing, Refusing, Answering, Broken, NoRoom, turns_in, text_in, IsLawfulIn, HandAt, CauseAt, IsOver, StreamAt, WrittenAt, CountAt, limit, Splits}
+use Rattle.cloud_serve.specs.Inner.{Takes, ClosesWith, RefusesBy, Halts, OneMore, StopsServing}
+use Rattle.cloud_serve.proofs.Taking.{TookTurn}
 use Rattle.cloud_serve.proofs.Growth.{asked_none}
 use Rattle.cloud_serve.proofs.Orders.{ordered_refl}
-
-pub took_one : (low last counted counts : ℕ) (request : Request) (out out' : Outlet) (line line' : Line) (old new : Book) (place : ℕ) (text : List ℕ) → TookTurn old new line line' counted counts low last request place text
-    → ((before : List ℕ) → out.written ≡ Some before → out'.written ≡ Some (before ++ text)) → TookOne low last counted counts request out out' line line' old new place
-took_one low last counted counts request out out' line line' old new place text a wrote = record {
-  turn = a.turn;
-  request_is = a.request_is;
-  place_is = a.place_is;
-  lawful = a.lawful;
-  ordered_of = a.ordered_of;
-  asked_of = a.asked_of;
-  counts_is = a.counts_is;
-  written = λ before is. wrote before is ∙ ap (λ (xs : List ℕ). Some (before ++ xs)) (sym a.answer_is);
-}
-
-pub stops_answer : (low last counted counts : ℕ) (request : Request) (out out' : Outlet) (line line' : Line) (old new : Book) (place : ℕ) (text : List ℕ) → TookTurn old new line line' counted counts low last request place text
-    → ((before : List ℕ) → out.written ≡ Some before → (n : ℕ) × (out'.written ≡ Some (before ++ take n text))) → Rose out.faults out'.faults → StopsOne low last counted counts request out out' line line' old new end.WriteFault
-stops_answer low last counted counts request out out' line line' old new place text a wrote rose = record {
-  hand = Answering a.turn;
-  request_is = ap (λ (r : Request). r ∷ []) a.request_is;
-  lawful = a.lawful;
-  ordered_of = a.ordered_of;
-  asked_of = a.asked_of;
-  counts_is = a.counts_is;
-  written = λ before is. let part = wrote before is in (part.0, part.1 ∙ ap (λ (xs : List ℕ). Some (before ++ take part.0 xs)) (sym a.answer_is));
-  hand_at = tt;
-  cause = λ inlet inlet'. rose;
-  free = λ more. tt;
-  count = λ served less. less;
-}
-
-pub stops_broken : (low last counted counts : ℕ) (request : Request) (out out' : Outlet) (line line' : Line) (old new : Book) (result : End) (text : List ℕ) → BreaksOff old new line line' counted counts low request
-    → text ≡ memory_text (wants_head request) → ClosesWith out out' text end.Memory result → StopsOne low last counted counts request out out' line line' old new result
-stops_broken low last counted counts request out out' line line' old new result text b is (inl whole) = subst (λ (e : End). StopsOne low last counted counts request out out' line line' old new e) (sym whole.0) (record {
-  hand = Broken b.turn;
-  request_is = ap (λ (r : Request). r ∷ []) b.request_is;
-  lawful = b.begun;
-  ordered_of = b.ordered_of;
-  asked_of = b.asked_of;
-  counts_is = b.counts_is;
-  written = λ before told. whole.1 before told ∙ ap (λ (xs : List ℕ). Some (before ++ xs)) (is ∙ ap (λ (r : Request). memory_text (wants_head r)) (sym b.request_is));
-  hand_at = tt;
-  cause = λ inlet inlet'. tt;
-  free = λ more. tt;
-  count = λ served less. less;
-})
-stops_broken low last counted counts request out out' line line' old new result text b is (inr part) = subst (λ (e : End). StopsOne low last counted counts request out out' line line' old new e) (sym part.0) (record {
-  hand = Broken b.turn;
-  request_is = ap (λ (r : Request). r ∷ []) b.request_is;
-  lawful = b.begun;
-  ordered_of = b.ordered_of;
-  asked_of = b.asked_of;
-  counts_is = b.counts_is;
-  written = λ before told. let w = part.2 before told in (w.0, w.1 ∙ ap (λ (xs : List ℕ). Some (before ++ take w.0 xs)) (is ∙ ap (λ (r : Request). memory_text (wants_head r)) (sym b.request_is)));
-  hand_at = tt;
-  cause = λ inlet inlet'. part.1;
-  free = λ more. tt;
-  count = λ served less. less;
-})
 
 -- a request that was given splits what remained
 gave_splits : (reading reading' : Reading) (left : List ℕ) (request : Request) (told : Option (List ℕ)) → (g : Gave reading left request reading' told) → (all : Requests) → IsRemaining reading left all
@@ -88,66 +34,92 @@ gave_splits reading reading' left request told g all is =
 splits_by : (all more : Requests) (front back : List Request) → front ≡ back → Splits all front more → Splits all back more
 splits_by all more front back same s = subst (λ (rs : List Request). Splits all rs more) same s
 
--- a connection isn't done with a request in hand
-never_done : (e : End) (hand : InHand) (request : Request) → e ≡ end.Done → request_in hand ≡ request ∷ [] → HandAt e hand → ⊥
-never_done e Nothing request is has at = cc
-never_done e (Refusing why place) request is has at = cc
-never_done e (Answering turn) request is has at = subst (λ (x : End). HandAt x (Answering turn)) is at
-never_done e (Broken turn) request is has at = subst (λ (x : End). HandAt x (Broken turn)) is at
-never_done e NoRoom request is has at = cc
+-- a connection isn't done with a turn in hand
+never_done : (e : End) (hand : InHand) (turn : Turn) → e ≡ end.Done → turns_in hand ≡ turn ∷ [] → HandAt e hand → ⊥
+never_done e Nothing turn is has at = cc
+never_done e (Refusing why place) turn is has at = cc
+never_done e (Answering one) turn is has at = subst (λ (x : End). HandAt x (Answering one)) is at
+never_done e (Broken one) turn is has at = subst (λ (x : End). HandAt x (Broken one)) is at
+never_done e NoRoom turn is has at = cc
 
-pub steps_one : (low last counted counts : ℕ) (reading reading' : Reading) (old new : World) (request : Request) (result : Result ℕ End)
-    → ((left : List ℕ) → old.inlet.left ≡ Some left → Gave reading left request reading' new.inlet.left) → (reading'.closed ≡ true → request.last ≡ true)
-    → TakesOne low last counted counts request old.outlet new.outlet old.line new.line old.book new.book result → Steps low last counted counts reading reading' old new result
-steps_one low last counted counts reading reading' old new request (Ok place) gives closes t = record {
-  turn = t.turn;
-  place_is = t.place_is;
-  lawful = t.lawful;
-  ordered_of = t.ordered_of;
-  asked_of = t.asked_of;
-  counts_is = t.counts_is;
-  closes = λ is. subst (λ (r : Request). r.last ≡ true) (sym t.request_is) (closes is);
-  stream = λ left is.
-      let g = gives left is in (
-        g.rest,
-        g.told_is,
-        λ all remains.
-            let s = gave_splits reading reading' left request new.inlet.left g all remains in
-            (s.0, s.1, splits_by all s.0 (request ∷ []) (t.turn.request ∷ []) (ap (λ (r : Request). r ∷ []) (sym t.request_is)) s.2),
-      );
-  written = t.written;
-}
-steps_one low last counted counts reading reading' old new request (Err e) gives closes t = record {
-  hand = t.hand;
-  lawful = t.lawful;
-  ordered_of = t.ordered_of;
-  asked_of = t.asked_of;
-  counts_is = t.counts_is;
-  stream = λ left is all remains.
-      let s = gave_splits reading reading' left request new.inlet.left (gives left is) all remains in
-      (s.0, splits_by all s.0 (request ∷ []) (request_in t.hand) (sym t.request_is) s.2, t.free s.0);
-  written = t.written;
-  done = λ is. absurd (never_done e t.hand request is t.request_is t.hand_at);
-  hand_at = t.hand_at;
-  cause = t.cause old.inlet new.inlet;
-  count = t.count;
-}
+module _ (low last counted counts : ℕ) (reading reading' : Reading) (old new : World) (request : Request)
+    (gives : (left : List ℕ) → old.inlet.left ≡ Some left → Gave reading left request reading' new.inlet.left) where
+  -- a turn was taken, and its answer written
+  pub steps_answered : (place : ℕ) (text : List ℕ) → (reading'.closed ≡ true → request.last ≡ true) → TookTurn old.book new.book old.line new.line counted counts low last request place text
+      → ((before : List ℕ) → old.outlet.written ≡ Some before → new.outlet.written ≡ Some (before ++ text)) → OneMore low last counted counts reading reading' old new place
+  steps_answered place text closes t wrote = record {
+    turn = t.turn;
+    place_is = t.taken.1;
+    lawful = t.taken.0;
+    ordered_of = t.ordered_of;
+    asked_of = t.asked_of;
+    counts_is = t.counts_is;
+    closes = λ is. subst (λ (r : Request). r.last ≡ true) (sym t.request_is) (closes is);
+    stream = λ left is.
+        let g = gives left is in (
+          g.rest,
+          g.told_is,
+          λ all remains.
+              let s = gave_splits reading reading' left request new.inlet.left g all remains in
+              (s.0, s.1, splits_by all s.0 (request ∷ []) (t.turn.request ∷ []) (ap (λ (r : Request). r ∷ []) (sym t.request_is)) s.2),
+        );
+    written = λ before is. wrote before is ∙ ap (λ (xs : List ℕ). Some (before ++ xs)) (sym t.taken.2);
+  }
 
--- no request is in hand, and none was answered
+  -- the connection ends with a turn on the request in hand
+  stops_holding : (e : End) (hand : InHand) (turn : Turn) → turns_in hand ≡ turn ∷ [] → turn.request ≡ request → IsLawfulIn hand new.book low last → OrderedOf old.book new.book turn.acts → AskedOf old.line new.line turn.asked
+      → counts ≡ counted + length turn.asked → ((text : List ℕ) → old.outlet.written ≡ Some text → WrittenAt e text (text_in hand) new.outlet.written) → HandAt e hand
+      → CauseAt e old.inlet new.inlet old.outlet new.outlet → ((more : Requests) → StreamAt e hand more) → ((served : ℕ) → served < limit → CountAt e served) → StopsServing low last counted counts reading old new e
+  stops_holding e hand turn has is lawful ordered asked counts_is written at cause free count = record {
+    hand = hand;
+    lawful = lawful;
+    ordered_of = rw has (subst (λ (xs : List Act). OrderedOf old.book new.book xs) (sym (append-nil turn.acts)) ordered);
+    asked_of = rw has (subst (λ (xs : List Ask). AskedOf old.line new.line xs) (sym (append-nil turn.asked)) asked);
+    counts_is = rw has (counts_is ∙ ap (λ (xs : List Ask). counted + length xs) (sym (append-nil turn.asked)));
+    stream = λ left told all remains.
+        let s = gave_splits reading reading' left request new.inlet.left (gives left told) all remains in
+        (s.0, rw has (splits_by all s.0 (request ∷ []) (turn.request ∷ []) (ap (λ (r : Request). r ∷ []) (sym is)) s.2), free s.0);
+    written = written;
+    done = λ done. absurd (never_done e hand turn done has at);
+    hand_at = at;
+    cause = cause;
+    count = count;
+  }
+
+  -- a turn was taken, and its answer not written whole
+  pub stops_answering : (place : ℕ) (text : List ℕ) → TookTurn old.book new.book old.line new.line counted counts low last request place text
+      → ((before : List ℕ) → old.outlet.written ≡ Some before → (n : ℕ) × (new.outlet.written ≡ Some (before ++ take n text))) → Rose old.outlet.faults new.outlet.faults
+      → StopsServing low last counted counts reading old new end.WriteFault
+  stops_answering place text t wrote rose =
+      stops_holding end.WriteFault (Answering t.turn) t.turn refl t.request_is t.taken.0 t.ordered_of t.asked_of t.counts_is
+      (λ before is. let part = wrote before is in (part.0, part.1 ∙ ap (λ (xs : List ℕ). Some (before ++ take part.0 xs)) (sym t.taken.2)))
+      tt rose (λ more. tt) (λ served less. less)
+
+  -- memory ran out on a turn
+  pub stops_broken : (m : Memory) (result : End) (text : List ℕ) → Takes old.book new.book old.line new.line counted counts low last request (Err m)
+      → text ≡ memory_text (wants_head request) → ClosesWith old.outlet new.outlet text end.Memory result → StopsServing low last counted counts reading old new result
+  stops_broken m result text b is (inl whole) = subst (λ (e : End). StopsServing low last counted counts reading old new e) (sym whole.0)
+      (stops_holding end.Memory (Broken b.turn) b.turn refl b.request_is b.taken b.ordered_of b.asked_of b.counts_is
+      (λ before told. whole.1 before told ∙ ap (λ (xs : List ℕ). Some (before ++ xs)) (is ∙ ap (λ (r : Request). memory_text (wants_head r)) (sym b.request_is)))
+      tt tt (λ more. tt) (λ served less. less))
+  stops_broken m result text b is (inr part) = subst (λ (e : End). StopsServing low last counted counts reading old new e) (sym part.0)
+      (stops_holding end.WriteFault (Broken b.turn) b.turn refl b.request_is b.taken b.ordered_of b.asked_of b.counts_is
+      (λ before told. let w = part.2 before told in (w.0, w.1 ∙ ap (λ (xs : List ℕ). Some (before ++ take w.0 xs)) (is ∙ ap (λ (r : Request). memory_text (wants_head r)) (sym b.request_is))))
+      tt part.1 (λ more. tt) (λ served less. less))
+
+-- no turn is in hand
 pub record IsBare (hand : InHand) : Type 0 where
-  pub request : request_in hand ≡ []
-  pub asked : asked_in hand ≡ []
-  pub acts : acts_in hand ≡ []
+  pub turns : turns_in hand ≡ []
   pub lawful : (book : Book) (low last : ℕ) → IsLawfulIn hand book low last
 
 bare_nothing : IsBare Nothing
-bare_nothing = record { request = refl; asked = refl; acts = refl; lawful = λ book low last. tt }
+bare_nothing = record { turns = refl; lawful = λ book low last. tt }
 
 bare_no_room : IsBare NoRoom
-bare_no_room = record { request = refl; asked = refl; acts = refl; lawful = λ book low last. tt }
+bare_no_room = record { turns = refl; lawful = λ book low last. tt }
 
 bare_refusing : (why : Refusal) (at : ℕ) → IsBare (Refusing why at)
-bare_refusing why at = record { request = refl; asked = refl; acts = refl; lawful = λ book low last. tt }
+bare_refusing why at = record { turns = refl; lawful = λ book low last. tt }
 
 -- the connection ends with no request in hand
 stops_bare : (low last counted : ℕ) (reading : Reading) (old new : World) (e : End) (hand : InHand) → IsBare hand → old.line ≡ new.line → old.book ≡ new.book
@@ -157,10 +129,10 @@ stops_bare : (low last counted : ℕ) (reading : Reading) (old new : World) (e :
 stops_bare low last counted reading old new e hand bare line book stream written at cause count done = record {
   hand = hand;
   lawful = bare.lawful new.book low last;
-  ordered_of = rw bare.acts (subst (λ (b : Book). OrderedOf old.book b []) book (ordered_refl old.book));
-  asked_of = rw bare.asked (subst (λ (l : Line). AskedOf old.line l []) line (asked_none old.line));
-  counts_is = rw bare.asked (omega arith);
-  stream = λ left is all remains. (all, rw bare.request (record { list = refl; end = refl }), stream left is all remains);
+  ordered_of = rw bare.turns (subst (λ (b : Book). OrderedOf old.book b []) book (ordered_refl old.book));
+  asked_of = rw bare.turns (subst (λ (l : Line). AskedOf old.line l []) line (asked_none old.line));
+  counts_is = rw bare.turns (omega arith);
+  stream = λ left is all remains. (all, rw bare.turns (record { list = refl; end = refl }), stream left is all remains);
   written = written;
   done = done;
   hand_at = at;
@@ -178,7 +150,7 @@ stops_no_room low last counted reading old new result text line book is (inr par
     (stops_bare low last counted reading old new end.WriteFault NoRoom bare_no_room line book (λ left told all remains. tt)
     (λ before told. let w = part.2 before told in (w.0, w.1 ∙ ap (λ (xs : List ℕ). Some (before ++ take w.0 xs)) is)) tt part.1 (λ served less. less) (λ q. cc))
 
-refused_all : (reading : Reading) (left : List ℕ) (why : Refusal) (at : ℕ) → Ended reading left (Bad why at) → (all : Requests) → IsRemaining reading left all → IsRefusedIn (Refusing why at) all
+refused_all : (reading : Reading) (left : List ℕ) (why : Refusal) (at : ℕ) → Ended reading left (Bad why at) → (all : Requests) → IsRemaining reading left all → (all.list ≡ []) × (all.end ≡ Bad why at)
 refused_all reading left why at ended all remains = let same = ended.only all remains in (ap (λ (r : Requests). r.list) same, ap (λ (r : Requests). r.end) same)
 
 -- what is refused at a place was answered
@@ -197,8 +169,8 @@ unwritten : (old new : Outlet) → new ≡ old → (text : List ℕ) → old.wri
 unwritten old new same text is = ap (λ (o : Outlet). o.written) same ∙ is ∙ ap Some (sym (append-nil text))
 
 over_is_over : (closed : Bool) (ending : Ending) → ending ≡ over closed → IsOver ending
-over_is_over true ending is = rw is tt
-over_is_over false ending is = rw is tt
+over_is_over true ending is = inr is
+over_is_over false ending is = inl is
 
 -- the stream is over
 pub stops_done : (low last counted : ℕ) (reading : Reading) (old new : World) → old.line ≡ new.line → old.book ≡ new.book → new.outlet ≡ old.outlet

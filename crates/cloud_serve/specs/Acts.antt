@@ -27,25 +27,14 @@ started_by acts = flat_map (λ act. starts_by act.app (token_of act.order act.dr
 abbrev pub stopped_by : List Act → List RunId
 stopped_by acts = flat_map (λ act. stops_by act.added) acts
 
--- whether an answer is a fault of the store, of the secrets, of the spawner
-abbrev pub is_store : Result Reply OrderFault → Bool
-is_store (Err fault.Store) = true
-is_store _ = false
+-- whether an answer is this fault
+abbrev pub is_fault : OrderFault → Result Reply OrderFault → Bool
+is_fault fault.Store (Err fault.Store) = true
+is_fault fault.Secrets (Err fault.Secrets) = true
+is_fault fault.Start (Err fault.Start) = true
+is_fault fault.Memory (Err fault.Memory) = true
+is_fault _ _ = false
 
-abbrev pub is_secrets : Result Reply OrderFault → Bool
-is_secrets (Err fault.Secrets) = true
-is_secrets _ = false
-
-abbrev pub is_start : Result Reply OrderFault → Bool
-is_start (Err fault.Start) = true
-is_start _ = false
-
--- how many of the answers are such faults
-abbrev pub store_failures : List Act → ℕ
-store_failures acts = count_by (λ act. is_store act.answer) acts
-
-abbrev pub secret_failures : List Act → ℕ
-secret_failures acts = count_by (λ act. is_secrets act.answer) acts
-
-abbrev pub start_failures : List Act → ℕ
-start_failures acts = count_by (λ act. is_start act.answer) acts
+-- how many of the answers are
+abbrev pub failures : OrderFault → List Act → ℕ
+failures why acts = count_by (λ act. is_fault why act.answer) acts

@@ -21,74 +21,51 @@ abbrev pub stating : {A : Type 0} → (A → Showing) → Result A BodyFault →
 stating make (Ok x) = Ok (make x)
 stating make (Err fault) = Err fault
 
--- WHAT IS ASKED FOR by a route and a body, where the credential has this digest: of an account by its login, of a bearer, of
--- either, or of a run by its token; or the fault of the body. It is none where the route shows a key.
-abbrev pub asked_at : Route → Digest → List ℕ → Option (Result Showing BodyFault)
-asked_at route.Accounts who body =
-    Some (stating (λ fields. wants (caller.Login who) (command.AddAccount fields.handle fields.name))
-    (account_body body))
-asked_at (route.AccountAdmin n) who body =
-    Some (stating (λ on. wants (caller.Login who) (command.SetAdmin (record { 0 = n }) on)) (mark_body body))
-asked_at (route.AccountEnabled n) who body =
-    Some (stating (λ on. wants (caller.Login who) (command.SetEnabled (record { 0 = n }) on))
-    (mark_body body))
-asked_at route.Apps who body =
-    Some (stating (λ manifest. wants (caller.Login who) (command.AddApp manifest)) (manifest_body body))
-asked_at route.Grains who body =
-    Some (stating (λ fields. wants (caller.Login who) (command.NewGrain fields.app fields.title))
-    (grain_body body))
-asked_at (route.GrainTrash n) who body =
-    Some (stating (λ _. wants (caller.Login who) (command.Trash (record { 0 = n }))) (plain_body body))
-asked_at (route.GrainUntrash n) who body =
-    Some (stating (λ _. wants (caller.Login who) (command.Untrash (record { 0 = n }))) (plain_body body))
-asked_at (route.GrainShare n) who body =
-    Some (stating
-    (λ fields. wants (caller.Login who)
-    (command.Share (record { 0 = n }) fields.to fields.assignment fields.needs)) (share_body body))
-asked_at (route.GrainLink n) who body =
-    Some (stating
-    (λ fields. wants (caller.Login who)
-    (command.MakeToken (record { 0 = n }) true fields.assignment fields.needs)) (token_body body))
-asked_at (route.GrainToken n) who body =
-    Some (stating
-    (λ fields. wants (caller.Login who)
-    (command.MakeToken (record { 0 = n }) false fields.assignment fields.needs)) (token_body body))
-asked_at (route.GrainOpen n) who body =
-    Some (stating (λ tab. opens (caller.Login who) (Some (record { 0 = n })) tab) (tab_body body))
-asked_at (route.GrainWake n) who body =
-    Some (stating (λ _. wants (caller.Login who) (command.StartRun (Some (record { 0 = n }))))
-    (plain_body body))
-asked_at (route.GrainStop n) who body =
-    Some (stating (λ _. wants (caller.Login who) (command.StopRun (record { 0 = n }))) (plain_body body))
-asked_at route.Redeem who body =
-    Some (stating (λ token. wants (caller.Login who) (command.Redeem token)) (redeem_body body))
-asked_at (route.GrantRevoke n) who body =
-    Some (stating (λ _. wants (caller.Login who) (command.Revoke (record { 0 = n }))) (plain_body body))
-asked_at (route.SessionClose n) who body =
-    Some (stating (λ _. wants (caller.Either who) (command.CloseSession (record { 0 = n })))
-    (plain_body body))
-asked_at route.Child who body =
-    Some (stating
-    (λ fields. wants (caller.Bearer who)
-    (command.Child fields.for_sharing fields.assignment fields.needs)) (child_body body))
-asked_at route.Open who body = Some (stating (λ tab. opens (caller.Bearer who) None tab) (tab_body body))
-asked_at route.Wake who body =
-    Some (stating (λ _. wants (caller.Bearer who) (command.StartRun None)) (plain_body body))
-asked_at (route.GrainQuery n) who body =
-    Some (stating (λ query. wants (caller.Login who) (command.Options (record { 0 = n }) query))
-    (query_body body))
-asked_at (route.GrainChoose n) who body =
-    Some (stating
-    (λ fields. wants (caller.Login who)
-    (command.Choose (record { 0 = n }) fields.offer fields.query fields.assignment)) (choose_body body))
-asked_at route.Claim who body =
-    Some (stating (λ fields. wants (caller.Run who) (command.Claim fields.token fields.permissions))
-    (claim_body body))
-asked_at route.Save who body =
-    Some (stating (λ fields. wants (caller.Run who) (command.Save fields.handle fields.label))
-    (save_body body))
-asked_at route.Restore who body =
-    Some (stating (λ token. wants (caller.Run who) (command.Restore token)) (redeem_body body))
-asked_at route.Drop who body =
-    Some (stating (λ token. wants (caller.Run who) (command.DropSaved token)) (redeem_body body))
-asked_at _ who body = None
+-- a caller asks for the command that is made of what a body states
+abbrev pub asks : {A : Type 0} → Caller → Result A BodyFault → (A → Command)
+    → Option (Result Showing BodyFault)
+asks who stated make = Some (stating (λ x. wants who (make x)) stated)
+
+module _ (who : Digest) (body : List ℕ) where
+  -- the account whose login has this digest, and the run whose token has it
+  abbrev pub login : Caller
+  login = caller.Login who
+
+  abbrev pub run : Caller
+  run = caller.Run who
+
+  -- WHAT IS ASKED FOR by a route and this body, where the credential has this digest: of an account by its login, of a
+  -- bearer, of either, or of a run by its token; or the fault of the body. It is none where the route shows a key.
+  abbrev pub asked_at : Route → Option (Result Showing BodyFault)
+  asked_at route.Accounts = asks login (account_body body) λ f. command.AddAccount f.handle f.name
+  asked_at (route.AccountAdmin n) = asks login (mark_body body) (command.SetAdmin (record { 0 = n }))
+  asked_at (route.AccountEnabled n) = asks login (mark_body body) (command.SetEnabled (record { 0 = n }))
+  asked_at route.Apps = asks login (manifest_body body) command.AddApp
+  asked_at route.Grains = asks login (grain_body body) λ f. command.NewGrain f.app f.title
+  asked_at (route.GrainTrash n) = asks login (plain_body body) λ _. command.Trash (record { 0 = n })
+  asked_at (route.GrainUntrash n) = asks login (plain_body body) λ _. command.Untrash (record { 0 = n })
+  asked_at (route.GrainShare n) =
+      asks login (share_body body) λ f. command.Share (record { 0 = n }) f.to f.assignment f.needs
+  asked_at (route.GrainLink n) =
+      asks login (token_body body) λ f. command.MakeToken (record { 0 = n }) true f.assignment f.needs
+  asked_at (route.GrainToken n) =
+      asks login (token_body body) λ f. command.MakeToken (record { 0 = n }) false f.assignment f.needs
+  asked_at (route.GrainOpen n) = Some (stating (opens login (Some (record { 0 = n }))) (tab_body body))
+  asked_at (route.GrainWake n) = asks login (plain_body body) λ _. command.StartRun (Some (record { 0 = n }))
+  asked_at (route.GrainStop n) = asks login (plain_body body) λ _. command.StopRun (record { 0 = n })
+  asked_at route.Redeem = asks login (redeem_body body) command.Redeem
+  asked_at (route.GrantRevoke n) = asks login (plain_body body) λ _. command.Revoke (record { 0 = n })
+  asked_at (route.SessionClose n) =
+      asks (caller.Either who) (plain_body body) λ _. command.CloseSession (record { 0 = n })
+  asked_at route.Child =
+      asks (caller.Bearer who) (child_body body) λ f. command.Child f.for_sharing f.assignment f.needs
+  asked_at route.Open = Some (stating (opens (caller.Bearer who) None) (tab_body body))
+  asked_at route.Wake = asks (caller.Bearer who) (plain_body body) λ _. command.StartRun None
+  asked_at (route.GrainQuery n) = asks login (query_body body) (command.Options (record { 0 = n }))
+  asked_at (route.GrainChoose n) =
+      asks login (choose_body body) λ f. command.Choose (record { 0 = n }) f.offer f.query f.assignment
+  asked_at route.Claim = asks run (claim_body body) λ f. command.Claim f.token f.permissions
+  asked_at route.Save = asks run (save_body body) λ f. command.Save f.handle f.label
+  asked_at route.Restore = asks run (redeem_body body) command.Restore
+  asked_at route.Drop = asks run (redeem_body body) command.DropSaved
+  asked_at _ = None

@@ -7,40 +7,31 @@ use Rattle.desk_bodies.specs.declared.fault.BodyFault.TheVariants as fault
 use Rattle.cloud_serve.specs.declared.showing.Showing.TheVariants as showing
 use Rattle.cloud_serve.specs.Commands.{asked_at}
 
--- the key that a credential is, where there is one
-abbrev pub bearer_showing : Option Digest → Showing
-bearer_showing None = showing.NoCredential
-bearer_showing (Some digest) = showing.Keyed (key.Bearer digest)
+-- what a body comes to on a route: what is asked for, or the fault of the body; or nothing may be asked for there
+abbrev pub IsAsked : Option (Result Showing BodyFault) → Showing → Type 0
+IsAsked None shown = shown ≡ showing.NoRoute
+IsAsked (Some (Ok asked)) shown = shown ≡ asked
+IsAsked (Some (Err (fault.BadBody number))) shown = shown ≡ showing.BadBody number
+IsAsked (Some (Err (fault.Manifest bad))) shown = shown ≡ showing.BadManifest bad
+IsAsked (Some (Err fault.Memory)) shown = ⊥
 
--- what a body comes to: what is asked for, or the fault of the body
-abbrev pub IsAsked : Result Showing BodyFault → Showing → Type 0
-IsAsked (Ok asked) shown = shown ≡ asked
-IsAsked (Err (fault.BadBody number)) shown = shown ≡ showing.BadBody number
-IsAsked (Err (fault.Manifest bad)) shown = shown ≡ showing.BadManifest bad
-IsAsked (Err fault.Memory) shown = ⊥
-
--- the same on a route where something may be asked for, or nothing
-abbrev pub IsAskedAt : Option (Result Showing BodyFault) → Showing → Type 0
-IsAskedAt None shown = shown ≡ showing.NoRoute
-IsAskedAt (Some asked) shown = IsAsked asked shown
-
--- what is shown on a route of the desk or of a running grain: it wants a credential, and then the body decides
-abbrev pub IsAtDesk : Route → Option Digest → List ℕ → Showing → Type 0
-IsAtDesk found None body shown = shown ≡ showing.NoCredential
-IsAtDesk found (Some who) body shown = IsAskedAt (asked_at found who body) shown
+-- what is shown where a credential is needed: that there is none, or what holds with it
+abbrev pub Needs : Option Digest → Showing → (Digest → Type 0) → Type 0
+Needs None shown holds = shown ≡ showing.NoCredential
+Needs (Some who) shown holds = holds who
 
 -- what is shown on `/use/{n}/`: that handle of the run with the token, and the target from the slash behind the number on
-abbrev pub IsUsing : ℕ → List ℕ → Option Digest → Showing → Type 0
-IsUsing n target None shown = shown ≡ showing.NoCredential
-IsUsing n target (Some who) shown =
+abbrev pub IsUsing : ℕ → List ℕ → Digest → Showing → Type 0
+IsUsing n target who shown =
     (m : ℕ) × (rest : List ℕ) × IsUse m target rest × (shown ≡ showing.Used (key.Handle who n) (47 ∷ rest))
 
--- what is shown on a route: the key of a session, a bearer's token, a handle, or what the desk is asked to do
+-- what is shown on a route: the key of a session, a bearer's token, a handle, or what the body asks of the desk
 abbrev pub ShowsAt : Route → Request → Showing → Type 0
 ShowsAt (route.Session digest) request shown = shown ≡ showing.Keyed (key.Session digest)
-ShowsAt route.Api request shown = shown ≡ bearer_showing request.bearer
-ShowsAt (route.Use n) request shown = IsUsing n request.target request.bearer shown
-ShowsAt found request shown = IsAtDesk found request.bearer request.body shown
+ShowsAt route.Api request shown = Needs request.bearer shown λ who. shown ≡ showing.Keyed (key.Bearer who)
+ShowsAt (route.Use n) request shown = Needs request.bearer shown λ who. IsUsing n request.target who shown
+ShowsAt found request shown =
+    Needs request.bearer shown λ who. IsAsked (asked_at who request.body found) shown
 
 -- WHAT A REQUEST SHOWS: by its route, or nothing where it has none
 abbrev pub Shows : Request → Showing → Type 0

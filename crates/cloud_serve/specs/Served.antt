@@ -1,9 +1,8 @@
 -- What serving a connection comes to: its turns, what was in hand at the end, and the table of ends.
 use Rattle.std.specs.Prelude.{◌≡◌, ◌⊎◌, ℕ, ◌<◌, ◌++◌, true, false, List, [], ◌∷◌, Option, Some, length, take, map}
 use Rattle.std.specs.List.{flat_map}
-use Rattle.cloud_serve.specs.Terms.{Ask, Bad, Book, Cut, Done, End, Ending, Inlet, IsStream, Last, Line, memory_text, Outlet, Refusal, refusal_status, refused_text, Request, Requests, Rose, wants_head}
+use Rattle.cloud_serve.specs.Terms.{Bad, Book, Cut, Done, End, Ending, Inlet, IsStream, Last, Line, memory_text, Outlet, Refusal, refusal_status, refused_text, Request, Requests, Rose, wants_head}
 use Rattle.cloud_serve.specs.declared.serve.End.TheVariants as end
-use Rattle.cloud_serve.specs.Acts.{Act}
 use Rattle.cloud_serve.specs.Effects.{AskedOf, OrderedOf}
 use Rattle.cloud_serve.specs.Turns.{Turn, IsLawful, IsBegun, AreLawful}
 
@@ -32,20 +31,11 @@ pub data InHand : Type 0 where
   Broken : Turn → InHand
   NoRoom : InHand
 
-abbrev pub request_in : InHand → List Request
-request_in (Answering turn) = turn.request ∷ []
-request_in (Broken turn) = turn.request ∷ []
-request_in _ = []
-
-abbrev pub asked_in : InHand → List Ask
-asked_in (Answering turn) = turn.asked
-asked_in (Broken turn) = turn.asked
-asked_in _ = []
-
-abbrev pub acts_in : InHand → List Act
-acts_in (Answering turn) = turn.acts
-acts_in (Broken turn) = turn.acts
-acts_in _ = []
+-- the turn in hand, if there is one
+abbrev pub turns_in : InHand → List Turn
+turns_in (Answering turn) = turn ∷ []
+turns_in (Broken turn) = turn ∷ []
+turns_in _ = []
 
 -- the text that was being written
 abbrev pub text_in : InHand → List ℕ
@@ -62,17 +52,14 @@ IsLawfulIn _ book low last = Unit {0}
 
 -- The table of ends, first part: what may be in hand at each.
 abbrev pub HandAt : End → InHand → Type 0
-HandAt end.Done Nothing = Unit {0}
-HandAt (end.CutOff n) Nothing = Unit {0}
-HandAt end.Spent Nothing = Unit {0}
-HandAt end.ReadFault Nothing = Unit {0}
 HandAt (end.Refused status at) (Refusing refusal place) = (status ≡ refusal_status refusal) × (place ≡ at)
+HandAt (end.Refused status at) _ = ⊥
 HandAt end.Memory NoRoom = Unit {0}
 HandAt end.Memory (Broken turn) = Unit {0}
-HandAt end.WriteFault (Refusing refusal place) = Unit {0}
-HandAt end.WriteFault (Answering turn) = Unit {0}
-HandAt end.WriteFault (Broken turn) = Unit {0}
-HandAt end.WriteFault NoRoom = Unit {0}
+HandAt end.Memory _ = ⊥
+HandAt end.WriteFault Nothing = ⊥
+HandAt end.WriteFault _ = Unit {0}
+HandAt _ Nothing = Unit {0}
 HandAt _ _ = ⊥
 
 -- Second part: which count must have risen in this call; and that the source has told its end where a request is cut off.
@@ -84,21 +71,14 @@ CauseAt _ inlet inlet' outlet outlet' = Unit {0}
 
 -- the stream goes on with nothing, or ended with a request that is the last one
 abbrev pub IsOver : Ending → Type 0
-IsOver Done = Unit {0}
-IsOver Last = Unit {0}
-IsOver _ = ⊥
+IsOver ending = (ending ≡ Done) ⊎ (ending ≡ Last)
 
--- what is refused is what the rest of the stream ends with
-abbrev pub IsRefusedIn : InHand → Requests → Type 0
-IsRefusedIn (Refusing refusal at) more = (more.list ≡ []) × (more.end ≡ Bad refusal at)
-IsRefusedIn _ more = Unit {0}
-
--- Third part: how the rest of the stream stands at each end.
+-- Third part: how the rest of the stream stands at each end; what is refused is what it ends with.
 abbrev pub StreamAt : End → InHand → Requests → Type 0
 StreamAt end.Done hand more = (more.list ≡ []) × IsOver more.end
 StreamAt (end.CutOff n) hand more = (more.list ≡ []) × (more.end ≡ Cut n)
-StreamAt (end.Refused status at) hand more = IsRefusedIn hand more
-StreamAt end.WriteFault hand more = IsRefusedIn hand more
+StreamAt (end.Refused status at) (Refusing why place) more = (more.list ≡ []) × (more.end ≡ Bad why place)
+StreamAt end.WriteFault (Refusing why place) more = (more.list ≡ []) × (more.end ≡ Bad why place)
 StreamAt _ hand more = Unit {0}
 
 -- Fourth part: the text in hand is written whole, but for a write fault, which leaves a prefix of it.
@@ -120,10 +100,6 @@ pub record Splits (all : Requests) (front : List Request) (more : Requests) : Ty
   pub list : all.list ≡ front ++ more.list
   pub end : all.end ≡ more.end
 
--- the end where every request was answered
-abbrev pub all_answered : End
-all_answered = end.Done
-
 -- the last of the turns is of a request that is the last one
 abbrev pub EndsLast : List Turn → Type 0
 EndsLast turns =
@@ -138,7 +114,7 @@ pub record Served (old new : World) (end : End) (from : ℕ) (places : List ℕ)
   pub last : ℕ
   -- Places begin at what the desk had seen. The history goes on from there, and the desk was given the turns' orders and no others.
   pub from_is : from ≡ length old.book.seen
-  pub ordered_of : OrderedOf old.book new.book (flat_map (λ turn. turn.acts) turns ++ acts_in hand)
+  pub ordered_of : OrderedOf old.book new.book (flat_map (λ turn. turn.acts) (turns ++ turns_in hand))
   -- Each turn is lawful in that one history, and counts what those before it reached.
   pub lawful : AreLawful new.book from from turns high last
   pub in_hand : IsLawfulIn hand new.book high last
@@ -146,18 +122,18 @@ pub record Served (old new : World) (end : End) (from : ℕ) (places : List ℕ)
   pub places_are : places ≡ map (λ turn. turn.place) turns
   pub served_is : served ≡ length turns
   -- The link was asked the turns' texts and no others; each failure is counted.
-  pub asked_of : AskedOf old.line new.line (flat_map (λ turn. turn.asked) turns ++ asked_in hand)
-  pub forwarded_is : forwarded ≡ length (flat_map (λ turn. turn.asked) turns ++ asked_in hand)
+  pub asked_of : AskedOf old.line new.line (flat_map (λ turn. turn.asked) (turns ++ turns_in hand))
+  pub forwarded_is : forwarded ≡ length (flat_map (λ turn. turn.asked) (turns ++ turns_in hand))
   -- Where the source tells what is left: the requests of it are the turns', the one in hand, and more. A stream has one meaning: no
   -- two by `HasOneMeaning`, and not none by `HasMeaning`, which are clauses of the reader of requests.
   pub stream : (input : List ℕ) → old.inlet.left ≡ Some input → (all : Requests) → IsStream 0 input all
-      → (more : Requests) × Splits all (map (λ turn. turn.request) turns ++ request_in hand) more
+      → (more : Requests) × Splits all (map (λ turn. turn.request) (turns ++ turns_in hand)) more
       × StreamAt end hand more
   -- Where the sink tells what was written: the turns' answers, and the text in hand.
   pub written : (text : List ℕ) → old.outlet.written ≡ Some text
       → WrittenAt end (text ++ flat_map (λ turn. turn.answer) turns) (text_in hand) new.outlet.written
   -- Every request was answered only where the source told its end, or the last request was the last one.
-  pub done : end ≡ all_answered → (new.inlet.ended ≡ true) ⊎ EndsLast turns
+  pub done : end ≡ End.Done → (new.inlet.ended ≡ true) ⊎ EndsLast turns
   -- What was in hand, what caused the end, and after how many requests it came.
   pub hand_at : HandAt end hand
   pub cause : CauseAt end old.inlet new.inlet old.outlet new.outlet

@@ -2,37 +2,20 @@
 pub use Rattle.bridge_headers.specs.Relay.{Relays}
 pub use Rattle.bridge_headers.specs.Text.{grain_text}
 pub use Rattle.bridge_headers.specs.declared.fault.RelayFault.{RelayFault}
-pub use Rattle.cloud_serve.specs.declared.serve.End.{End}
-pub use Rattle.cloud_serve.specs.declared.showing.Showing.{Showing}
-pub use Rattle.cloud_serve.specs.declared.turn.Answered.{Answered}
-pub use Rattle.desk_bodies.specs.Answers.{Answers}
+pub use Rattle.cloud_serve.specs.declared.{serve.End.End, showing.Showing.Showing, turn.Answered.Answered}
 pub use Rattle.desk_bodies.specs.Bodies.{account_body, child_body, choose_body, claim_body, grain_body, manifest_body, mark_body, plain_body, query_body, redeem_body, save_body, share_body, tab_body, token_body}
 pub use Rattle.desk_bodies.specs.declared.fault.BodyFault.{BodyFault}
 pub use Rattle.desk_orders.specs.Commands.{Asked}
 pub use Rattle.desk_orders.specs.Secrets.{DrawsAll}
-pub use Rattle.desk_orders.specs.declared.order.Command.{Command}
-pub use Rattle.desk_orders.specs.declared.reply.OrderFault.{OrderFault}
-pub use Rattle.desk_orders.specs.declared.reply.Reply.{Reply}
+pub use Rattle.desk_orders.specs.declared.{order.Command.Command, reply.OrderFault.OrderFault, reply.Reply.Reply}
 pub use Rattle.front_http.specs.Reading.{IsRemaining, Reading}
 pub use Rattle.front_http.specs.Routes.{IsRoute, IsUse}
 pub use Rattle.front_http.specs.Stream.{Bad, Cut, Done, Ending, IsStream, Last, Requests}
-pub use Rattle.front_http.specs.declared.fault.FrontFault.{FrontFault}
-pub use Rattle.front_http.specs.declared.refusal.Refusal.{Refusal}
-pub use Rattle.front_http.specs.declared.route.Route.{Route}
+pub use Rattle.front_http.specs.declared.{fault.FrontFault.FrontFault, refusal.Refusal.Refusal, route.Route.Route}
 pub use Rattle.grain_supervise.specs.Line.{Line}
-pub use Rattle.grain_supervise.specs.Spawning.{Spawns}
-pub use Rattle.grain_supervise.specs.declared.ask.Ask.{Ask}
-pub use Rattle.grain_supervise.specs.declared.start.Start.{Start}
+pub use Rattle.grain_supervise.specs.declared.{ask.Ask.Ask, start.Start.Start}
 pub use Rattle.host_base.specs.Outside.{Grew, Inlet, Outlet, Rose}
-pub use Rattle.host_base.specs.declared.bytes.Memory.{Memory}
-pub use Rattle.host_base.specs.declared.digest.Digest.{Digest}
-pub use Rattle.host_base.specs.declared.ids.AppId.{AppId}
-pub use Rattle.host_base.specs.declared.ids.GrainId.{GrainId}
-pub use Rattle.host_base.specs.declared.ids.RunId.{RunId}
-pub use Rattle.host_base.specs.declared.key.Key.{Key}
-pub use Rattle.host_base.specs.declared.permit.Permit.{Permit}
-pub use Rattle.host_base.specs.declared.request.Request.{Request}
-pub use Rattle.host_base.specs.declared.verdict.Verdict.{Verdict}
+pub use Rattle.host_base.specs.declared.{bytes.Memory.Memory, digest.Digest.Digest, ids.AppId.AppId, ids.GrainId.GrainId, ids.RunId.RunId, key.Key.Key, permit.Permit.Permit, request.Request.Request, verdict.Verdict.Verdict}
 pub use Rattle.hub_core.specs.Book.{Book, Judged, Later, Placed}
 pub use Rattle.hub_core.specs.Spawning.{starts_by, stops_by, token_of, WasTold}
 pub use Rattle.reply_texts.specs.Done.{done_text}
@@ -41,9 +24,7 @@ pub use Rattle.reply_texts.specs.Options.{options_text}
 pub use Rattle.reply_texts.specs.Refusals.{command_text}
 pub use Rattle.reply_texts.specs.Texts.{denial_text, memory_text, own_text, refusal_status, refused_text, site_text, wants_head}
 pub use Rattle.reply_texts.specs.declared.done.Handed.{Handed}
-pub use Rattle.share_graph.specs.declared.desk.Caller.{Caller}
-pub use Rattle.share_graph.specs.declared.desk.Made.{Made}
-pub use Rattle.share_graph.specs.declared.event.Event.{Event}
+pub use Rattle.share_graph.specs.declared.{desk.Caller.Caller, desk.Made.Made, event.Event.Event}
 pub use Rattle.site_caps.specs.Answering.{GivesText}
 pub use Rattle.site_caps.specs.Law.{Law}
 pub use Rattle.site_caps.specs.declared.fault.SiteFault.{SiteFault}

@@ -1,6 +1,6 @@
 -- What one request comes to: its turn, and when a turn is lawful.
-use Rattle.std.specs.Prelude.{◌≡◌, ◌≢◌, ℕ, ◌+◌, ◌⊎◌, Bool, true, false, List, [], ◌∷◌, Option, Some, None, Result, Ok, Err, length, codes}
-use Rattle.cloud_serve.specs.Terms.{Ask, Asked, Book, command_text, denial_text, done_text, fault_text, GivesText, grain_text, Handed, Judged, Key, Law, Made, options_text, OrderFault, own_text, Permit, Placed, RelayFault, Relays, Reply, Request, Showing, site_text, SiteFault, Verdict, wants_head}
+use Rattle.std.specs.Prelude.{◌≡◌, ◌≢◌, ℕ, ◌+◌, ◌⊎◌, ◌++◌, Bool, true, false, List, [], ◌∷◌, Option, Some, None, Result, Ok, Err, length, codes}
+use Rattle.cloud_serve.specs.Terms.{Ask, Asked, Book, command_text, denial_text, done_text, fault_text, GivesText, grain_text, Handed, Judged, Key, Law, options_text, OrderFault, own_text, Permit, Placed, RelayFault, Relays, Reply, Request, Showing, site_text, SiteFault, Verdict, wants_head}
 use Rattle.host_base.specs.declared.verdict.Denial.TheVariants as denial
 use Rattle.host_base.specs.declared.verdict.Verdict.TheVariants as verdict
 use Rattle.bridge_headers.specs.declared.fault.RelayFault.TheVariants as fault
@@ -46,9 +46,8 @@ abbrev pub AnswersBack : Bool → Option (List ℕ) → List ℕ → Type 0
 AnswersBack head_only None answer = answer ≡ own_text 502 (codes "LinkFailed") [] head_only
 AnswersBack head_only (Some back) answer =
     ((length back ≡ 4194305) × (answer ≡ own_text 502 (codes "LongAnswer") (4194305 ∷ []) head_only))
-    ⊎ ((length back ≢ 4194305)
-    × ((outcome : Result (List ℕ) RelayFault) × Relays back head_only outcome
-    × AnswersRelay head_only outcome answer))
+    ⊎ ((length back ≢ 4194305) × ((outcome : Result (List ℕ) RelayFault)
+    × Relays back head_only outcome × AnswersRelay head_only outcome answer))
 
 -- The answer to what a site gave: its text, or why it gives none.
 abbrev pub AnswersSite : Result (List ℕ) SiteFault → Bool → List ℕ → Type 0
@@ -59,6 +58,11 @@ AnswersSite (Err (site_fault.NotOffered tag item)) head_only answer =
     answer ≡ fault_text (own.NotOffered tag item) head_only
 AnswersSite _ head_only answer = ⊥
 
+-- the answer to an item of a site: what the law allows for it
+abbrev pub AnswersItem : Law → ℕ → ℕ → Bool → List ℕ → Type 0
+AnswersItem law tag item head_only answer =
+    (given : Result (List ℕ) SiteFault) × GivesText law tag item given × AnswersSite given head_only answer
+
 -- What follows from a verdict: a denial is answered and nothing is asked; a request that goes through is asked once, as it is passed on, and
 -- answered by what came back; and an item of a site is answered by what the law of the sites allows for it.
 abbrev pub FollowsVerdict : Law → Verdict → Request → Turn → Type 0
@@ -68,23 +72,18 @@ FollowsVerdict law (verdict.Forward permit) passed turn =
     (back : Option (List ℕ)) × (turn.asked ≡ ask_of permit passed back ∷ [])
     × AnswersBack (wants_head turn.request) back turn.answer
 FollowsVerdict law (verdict.Site tag item) passed turn =
-    (turn.asked ≡ [])
-    × ((given : Result (List ℕ) SiteFault) × GivesText law tag item given
-    × AnswersSite given (wants_head turn.request) turn.answer)
+    (turn.asked ≡ []) × AnswersItem law tag item (wants_head turn.request) turn.answer
 
 -- what an answer hands out, beside numbers: the key of the session that was opened, or a token
-abbrev pub handed_by : Option ℕ → List ℕ → Handed
-handed_by (Some session) text = handed.Key text
-handed_by None text = handed.Token text
-
-abbrev pub handed_of : Made → Option (List ℕ) → Handed
-handed_of made None = handed.Nothing
-handed_of made (Some text) = handed_by made.session text
+abbrev pub handed_of : Option ℕ → Option (List ℕ) → Handed
+handed_of session None = handed.Nothing
+handed_of (Some session) (Some text) = handed.Key text
+handed_of None (Some text) = handed.Token text
 
 -- The text of the answer to an order. Want of memory has no text here: it breaks the turn off.
 abbrev pub AnswersOrder : Result Reply OrderFault → Bool → List ℕ → Type 0
 AnswersOrder (Ok (reply.Made made text)) head_only answer =
-    answer ≡ done_text made (handed_of made text) head_only
+    answer ≡ done_text made (handed_of made.session text) head_only
 AnswersOrder (Ok (reply.Refused why)) head_only answer = answer ≡ command_text why head_only
 AnswersOrder (Ok (reply.Options list)) head_only answer = answer ≡ options_text list head_only
 AnswersOrder (Err order_fault.Store) head_only answer = answer ≡ fault_text own.StoreFailed head_only
@@ -92,13 +91,13 @@ AnswersOrder (Err order_fault.Secrets) head_only answer = answer ≡ fault_text 
 AnswersOrder (Err order_fault.Start) head_only answer = answer ≡ fault_text own.StartFailed head_only
 AnswersOrder (Err order_fault.Memory) head_only answer = ⊥
 
--- Answered before the desk, with this text: the place is the one before it, and nothing is asked or ordered.
-pub record IsPlain (low last : ℕ) (text : List ℕ) (turn : Turn) : Type 0 where
+-- Answered before the desk, with this text, whole or its head: the place is the one before it, and nothing is asked or ordered.
+pub record IsPlain (low last : ℕ) (text : Bool → List ℕ) (turn : Turn) : Type 0 where
   pub place_is : turn.place ≡ last
   pub reached_is : turn.reached ≡ low
   pub unasked : turn.asked ≡ []
   pub unordered : turn.acts ≡ []
-  pub answer_is : turn.answer ≡ text
+  pub answer_is : turn.answer ≡ text (wants_head turn.request)
 
 -- Answered by the verdict on a key at the turn's place, and what follows from it for the request as it is passed on.
 pub record IsKeyed (book : Book) (low : ℕ) (key : Key) (passed : Request) (turn : Turn) : Type 0 where
@@ -122,53 +121,44 @@ pub record IsMade (book : Book) (low : ℕ) (order : Asked) (act : Act) : Type 0
 abbrev pub past : Act → ℕ
 past act = act.place + length act.added
 
--- A turn's place is that of its last order, and the connection counts from then on what that one added.
-pub record EndsWith (act : Act) (turn : Turn) : Type 0 where
+-- The last order of a turn was made behind these others: the turn's place is its place, and the connection counts from then
+-- on what it added. Nothing is asked.
+pub record MakesLast (book : Book) (low : ℕ) (earlier : List Act) (order : Asked) (turn : Turn) : Type 0 where
+  pub act : Act
+  pub acts_are : turn.acts ≡ earlier ++ act ∷ []
+  pub made : IsMade book low order act
   pub place_is : turn.place ≡ act.place
   pub reached_is : turn.reached ≡ past act
   pub unasked : turn.asked ≡ []
 
--- One order was made on the turn.
-pub record MakesOne (book : Book) (low : ℕ) (order : Asked) (turn : Turn) : Type 0 where
-  pub act : Act
-  pub acts_are : turn.acts ≡ act ∷ []
-  pub made : IsMade book low order act
-  pub ends : EndsWith act turn
-
 -- Two orders were made, the second since the first was carried out, and not before what that one added.
 pub record MakesBoth (book : Book) (low : ℕ) (first second : Asked) (turn : Turn) : Type 0 where
   pub before : Act
-  pub act : Act
-  pub acts_are : turn.acts ≡ before ∷ act ∷ []
-  pub first_made : IsMade book low first before
+  pub made : IsMade book low first before
   pub done : is_done before.answer ≡ true
-  pub made : IsMade book (past before) second act
-  pub ends : EndsWith act turn
+  pub second_made : MakesLast book (past before) (before ∷ []) second turn
 
 -- answered by what became of an order
 abbrev pub IsOrdered : Book → ℕ → Asked → Turn → Type 0
 IsOrdered book low order turn =
-    (makes : MakesOne book low order turn)
+    (makes : MakesLast book low [] order turn)
     × AnswersOrder makes.act.answer (wants_head turn.request) turn.answer
 
 -- Answered by what became of the first order, where it wasn't carried out; else by what became of the second.
 abbrev pub IsOpened : Book → ℕ → Asked → Asked → Turn → Type 0
 IsOpened book low first second turn =
-    ((makes : MakesOne book low first turn) × (is_done makes.act.answer ≡ false)
+    ((makes : MakesLast book low [] first turn) × (is_done makes.act.answer ≡ false)
     × AnswersOrder makes.act.answer (wants_head turn.request) turn.answer)
     ⊎ ((makes : MakesBoth book low first second turn)
-    × AnswersOrder makes.act.answer (wants_head turn.request) turn.answer)
+    × AnswersOrder makes.second_made.act.answer (wants_head turn.request) turn.answer)
 
 -- A lawful turn, where the connection had counted `low` entries and the place before it was `last`.
 abbrev pub IsLawfulBy : Showing → Book → ℕ → ℕ → Turn → Type 0
-IsLawfulBy showing.NoRoute book low last turn =
-    IsPlain low last (own_text 404 (codes "NoRoute") [] (wants_head turn.request)) turn
-IsLawfulBy showing.NoCredential book low last turn =
-    IsPlain low last (denial_text denial.UnknownKey (wants_head turn.request)) turn
-IsLawfulBy (showing.BadBody field) book low last turn =
-    IsPlain low last (fault_text (own.BadBody field) (wants_head turn.request)) turn
+IsLawfulBy showing.NoRoute book low last turn = IsPlain low last (own_text 404 (codes "NoRoute") []) turn
+IsLawfulBy showing.NoCredential book low last turn = IsPlain low last (denial_text denial.UnknownKey) turn
+IsLawfulBy (showing.BadBody field) book low last turn = IsPlain low last (fault_text (own.BadBody field)) turn
 IsLawfulBy (showing.BadManifest bad) book low last turn =
-    IsPlain low last (command_text (refusal.Manifest bad) (wants_head turn.request)) turn
+    IsPlain low last (command_text (refusal.Manifest bad)) turn
 IsLawfulBy (showing.Keyed key) book low last turn = IsKeyed book low key turn.request turn
 IsLawfulBy (showing.Used key target) book low last turn =
     IsKeyed book low key (passed_to target turn.request) turn
@@ -191,9 +181,9 @@ abbrev pub IsBegunBy : Showing → Book → ℕ → Turn → Type 0
 IsBegunBy (showing.Keyed key) book low turn = IsAskedOnce book low key turn.request turn
 IsBegunBy (showing.Used key target) book low turn =
     IsAskedOnce book low key (passed_to target turn.request) turn
-IsBegunBy (showing.Wants order) book low turn = MakesOne book low order turn
+IsBegunBy (showing.Wants order) book low turn = MakesLast book low [] order turn
 IsBegunBy (showing.Opens first second) book low turn =
-    MakesOne book low first turn ⊎ MakesBoth book low first second turn
+    MakesLast book low [] first turn ⊎ MakesBoth book low first second turn
 IsBegunBy _ book low turn = ⊥
 
 abbrev pub IsBegun : Book → ℕ → Turn → Type 0

@@ -1,10 +1,9 @@
 //! What the routes of the desk and of running grains ask for.
-ghost use Rattle.std.specs.Prelude.{◌≡◌, IfOk, None, MatchOption, Result};
+ghost use Rattle.std.specs.Prelude.{◌≡◌, IfOk, None, Some, MatchOption, Result};
 ghost use Rattle.desk_bodies.specs.declared.fault.BodyFault.{BodyFault};
 ghost use Rattle.desk_bodies.specs.Answers.{Answers};
-ghost use Rattle.cloud_serve.specs.Inner.Taking.{AnswersAt};
 ghost use Rattle.cloud_serve.specs.Commands.{asked_at};
-ghost use Rattle.cloud_serve.specs.Routes.{IsAsked, IsAskedAt};
+ghost use Rattle.cloud_serve.specs.Routes.{IsAsked};
 ghost use Rattle.cloud_serve.specs.declared.showing.Showing.{Showing};
 
 use crate::commands::{
@@ -27,8 +26,8 @@ fn stated(
     who: Digest,
     body: &[u8],
 ) -> Option<Result<Showing, BodyFault>>
-    ensures { MatchOption result (asked_at route who body.now ≡ None)
-        (AnswersAt (asked_at route who body.now)) }
+    ensures { MatchOption result (asked_at who body.now route ≡ None) (λ answer.
+        (one : Result Showing BodyFault) × (asked_at who body.now route ≡ Some one) × Answers one answer) }
 {
     let login = Caller::Login(who);
     let bearer = Caller::Bearer(who);
@@ -74,7 +73,7 @@ fn stated(
 
 // What a body comes to.
 fn shown(answer: Result<Showing, BodyFault>) -> Result<Showing, Memory>
-    ensures { (asked : Result Showing BodyFault) → Answers asked answer → IfOk result (IsAsked asked) }
+    ensures { (asked : Result Showing BodyFault) → Answers asked answer → IfOk result (IsAsked (Some asked)) }
 {
     match answer {
         Ok(showing) => Ok(showing),
@@ -88,7 +87,7 @@ fn shown(answer: Result<Showing, BodyFault>) -> Result<Showing, Memory>
 
 /// What is asked for on a route of the desk or of a running grain with a credential.
 pub fn asked_for(alloc: Global, route: Route, who: Digest, body: &[u8]) -> Result<Showing, Memory>
-    ensures { IfOk result (IsAskedAt (asked_at route who body.now)) }
+    ensures { IfOk result (IsAsked (asked_at who body.now route)) }
 {
     match stated(alloc, route, who, body) {
         Some(answer) => shown(answer),

@@ -1,7 +1,7 @@
 //! The end of a connection without a request: what is refused, a fault of the input, and want of memory.
 ghost use Rattle.std.specs.Prelude.{◌≤◌};
 ghost use Rattle.host_base.specs.Outside.{Outlet};
-ghost use Rattle.cloud_serve.specs.Inner.Serving.{ClosesWith, RefusesBy, Halts};
+ghost use Rattle.cloud_serve.specs.Inner.{ClosesWith, RefusesBy, Halts};
 
 use crate::serve::End;
 use front_http::{FrontFault, Refusal, memory_reply};

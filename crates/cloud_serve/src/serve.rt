@@ -1,11 +1,12 @@
 //! One connection: its requests, one after another, and how it ends.
-ghost use Rattle.std.specs.Prelude.{◌≡◌, ℕ, ◌⊎◌, ◌+◌, ◌<◌, ◌≤◌, List, None, Some, length, OnOk, vec_len, vec_capacity};
+ghost use Rattle.std.specs.Prelude.{◌≡◌, ℕ, ◌⊎◌, ◌+◌, ◌<◌, ◌≤◌, true, List, None, Some, length, OnOk, vec_len, vec_capacity};
 ghost use Rattle.host_base.specs.Outside.{Inlet, Outlet, CountStands};
+ghost use Rattle.front_http.specs.Reading.{Gave, Reading};
 ghost use Rattle.front_http.specs.Stream.{Requests, IsStream};
 ghost use Rattle.grain_supervise.specs.Line.{Line};
 ghost use Rattle.hub_core.specs.Book.{Book};
 ghost use Rattle.cloud_serve.specs.Served.{Served, Complete, limit, with_book};
-ghost use Rattle.cloud_serve.specs.Inner.Serving.{TakesOne, Steps};
+ghost use Rattle.cloud_serve.specs.Inner.{Steps};
 
 use crate::ending::{close_with, halt};
 use crate::turn::take_turn;
@@ -54,7 +55,7 @@ pub struct ConnEnd {
 /// How many requests one connection may have.
 pub const REQUEST_LIMIT: u64 = 1_000_000;
 
-// Takes a turn, and writes its answer.
+// Takes a turn on a request, however it was read, and writes its answer.
 fn answer_one<O: Sink, D: Desk, L: Link>(
     alloc: Global,
     routes: &Routes,
@@ -68,9 +69,13 @@ fn answer_one<O: Sink, D: Desk, L: Link>(
     requires { forwarded.old < 18446744073709551615 }
     ensures few { forwarded.new ≤ forwarded.old + 1 }
     ensures writes { (O.outlet out.old).faults ≤ (O.outlet out.new).faults }
-    ensures takes { (low : ℕ) → low ≤ length (D.book desk.old).seen
-        → TakesOne low last forwarded.old forwarded.new request.now (O.outlet out.old)
-        (O.outlet out.new) (L.line link.old) (L.line link.new) (D.book desk.old) (D.book desk.new)
+    ensures steps { (low : ℕ) (before after : Inlet) (reading next : Reading)
+        → low ≤ length (D.book desk.old).seen
+        → ((left : List ℕ) → before.left ≡ Some left → Gave reading left request.now next after.left)
+        → (next.closed ≡ true → request.now.last ≡ true)
+        → Steps low last forwarded.old forwarded.new reading next
+        (record { inlet = before; outlet = O.outlet out.old; line = L.line link.old; book = D.book desk.old })
+        (record { inlet = after; outlet = O.outlet out.new; line = L.line link.new; book = D.book desk.new })
         result }
 {
     match take_turn(alloc, routes, request, last, desk, link, forwarded) {

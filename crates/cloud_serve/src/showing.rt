@@ -1,7 +1,10 @@
 //! What a request shows, and so how it is answered.
 ghost use Rattle.std.specs.Prelude.{◌≡◌, ℕ, List, IfOk};
+ghost use Rattle.host_base.specs.declared.key.Key.TheVariants as key;
 ghost use Rattle.front_http.specs.Routes.{IsRoute, IsUse};
-ghost use Rattle.cloud_serve.specs.Routes.{Shows, ShowsAt, IsAtDesk, IsUsing, bearer_showing};
+ghost use Rattle.cloud_serve.specs.Commands.{asked_at};
+ghost use Rattle.cloud_serve.specs.Routes.{IsAsked, IsUsing, Needs, Shows, ShowsAt};
+ghost use Rattle.cloud_serve.specs.declared.showing.Showing.TheVariants as shows;
 
 use crate::asking::asked_for;
 use app_manifest::ManifestFault;
@@ -33,7 +36,7 @@ pub enum Showing {
 }
 
 fn credential(bearer: &Option<Digest>) -> Showing
-    ensures { result ≡ bearer_showing bearer.now }
+    ensures { Needs bearer.now result (λ who. result ≡ shows.Keyed (key.Bearer who)) }
 {
     match bearer {
         Some(digest) => Showing::Keyed(Key::Bearer(*digest)),
@@ -48,7 +51,8 @@ fn at_desk(
     bearer: &Option<Digest>,
     body: &[u8],
 ) -> Result<Showing, Memory>
-    ensures { IfOk result (IsAtDesk route bearer.now body.now) }
+    ensures { IfOk result (λ shown.
+        Needs bearer.now shown (λ who. IsAsked (asked_at who body.now route) shown)) }
 {
     match bearer {
         Some(digest) => asked_for(alloc, route, *digest, body),
@@ -59,7 +63,7 @@ fn at_desk(
 // What is shown by a request of a run through the handle of a number.
 fn used(alloc: Global, num: u32, bearer: &Option<Digest>, target: &str) -> Result<Showing, Memory>
     requires { (m : ℕ) × (rest : List ℕ) × IsUse m target.now rest }
-    ensures { IfOk result (IsUsing num target.now bearer.now) }
+    ensures { IfOk result (λ shown. Needs bearer.now shown (λ who. IsUsing num target.now who shown)) }
 {
     let Some(digest) = bearer else {
         return Ok(Showing::NoCredential);

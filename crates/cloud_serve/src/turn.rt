@@ -1,10 +1,10 @@
 //! One turn: what a request comes to.
-ghost use Rattle.std.specs.Prelude.{◌≡◌, ℕ, ◌+◌, ◌<◌, ◌≤◌, Some, length, IfOk};
+ghost use Rattle.std.specs.Prelude.{◌≡◌, ℕ, ◌+◌, ◌<◌, ◌≤◌, Ok, Err, Some, length, IfOk, MatchResult};
 ghost use Rattle.hub_core.specs.Book.{Book};
 ghost use Rattle.cloud_serve.specs.Routes.{Shows};
 ghost use Rattle.grain_supervise.specs.Line.{Line};
-ghost use Rattle.cloud_serve.specs.Inner.Taking.{AsksOnce, Forwards, ShowsKey, SiteBy, Takes, answered_at};
-ghost use Rattle.cloud_serve.specs.Turns.{AnswersBack, AnswersOrder, handed_of, is_done};
+ghost use Rattle.cloud_serve.specs.Inner.{AsksOnce, ShowsKey, Takes};
+ghost use Rattle.cloud_serve.specs.Turns.{AnswersBack, AnswersItem, AnswersOrder, ask_of, handed_of, is_done};
 ghost use Rattle.hub_core.specs.Book.{TakesNone};
 ghost use Rattle.cloud_serve.specs.declared.showing.Showing.TheVariants as shown;
 
@@ -61,8 +61,8 @@ fn ask<L: Link>(
 ) -> Result<Bytes, Memory>
     requires { forwarded.old < 18446744073709551615 }
     ensures few { forwarded.new ≤ forwarded.old + 1 }
-    ensures asks { AsksOnce (L.line link.old) (L.line link.new) forwarded.old forwarded.new run grain text.now
-        head_only result }
+    ensures asks { AsksOnce (L.line link.old) (L.line link.new) forwarded.old forwarded.new
+        (λ back. record { run = run; grain = grain; text = text.now; back = back }) head_only result }
 {
     match link.ask(alloc, run, grain, text) {
         Ok(back) => {
@@ -88,8 +88,8 @@ fn forward<L: Link>(
 ) -> Result<Bytes, Memory>
     requires { forwarded.old < 18446744073709551615 }
     ensures few { forwarded.new ≤ forwarded.old + 1 }
-    ensures forwards { Forwards (L.line link.old) (L.line link.new) forwarded.old forwarded.new permit.now
-        passed.now head_only result }
+    ensures forwards { AsksOnce (L.line link.old) (L.line link.new) forwarded.old forwarded.new
+        (ask_of permit.now passed.now) head_only result }
 {
     match grain_text(alloc, permit, passed) {
         Err(Memory) => Err(Memory),
@@ -114,7 +114,7 @@ fn site_answer<D: Desk>(
     head_only: bool,
 ) -> Result<Bytes, Memory>
     ensures none { TakesNone (D.book desk.old) (D.book desk.new) }
-    ensures gives { SiteBy (D.book desk.old).law tag item head_only result }
+    ensures gives { IfOk result (AnswersItem (D.book desk.old).law tag item head_only) }
 {
     match desk.site(alloc, tag, item) {
         Ok(text) => site_reply(alloc, text.as_slice(), head_only),
@@ -170,7 +170,7 @@ fn keyed<D: Desk, L: Link>(
 
 // What an answer hands out, beside numbers: the key of the session that was opened, or a token.
 fn handed(made: &Made, text: Option<Bytes>) -> Handed
-    ensures { result ≡ handed_of made.now text }
+    ensures { result ≡ handed_of made.now.session text }
 {
     match text {
         None => Handed::Nothing,
@@ -264,7 +264,8 @@ fn opened<D: Desk>(
 
 // An answer that needs no desk, at the place before it.
 fn placed(place: u64, text: Result<Bytes, Memory>) -> Result<Answered, Memory>
-    ensures { result ≡ answered_at place text }
+    ensures { MatchResult text (λ answer. result ≡ Ok (record { place = place; text = answer }))
+        (λ m. result ≡ Err m) }
 {
     match text {
         Ok(text) => Ok(Answered { place, text }),

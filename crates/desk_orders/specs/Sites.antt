@@ -14,9 +14,8 @@ abbrev pub IsFound : Law → List DescriptorData → Bool → ℕ → ℕ → Op
 IsFound law query admin tag item None =
     (Contains law.tags tag → ⊥) ⊎ (Contains law.tags tag × HasNoOffer (law.may_offer tag query) admin item)
 IsFound law query admin tag item (Some admin_only) =
-    Contains law.tags tag
-    × ((one : SiteOffer) × HasOffer (law.may_offer tag query) admin item one
-    × (one.admin_only ≡ admin_only))
+    Contains law.tags tag × ((one : SiteOffer)
+    × HasOffer (law.may_offer tag query) admin item one × (one.admin_only ≡ admin_only))
 
 -- the same of an offer: a grain is no item of a site
 abbrev pub IsFoundOf : Law → State → Caller → List DescriptorData → Offer → Option Bool → Type 0
@@ -31,12 +30,6 @@ IsFoundBy law s who (command.Choose n offer query assignment) found =
     ((account : Account) × IsCallerOn s (secret_of who) n account × IsFoundOf law s who query offer found)
     ⊎ (((r : Refusal) × IsNoCallerOn s (secret_of who) n r) × (found ≡ None))
 IsFoundBy law s who _ found = Unit {0}
-
--- the offers of all sites that answer a query, each with the tag of its site: the law allows them, and those for admins alone are among them
--- where the caller is one
-abbrev pub AreTold : Law → State → Caller → List DescriptorData → List (ℕ × SiteOffer) → Type 0
-AreTold law s who query told =
-    (admin : Bool) × IsAdminBy s who admin × IsSites law.tags law.may_offer query admin told
 
 -- a grain that may be chosen
 abbrev pub grain_listed : Choice → Listed
@@ -55,14 +48,15 @@ those_of q listed = filter (λ (one : Listed). same_quality one.quality q) liste
 -- the offers of sites: preferred ones first, then by tag and item
 abbrev pub sites_listed : List DescriptorData → List (ℕ × SiteOffer) → List Listed
 sites_listed query told =
-    let listed = filter_map
-    (site_listed query) told in those_of Preferred listed ++ those_of Acceptable listed
+    let listed = filter_map (site_listed query) told in
+    those_of Preferred listed ++ those_of Acceptable listed
 
--- WHAT MAY BE CHOSEN for a grain: grains, preferred ones first, then by number; and then what the sites offer
+-- WHAT MAY BE CHOSEN for a grain: grains, preferred ones first, then by number; and then the offers of all sites that answer the
+-- query, each with the tag of its site: the law allows them, and those for admins alone are among them where the caller is one.
 abbrev pub AreListed : Law → State → Caller → GrainId → List DescriptorData → List Listed → Type 0
 AreListed law s who n query list =
     (choices : List Choice) × (told : List (ℕ × SiteOffer)) × AreOptions s who n query choices
-    × AreTold law s who query told
+    × ((admin : Bool) × IsAdminBy s who admin × IsSites law.tags law.may_offer query admin told)
     × (list ≡ map grain_listed choices ++ sites_listed query told)
 
 -- the same of a command that asks for it; no other has a list
@@ -72,6 +66,5 @@ ListsBy law s who _ list = ⊥
 
 -- the law allows one list of offers alone for each query at a tag
 abbrev pub HasOneAnswer : Law → Type 0
-HasOneAnswer law =
-    (tag : ℕ) (query : List DescriptorData)
+HasOneAnswer law = (tag : ℕ) (query : List DescriptorData)
     → IsOne (λ (offers : List SiteOffer). IsTrue (law.may_offer tag query offers))

@@ -4,7 +4,7 @@ use Rattle.std.specs.List.{sum_by}
 use Rattle.std.specs.Option.{option_map}
 use Rattle.std.proofs.lemmas.List.Sums.{sum_by-append}
 use Rattle.hub_core.specs.Book.{Book}
-use Rattle.serve_door.specs.Connections.{AreServed, IsServed, ServesMany, answered_on, door_after, traffic_after}
+use Rattle.serve_door.specs.Connections.{AreServed, IsServed, ServesMany, door_after}
 use Rattle.serve_door.specs.Doors.{Connection, Doorway, IsDue, IsInOrder, IsOneOut, IsWithinPlan, Traffic, expecting, given_back, one_given}
 
 one_more : (old new newer : Book) (list : List Connection) (one : Connection) → AreServed old new list → IsServed new newer one → AreServed old newer (list ++ one ∷ [])
@@ -13,6 +13,14 @@ one_more old new newer (first ∷ more) one (between, is, rest) served = (betwee
 
 abbrev served_on : Connection → ℕ
 served_on one = one.end.served
+
+-- how many requests were answered on connections
+abbrev answered_on : List Connection → ℕ
+answered_on list = min (sum_by (λ (one : Connection). one.end.served) list) 18446744073709551615
+
+-- the traffic of a door once it gave these connections and was given them back
+abbrev traffic_after : List Connection → Traffic → Traffic
+traffic_after list t = record t { given = t.given + length list; returned = t.returned ++ list }
 
 capped : (sum more : ℕ) → min (min sum 18446744073709551615 + more) 18446744073709551615 ≡ min (sum + more) 18446744073709551615
 capped sum more = omega (arith)

@@ -1,8 +1,7 @@
 use Rattle.std.proofs.Common.{◌≡◌, arith, length, subst}
 use Rattle.std.proofs.lemmas.Bool.Decides.{nat_tests}
-use Rattle.admin_run.specs.Beginning.{StatesTables}
 use Rattle.hub_core.proofs.Stopping.{settled_outlives}
-use Rattle.admin_run.proofs.First.{begins_again, had_none, of_keeper}
+use Rattle.admin_run.proofs.First.{StatesTables, begins_again, had_none, of_keeper}
 use Rattle.admin_run.proofs.beginning.begin.Goals as goal
 
 pub returns-then-is_empty-clause-begins : goal.returns-then-is_empty-clause-begins

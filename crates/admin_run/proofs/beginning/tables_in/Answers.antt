@@ -4,8 +4,4 @@ use Rattle.admin_run.proofs.beginning.tables_in.Goals as goal
 pub returns-in-Ok-clause-tables : goal.returns-in-Ok-clause-tables
 returns-in-Ok-clause-tables c =
     let read = c.in-Ok.ensures in
-    record {
-      read = read.exact;
-      found = read.found;
-      formed = opened_formed c.in-Ok.tables read.checked read.limits read.numbered;
-    }
+    (read.exact, read.found, opened_formed c.in-Ok.tables read.checked read.limits read.numbered)

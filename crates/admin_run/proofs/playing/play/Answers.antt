@@ -1,4 +1,4 @@
-use Rattle.std.proofs.Common.{length, refl, sym, ap, subst, ◌∙◌, inl, inr}
+use Rattle.std.proofs.Common.{refl, sym, ap, subst, ◌∙◌, inl, inr}
 use Rattle.share_graph.specs.History.{replay}
 use Rattle.hub_core.specs.Book.{Backing}
 use Rattle.hub_core.specs.Sharing.{Objects, Sharing}
@@ -22,14 +22,10 @@ returns-clause-plays g c = rw (← c.world.view_is, c.joined-world-2.ensures.tel
     (let end = c.serve_conn-end.result in
     let desk' = c.serve_conn-end.new.desk in
     inl (record {
-      end = end.end;
-      served = end.served;
-      forwarded = end.forwarded;
-      entries = length desk'.history;
       connection =
-          serves_book g.C.Law.SiteLaw.law _ c.serve_conn-end.new.wire _ c.into_held-held.result.tell end.end end.places end.served end.forwarded (length desk'.history) c.in-Ok-small_desk.desk desk' end.from _
+          serves_book g.C.Law.SiteLaw.law _ c.serve_conn-end.new.wire _ c.into_held-held.result.tell end c.in-Ok-small_desk.desk desk' _
           c.in-Ok-small_desk.ensures.ok (ap (λ (o : Objects _). o.tell) c.into_held-held.ensures.held ∙ ap (λ (x : Sharing _). x.holds) c.into_locked.ensures) c.serve_conn-end.ensures.served
-          (subst (λ (x : Sharing _). IsStored c.into_held-held.result.tell.keeping (replay x.start x.history).tables) c.into_locked.ensures c.into_held-held.ensures.stored) refl;
+          (subst (λ (x : Sharing _). IsStored c.into_held-held.result.tell.keeping (replay x.start x.history).tables) c.into_locked.ensures c.into_held-held.ensures.stored);
       status_is = c.status_of-status.ensures;
       complete = λ bytes requests told stream few reads writes.
           completes end.end c.status_of-status.result end.served requests c.status_of-status.ensures (c.serve_conn-end.ensures.complete bytes requests told stream few reads writes);

@@ -1,6 +1,6 @@
 use Rattle.std.proofs.Common.{◌≡◌, ◌≤◌, None}
 use Rattle.cloud_serve.specs.Served.{with_book}
-use Rattle.cloud_serve.specs.Inner.Serving.{SoFar}
+use Rattle.cloud_serve.proofs.Runs.{SoFar}
 use Rattle.cloud_serve.proofs.serve.serve_conn.Given as goal
 
 abbrev pub invariant-requests : goal.invariant-requests

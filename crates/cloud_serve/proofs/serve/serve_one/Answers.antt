@@ -3,7 +3,7 @@ use Rattle.std.proofs.Common.{◌≡◌, Option, Result, Ok, Err, refl, ◌∙�
 use Rattle.host_base.specs.declared.request.Request.{Request}
 use Rattle.front_http.specs.declared.fault.FrontFault.{FrontFault}
 use Rattle.front_http.specs.Reading.{Next}
-use Rattle.cloud_serve.proofs.Serving.{steps_one, cut_ended, none_ended, stops_done, stops_halted, stops_no_room}
+use Rattle.cloud_serve.proofs.Serving.{cut_ended, none_ended, stops_done, stops_halted, stops_no_room}
 use Rattle.cloud_serve.proofs.serve.serve_one.Goals as goal
 
 pub returns-then-is_err-clause-steps : goal.returns-then-is_err-clause-steps
@@ -12,9 +12,9 @@ returns-then-is_err-clause-steps g c low less = rw (← c.wire.view_is)
 
 pub returns-in-Some-clause-steps : goal.returns-in-Some-clause-steps
 returns-in-Some-clause-steps g c low less = rw (← c.wire.view_is)
-    (steps_one low c.args.last _ _ c.args.reader.now c.next.new.self _ _ c.in-Some.request c.answer_one.result
+    (c.answer_one.ensures.steps low _ _ c.args.reader.now c.next.new.self less
     (λ left is. subst (λ (r : Result (Option Request) FrontFault). Next c.args.reader.now left r c.next.new.self (g.I.Source.inlet c.next.new.input).left) (c.in-Ok.is ∙ ap Ok c.in-Some.is) (c.next.ensures.given left is c.requires.running))
-    (λ closed. sym (subst (λ (r : Result (Option Request) FrontFault). IfOk r (λ found. IfSome found (λ request. c.next.new.self.closed ≡ request.last))) (c.in-Ok.is ∙ ap Ok c.in-Some.is) c.next.ensures.closes) ∙ closed) (c.answer_one.ensures.takes low less))
+    (λ closed. sym (subst (λ (r : Result (Option Request) FrontFault). IfOk r (λ found. IfSome found (λ request. c.next.new.self.closed ≡ request.last))) (c.in-Ok.is ∙ ap Ok c.in-Some.is) c.next.ensures.closes) ∙ closed))
 
 pub returns-in-None-clause-steps : goal.returns-in-None-clause-steps
 returns-in-None-clause-steps g c low less = rw (← c.wire.view_is)

@@ -13,7 +13,7 @@ pub returns-then-was_done : goal.returns-then-was_done
 returns-then-was_done g c = record {
   takes = λ low last counted line less.
       breaks_opened _ _ _ low c.args.request.now c.args.first c.args.second c.order-place.result.0 c.order-place-then-was_done.result.0 c.order-place.result.1 c.order-place-then-was_done.result.1 less
-      c.order-place.ensures c.order-place-then-was_done.ensures line counted c.requires.shown (sym c.was_done.ensures ∙ c.if-was_done.true);
+      c.order-place.ensures c.order-place-then-was_done.ensures line counted c.requires.shown (sym c.was_done.ensures ∙ c.if-was_done.true) _ _;
 }
 
 pub returns-in-Ok-order_text : goal.returns-in-Ok-order_text
@@ -26,5 +26,5 @@ returns-in-Ok-order_text g c = record {
 pub returns : goal.returns
 returns g c = record {
   takes = λ low last counted line less.
-      breaks_stopped _ _ line counted low c.args.request.now c.args.first c.args.second c.order-place.result.0 c.order-place.result.1 less c.requires.shown c.order-place.ensures;
+      breaks_stopped _ _ line counted low c.args.request.now c.args.first c.args.second c.order-place.result.0 c.order-place.result.1 less c.requires.shown c.order-place.ensures _ _;
 }

@@ -9,5 +9,5 @@ returns-in-Ok g c = record {
 
 pub returns-in-Err : goal.returns-in-Err
 returns-in-Err g c = record {
-  takes = λ low last counted line less. breaks_ordered _ _ line counted low c.args.request.now c.args.order c.order-place.result.0 c.order-place.result.1 less c.requires.shown c.order-place.ensures;
+  takes = λ low last counted line less. breaks_ordered _ _ line counted low c.args.request.now c.args.order c.order-place.result.0 c.order-place.result.1 less c.requires.shown c.order-place.ensures _ _;
 }
