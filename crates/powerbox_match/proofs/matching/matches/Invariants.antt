@@ -1,8 +1,0 @@
-use Rattle.std.proofs.Common.{◌≡◌, take}
-use Rattle.powerbox_match.specs.Matching.{some_match}
-use Rattle.powerbox_match.specs.Steps.{strongest}
-use Rattle.powerbox_match.proofs.matching.matches.Given as goal
-
-abbrev pub invariant-loop-wanted : goal.invariant-loop-wanted
-invariant-loop-wanted l =
-    l.found ≡ strongest (λ q. some_match q (take l.wanted-index l.wanted-items) l.offers)
