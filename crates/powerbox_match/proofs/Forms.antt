@@ -5,10 +5,12 @@ use Rattle.std.specs.List.{list_any}
 use Rattle.std.specs.List.Sorted.{IsPermutation}
 use Rattle.std.specs.Str.{bytes_eq}
 use Rattle.std.proofs.lemmas.List.{take_more}
-use Rattle.std.proofs.lemmas.List.Sorted.{list_any-IsPermutation, length_permutation}
+use Rattle.std.proofs.lemmas.List.Recursion.{is_sum_by}
+use Rattle.std.proofs.lemmas.List.Sorted.{list_any-IsPermutation, length_permutation, sum_by-IsPermutation}
 use Rattle.powerbox_match.specs.declared.value.TagValue.{TagValue}
 use Rattle.powerbox_match.specs.Value.{TagData, any, number, text, fields, items, FieldsData, no_fields, field, ItemsData, no_items, item, field_count, item_count, is_below, is_ascending, is_tidy, are_fields_tidy, are_items_tidy, tag_data, fields_data, items_data}
 use Rattle.powerbox_match.specs.Matching.{get_field, value_matches, fields_match, items_match, any_item}
+use Rattle.powerbox_match.specs.Comparisons.{weight, lists, fields_weight, fields_lists, items_weight, items_lists}
 use Rattle.powerbox_match.specs.Sorted.{is_in_order, is_sorted, are_fields_sorted, are_items_sorted, MatchesAlike, IsSortedForm}
 use Rattle.powerbox_match.specs.Steps.{AreForms, AreFieldForms}
 use Rattle.powerbox_match.proofs.Merge.{is_met}
@@ -120,6 +122,23 @@ forms_sorted [] (v ∷ vs) h = refl
 forms_sorted (s ∷ ss) [] h = absurd h
 forms_sorted (s ∷ ss) (v ∷ vs) h = rw h.0.sorted (forms_sorted ss vs h.1)
 
+forms_weight : (ss vs : List TagValue) → AreForms ss vs → items_weight (items_data ss) ≡ items_weight (items_data vs)
+forms_weight [] [] h = refl
+forms_weight [] (v ∷ vs) h = absurd h
+forms_weight (s ∷ ss) [] h = absurd h
+forms_weight (s ∷ ss) (v ∷ vs) h = rw (h.0.weight, forms_weight ss vs h.1) refl
+
+forms_lists : (ss vs : List TagValue) → AreForms ss vs → items_lists (items_data ss) ≡ items_lists (items_data vs)
+forms_lists [] [] h = refl
+forms_lists [] (v ∷ vs) h = absurd h
+forms_lists (s ∷ ss) [] h = absurd h
+forms_lists (s ∷ ss) (v ∷ vs) h = rw (h.0.lists, forms_lists ss vs h.1) refl
+
+-- a sum over a list doesn't depend on the order
+sum_permuted : {X : Type 0} (F : List X → ℕ) (f : X → ℕ) → F [] ≡ 0 → ((x : X) (xs : List X) → F (x ∷ xs) ≡ f x + F xs) → (xs ys : List X) → IsPermutation xs ys → F ys ≡ F xs
+sum_permuted F f empty step xs ys h =
+    is_sum_by F f empty step ys ∙ sum_by-IsPermutation f xs ys h ∙ sym (is_sum_by F f empty step xs)
+
 -- forms of a list's items, put in order
 pub form_of_items : (vs ss os : List TagValue) → is_tidy (items (items_data vs)) ≡ true → AreForms ss vs → IsPermutation ss os → is_in_order (items_data os) ≡ true → IsSortedForm (items (items_data os)) (items (items_data vs))
 form_of_items vs ss os few h same order =
@@ -132,6 +151,8 @@ form_of_items vs ss os few h same order =
       alike = items_alike (items_data os) (items_data vs) (λ us. sym (wanted_permuted us ss os same) ∙ wanted_alike us ss vs h) (λ us. sym (given_permuted us ss os same) ∙ given_alike us ss vs h);
       tidy = rw (short, tidy);
       sorted = rw (order, inside);
+      weight = ap suc (sum_permuted (λ xs. items_weight (items_data xs)) (λ x. weight (tag_data x)) refl (λ _ _. refl) ss os same ∙ forms_weight ss vs h);
+      lists = ap suc (sum_permuted (λ xs. items_lists (items_data xs)) (λ x. lists (tag_data x)) refl (λ _ _. refl) ss os same ∙ forms_lists ss vs h);
     }
 
 -- ---- the form of fields
@@ -208,6 +229,18 @@ field_forms_sorted [] (f ∷ fs) h = refl
 field_forms_sorted (s ∷ ss) [] h = absurd h
 field_forms_sorted (s ∷ ss) (f ∷ fs) h = rw h.1.sorted (field_forms_sorted ss fs h.2)
 
+field_forms_weight : (ss fs : List Entry) → AreFieldForms ss fs → fields_weight (fields_data ss) ≡ fields_weight (fields_data fs)
+field_forms_weight [] [] h = refl
+field_forms_weight [] (f ∷ fs) h = absurd h
+field_forms_weight (s ∷ ss) [] h = absurd h
+field_forms_weight (s ∷ ss) (f ∷ fs) h = rw (h.1.weight, field_forms_weight ss fs h.2) refl
+
+field_forms_lists : (ss fs : List Entry) → AreFieldForms ss fs → fields_lists (fields_data ss) ≡ fields_lists (fields_data fs)
+field_forms_lists [] [] h = refl
+field_forms_lists [] (f ∷ fs) h = absurd h
+field_forms_lists (s ∷ ss) [] h = absurd h
+field_forms_lists (s ∷ ss) (f ∷ fs) h = rw (h.1.lists, field_forms_lists ss fs h.2) refl
+
 -- forms of a list's fields
 pub form_of_fields : (fs ss : List Entry) → is_tidy (fields (fields_data fs)) ≡ true → AreFieldForms ss fs → IsSortedForm (fields (fields_data ss)) (fields (fields_data fs))
 form_of_fields fs ss few h =
@@ -220,6 +253,8 @@ form_of_fields fs ss few h =
       alike = fields_alike (fields_data ss) (fields_data fs) (λ hs. fields_wanted_alike hs ss fs h) (λ hs. fields_given_alike hs ss fs h);
       tidy = rw (short, up, tidy);
       sorted = rw (up, inside);
+      weight = ap suc (field_forms_weight ss fs h);
+      lists = ap suc (field_forms_lists ss fs h);
     }
 
 -- ---- one more in a loop over a list

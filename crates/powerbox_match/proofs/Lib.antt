@@ -11,4 +11,6 @@ pub mod Strongest
 pub mod Insertion
 pub mod Order
 pub mod Walk
+pub mod Products
+pub mod Counted
 pub mod Forms

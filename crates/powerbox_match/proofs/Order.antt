@@ -184,6 +184,10 @@ above_at Greater Greater e h k = absurd (cc)
 pub number_above : (n m : ℤ) → int_eq n m ≡ false → is_before (number m) (number n) ≡ false → is_before (number n) (number m) ≡ true
 number_above n m h k = above_at _ _ (int_cmp_total.antisymm m n) h k
 
+-- and a text
+pub text_above : (s t : List ℕ) → bytes_eq s t ≡ false → is_before (text t) (text s) ≡ false → is_before (text s) (text t) ≡ true
+text_above s t h k = above_at _ _ (nat_list_cmp_total.antisymm t s) (is_eq-slice_cmp s t ∙ h) k
+
 -- anything matches all
 pub any_from_unmatched : (v w : TagData) → value_matches v w ≡ false → is_any v ≡ false
 any_from_unmatched any w h = absurd (cc)

@@ -1,5 +1,5 @@
 -- The walk over two lists of items that stand in order.
-use Rattle.std.proofs.Common.{◌≡◌, ℕ, ℤ, zero, suc, ◌+◌, ◌<◌, Bool, true, false, not, ◌&&◌, ◌||◌, cond, List, [], ◌∷◌, Some, length, get_or, drop, refl, sym, ap, ◌∙◌}
+use Rattle.std.proofs.Common.{◌≡◌, ℕ, ℤ, zero, suc, ◌+◌, ◌<◌, Bool, true, false, not, ◌&&◌, ◌||◌, cond, List, [], ◌∷◌, Some, length, get_or, drop, refl, sym, ap, ◌∙◌, ◌≤◌, arith}
 use Rattle.std.specs.Cmp.{first_so, second_so}
 use Rattle.std.specs.Ordering.{is_lt, int_eq}
 use Rattle.std.specs.List.{slice_get}
@@ -8,9 +8,10 @@ use Rattle.std.proofs.lemmas.List.{drop_more}
 use Rattle.powerbox_match.specs.declared.value.TagValue.{TagValue}
 use Rattle.powerbox_match.specs.Value.{TagData, any, number, text, fields, items, ItemsData, no_items, item, tag_data, items_data}
 use Rattle.powerbox_match.specs.Matching.{value_matches, items_match, any_item}
+use Rattle.powerbox_match.specs.Comparisons.{lists}
 use Rattle.powerbox_match.specs.Sorted.{is_first, is_in_order, are_items_sorted}
 use Rattle.powerbox_match.specs.Steps.{items_not_before, begins_with_any, begins_with_number}
-use Rattle.powerbox_match.proofs.Order.{number_above, item_total, is_before, is_any, before_later, before_differs, after_differs, any_from_unmatched, matches_any, any_before}
+use Rattle.powerbox_match.proofs.Order.{number_above, text_above, item_total, is_before, is_any, before_later, before_differs, after_differs, any_from_unmatched, matches_any, any_before}
 
 from_not : (b : Bool) → not b ≡ true → b ≡ false
 from_not true h = absurd (cc)
@@ -141,6 +142,13 @@ none_from v ws i x within is up other before =
     let rest : any_item (λ w. value_matches v w) (items_data (drop (i + 1) ws)) ≡ false = none_after v (tag_data x) (items_data (drop (i + 1) ws)) (any_from_unmatched v (tag_data x) other) before (first_so _ _ left) in
     rw (here, other, rest) refl
 
+-- where the first item isn't matched, it is the later ones that matter
+pub unmet_first : (v : TagData) (ws : List TagValue) (i : ℕ) (x : TagValue) → i < length ws → x ≡ get_or ws i x → value_matches v (tag_data x) ≡ false
+    → any_item (λ w. value_matches v w) (items_data (drop i ws)) ≡ any_item (λ w. value_matches v w) (items_data (drop (i + 1) ws))
+unmet_first v ws i x within is other =
+    let here : drop i ws ≡ x ∷ drop (i + 1) ws = drop_more ws i x within ∙ ap (λ (y : TagValue). y ∷ drop (i + 1) ws) (sym is) in
+    rw (here, other) refl
+
 -- ---- the first item from a value on
 
 first_at : (b : Bool) (v : TagData) (w h : TagValue) (ws : List TagValue) → is_before (tag_data w) v ≡ b → (Some h ≡ slice_get (items_not_before v ws) 0 → is_before (tag_data h) v ≡ false)
@@ -182,3 +190,38 @@ begins_with_number-any_item n [] from up = refl
 begins_with_number-any_item n (w ∷ ws) from up =
     let first : is_before (tag_data w) (number n) ≡ false = first_not_before (number n) (w ∷ ws) w (rw from) in
     number_first_at n (tag_data w) (items_data ws) first (first_so _ _ up)
+
+-- ---- what is compared with several items
+
+-- an atom that doesn't match an item, which isn't to stand before it, is to stand before that
+atom_before : (v w : TagData) → lists v ≡ 0 → is_before w v ≡ false → value_matches v w ≡ false → is_before v w ≡ true
+atom_before any w a f e = absurd (cc)
+atom_before (number n) any a f e = absurd (cc)
+atom_before (number n) (number m) a f e = number_above n m e f
+atom_before (number n) (text t) a f e = refl
+atom_before (number n) (fields gs) a f e = refl
+atom_before (number n) (items ws) a f e = refl
+atom_before (text s) any a f e = absurd (cc)
+atom_before (text s) (number m) a f e = absurd (cc)
+atom_before (text s) (text t) a f e = text_above s t e f
+atom_before (text s) (fields gs) a f e = refl
+atom_before (text s) (items ws) a f e = refl
+atom_before (fields fs) w a f e = absurd (omega arith)
+atom_before (items vs) w a f e = absurd (omega arith)
+
+-- only a list goes on to a second item
+pub goes_on : (v : TagData) (ws : List TagValue) (i : ℕ) (x : TagValue) → i < length ws → x ≡ get_or ws i x → items_not_before v ws ≡ ws → (lists v ≡ 0 → i ≡ 0) → value_matches v (tag_data x) ≡ false → is_before v (tag_data x) ≡ false → 1 ≤ lists v
+goes_on v ws i x within is from start other after = at (lists v) refl
+  where
+    first : (us : List TagValue) → 0 < length us → x ≡ get_or us 0 x → Some x ≡ slice_get us 0
+    first [] h e = absurd (omega arith)
+    first (u ∷ us) h e = ap Some e
+
+    at : (n : ℕ) → lists v ≡ n → 1 ≤ n
+    at (suc n) e = omega arith
+    at zero e =
+        let here : i ≡ 0 = start e in
+        let top : Some x ≡ slice_get ws 0 = first ws (omega arith) (is ∙ ap (λ j. get_or ws j x) here) in
+        let met : is_before (tag_data x) v ≡ false = first_not_before v ws x (rw from top) in
+        let before : is_before v (tag_data x) ≡ true = atom_before v (tag_data x) e met other in
+        absurd (cc)

@@ -2,6 +2,7 @@ pub mod Value
 pub mod Descriptor
 pub mod Code
 pub mod Matching
+pub mod Comparisons
 pub mod Sorted
 pub mod Steps
 pub mod Choices

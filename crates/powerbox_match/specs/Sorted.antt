@@ -6,6 +6,7 @@ use Rattle.std.specs.declared.cmp.Ordering.TheVariants.{Equal}
 use Rattle.std.specs.Ordering.{nat_cmp, int_cmp, is_lt, ordering_then}
 use Rattle.powerbox_match.specs.Value.{TagData, any, number, text, fields, items, FieldsData, no_fields, field, ItemsData, no_items, item, is_ascending, is_tidy}
 use Rattle.powerbox_match.specs.Matching.{value_matches}
+use Rattle.powerbox_match.specs.Comparisons.{weight, lists}
 
 -- the place of a value's kind among items: anything, then numbers, then texts, then fields and lists
 abbrev pub item_rank : TagData → ℕ
@@ -57,8 +58,11 @@ abbrev pub MatchesAlike : TagData → TagData → Type 0
 MatchesAlike a b =
     (d : TagData) → (value_matches a d ≡ value_matches b d) × (value_matches d a ≡ value_matches d b)
 
--- a tidy value in which each list is in order, and which matches as another value does
+-- a tidy value in which each list is in order, which matches as another value does, and in which there are as many
+-- values and lists
 pub record IsSortedForm (form value : TagData) : Type 0 where
   pub alike : MatchesAlike form value
   pub tidy : is_tidy form ≡ true
   pub sorted : is_sorted form ≡ true
+  pub weight : weight form ≡ weight value
+  pub lists : lists form ≡ lists value

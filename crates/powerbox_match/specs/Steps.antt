@@ -1,12 +1,13 @@
 -- An aid for proofs: the steps in which lists are put in order and walked, and matches are searched.
-use Rattle.std.specs.Prelude.{◌≡◌, ℕ, ℤ, Bool, true, false, ⊤, List, [], ◌∷◌, Option, Some, None, if◌then◌else◌}
+use Rattle.std.specs.Prelude.{◌≡◌, ℕ, ◌+◌, ◌-◌, ◌*◌, ℤ, Bool, true, false, ⊤, List, [], ◌∷◌, Option, Some, None, if◌then◌else◌}
 use Rattle.std.specs.Ordering.{nat_cmp, int_eq, is_lt}
 use Rattle.std.specs.Cmp.Lexicographic.{slice_cmp}
 use Rattle.powerbox_match.specs.declared.value.Quality.{Quality}
 use Rattle.powerbox_match.specs.declared.value.Quality.TheVariants.{Acceptable, Preferred, Unacceptable}
 use Rattle.powerbox_match.specs.declared.value.TagValue.{TagValue}
-use Rattle.powerbox_match.specs.Value.{TagData, any, number, ItemsData, no_items, item, tag_data}
+use Rattle.powerbox_match.specs.Value.{TagData, any, number, FieldsData, ItemsData, no_items, item, tag_data}
 use Rattle.powerbox_match.specs.Matching.{pair_quality}
+use Rattle.powerbox_match.specs.Comparisons.{weight, lists, fields_weight, fields_lists, items_weight, items_lists}
 use Rattle.powerbox_match.specs.Sorted.{item_cmp, IsSortedForm}
 
 -- the fields without those in front whose names are below a name
@@ -65,3 +66,23 @@ stronger (Some one) (Some other) = Some (pair_quality one other)
 abbrev pub is_unacceptable : Option Quality → Bool
 is_unacceptable (Some Unacceptable) = true
 is_unacceptable quality = false
+
+-- how many comparisons two parts take at most, by how many values and lists there are in a query's and in an offer's
+abbrev pub most_by : ℕ → ℕ → ℕ → ℕ → ℕ
+most_by weight lists other_weight other_lists = 2 * weight * other_lists + other_weight * lists
+
+-- the same of fields
+abbrev pub most_for_fields : FieldsData → FieldsData → ℕ
+most_for_fields fs gs = most_by (fields_weight fs) (fields_lists fs) (fields_weight gs) (fields_lists gs)
+
+-- the same of items
+abbrev pub most_for_items : ItemsData → ItemsData → ℕ
+most_for_items vs ws = most_by (items_weight vs) (items_lists vs) (items_weight ws) (items_lists ws)
+
+-- the same of two values: a value that is no list takes one comparison more
+abbrev pub most_for_values : TagData → TagData → ℕ
+most_for_values v w = (1 - lists v) + most_by (weight v) (lists v) (weight w) (lists w)
+
+-- the same of a value and of items, none of which is to stand before it
+abbrev pub most_among_items : TagData → ItemsData → ℕ
+most_among_items v ws = (1 - lists v) + most_by (weight v) (lists v) (items_weight ws) (items_lists ws)

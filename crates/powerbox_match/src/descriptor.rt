@@ -2,6 +2,7 @@
 
 ghost use Rattle.std.specs.Prelude.{◌≡◌, ◌≤◌, IfOk, IsTrue, length};
 ghost use Rattle.powerbox_match.specs.Value.{nesting, is_tidy, is_within_limits, tag_data};
+ghost use Rattle.powerbox_match.specs.Comparisons.{weight, lists};
 ghost use Rattle.powerbox_match.specs.Sorted.{is_sorted, MatchesAlike};
 
 use crate::sorted::sorted_form;
@@ -72,6 +73,8 @@ impl Tag {
     pub(crate) fn sorted(&self) -> &TagValue
         ensures alike { MatchesAlike (tag_data result.now) self.now.1 }
         ensures sorted { IsTrue (is_sorted (tag_data result.now)) }
+        ensures weight { weight (tag_data result.now) ≡ weight self.now.1 }
+        ensures lists { lists (tag_data result.now) ≡ lists self.now.1 }
     {
         &self.sorted
     }

@@ -18,6 +18,6 @@ pub use choices::{Choice, Choices};
 pub use descriptor::{Descriptor, Query, Tag};
 pub use fault::ShapeFault;
 pub use limits::{DESCRIPTOR_TAG_LIMIT, ENTRY_LIMIT, VALUE_DEPTH_LIMIT};
-pub use matching::matches;
+pub use matching::{count_matches, matches};
 pub use shape::{descriptor_from, query_from};
 pub use value::{Quality, TagValue};

@@ -16,9 +16,10 @@ ghost use Rattle.region_work.specs.Working.{IsIndexOf};
 
 use host_base::{GrainId, GrantId, Memory};
 use least_access::table::Table;
+use plain_data::Steps;
 use region_work::edges::Edges;
 use region_work::emptying::empty_at;
-use region_work::{Counted, Steps, Waiting, solve_region};
+use region_work::{Counted, Waiting, solve_region};
 use share_graph::{Node, Tables, node_of};
 use std::alloc::Global;
 use std::sync::ledger::{Blank, Ledger};

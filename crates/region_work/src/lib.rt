@@ -14,7 +14,6 @@ mod probe;
 mod solving;
 mod starting;
 mod stepping;
-mod steps;
 mod trying;
 mod waiting;
 
@@ -23,5 +22,4 @@ pub use counted::Counted;
 pub use gain::Gain;
 pub use probe::Probe;
 pub use solving::{grow_region, solve_region};
-pub use steps::Steps;
 pub use waiting::Waiting;
