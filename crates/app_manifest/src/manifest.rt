@@ -8,12 +8,24 @@ use powerbox_match::Descriptor;
 use std::alloc::AllocError;
 
 /// A permission of an application. Its position in the list is what sets speak of.
-#[derive(Debug, Drop)]
+#[derive(Debug)]
 pub struct PermissionDef {
     pub name: Name,
     pub title: Name,
     pub description: Name,
     pub obsolete: bool,
+}
+
+// Written by hand: a proof then has one call wherever one is let go.
+impl Drop for PermissionDef {
+    fn drop(self) {
+        let PermissionDef {
+            name: _,
+            title: _,
+            description: _,
+            obsolete: _,
+        } = self;
+    }
 }
 
 impl Clone for PermissionDef {
@@ -39,13 +51,24 @@ pub type Roles = List<Role>;
 pub type Descriptors = List<Descriptor>;
 
 /// What an application says of itself.
-#[derive(Drop)]
 pub struct Manifest {
     pub title: Name,
     pub version: u32,
     pub permissions: Permissions,
     pub roles: Roles,
     pub match_requests: Descriptors,
+}
+
+impl Drop for Manifest {
+    fn drop(self) {
+        let Manifest {
+            title: _,
+            version: _,
+            permissions: _,
+            roles: _,
+            match_requests: _,
+        } = self;
+    }
 }
 
 impl Clone for Manifest {

@@ -5,7 +5,7 @@ ghost use Rattle.desk_base.specs.Outcomes.{with_digest, Completes, HasClash};
 
 use crate::stop::Stop;
 use host_base::Digest;
-use share_graph::{Account, Event, Grant, Made, Refusal, Run, Saved, Session, State, clash};
+use share_graph::{Event, Made, Refusal, Run, Session, State, clash};
 
 /// A change that waits for the digest of a secret, and what the reply shows. The digest in its event is blank.
 #[derive(Drop)]
@@ -29,15 +29,18 @@ fn with_digest(event: Event, digest: Digest) -> Event
     ensures { result ≡ with_digest event digest }
 {
     match event {
-        Event::AccountAdded(account) => Event::AccountAdded(Account {
-            login: digest,
-            ..account
-        }),
-        Event::GrantAdded(grant) => Event::GrantAdded(Grant {
-            digest: Some(digest),
-            ..grant
-        }),
-        Event::SavedAdded(saved) => Event::SavedAdded(Saved { digest, ..saved }),
+        Event::AccountAdded(mut account) => {
+            account.login = digest;
+            Event::AccountAdded(account)
+        }
+        Event::GrantAdded(mut grant) => {
+            grant.digest = Some(digest);
+            Event::GrantAdded(grant)
+        }
+        Event::SavedAdded(mut saved) => {
+            saved.digest = digest;
+            Event::SavedAdded(saved)
+        }
         Event::RunStarted(run) => Event::RunStarted(Run { digest, ..run }),
         Event::SessionOpened(session) => Event::SessionOpened(Session { digest, ..session }),
         other => other,

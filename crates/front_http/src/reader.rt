@@ -19,13 +19,25 @@ use std::mem;
 pub const PIECE: usize = 4096;
 
 /// Reads the requests of a stream, one at a time, from pieces of any size.
-#[derive(Drop)]
 pub struct RequestReader {
     held: Held,
     pending: Pending,
     at: u64,
     closed: bool,
     stopped: Option<FrontFault>,
+}
+
+// Written by hand: a proof then has one call wherever one is let go.
+impl Drop for RequestReader {
+    fn drop(self) {
+        let RequestReader {
+            held: _,
+            pending: _,
+            at: _,
+            closed: _,
+            stopped: _,
+        } = self;
+    }
 }
 
 impl Model for RequestReader {

@@ -16,11 +16,21 @@ use std::marker::Model;
 /// The value nests at most 16 deep, each list in it has at most 1,000 entries, and the names of
 /// fields ascend by their bytes, so that none stands twice. A form of it in which the items of
 /// each list stand in order is kept beside it, for matching.
-#[derive(Drop)]
 pub struct Tag {
     id: u64,
     value: TagValue,
     sorted: TagValue,
+}
+
+// Written by hand: a proof then has one call wherever one is let go.
+impl Drop for Tag {
+    fn drop(self) {
+        let Tag {
+            id: _,
+            value: _,
+            sorted: _,
+        } = self;
+    }
 }
 
 impl Model for Tag {
@@ -95,10 +105,18 @@ impl Clone for Tag {
 }
 
 /// What an object is, or what is asked for: at most 32 tags, and a quality.
-#[derive(Drop)]
 pub struct Descriptor {
     tags: Vec<Tag>,
     quality: Quality,
+}
+
+impl Drop for Descriptor {
+    fn drop(self) {
+        let Descriptor {
+            tags: _,
+            quality: _,
+        } = self;
+    }
 }
 
 impl Model for Descriptor {

@@ -18,11 +18,21 @@ pub enum Slot {
 
 /// For the first rows of a list, where the ones with a clue are. It takes memory where it can get some, and covers the fewer
 /// rows the less it gets; what it doesn't cover is looked through.
-#[derive(Drop)]
 pub struct Index {
     slots: HashMap<u64, Slot>,
     marks: Marks,
     covered: usize,
+}
+
+// Written by hand: a proof then has one call wherever one is let go.
+impl Drop for Index {
+    fn drop(self) {
+        let Index {
+            slots: _,
+            marks: _,
+            covered: _,
+        } = self;
+    }
 }
 
 // Whether a row has a clue.

@@ -6,11 +6,21 @@ use std::alloc::{AllocError, Global};
 use std::collections::HashMap;
 
 /// For each mark, the places of the rows that have it, in ascending order, and how many places there are.
-#[derive(Drop)]
 pub struct Marks {
     alloc: Global,
     places: HashMap<u64, Vec<usize>>,
     count: usize,
+}
+
+// Written by hand: a proof then has one call wherever one is let go.
+impl Drop for Marks {
+    fn drop(self) {
+        let Marks {
+            alloc: _,
+            places: _,
+            count: _,
+        } = self;
+    }
 }
 
 // Removes a place from others, and tells how many fewer there are.

@@ -36,7 +36,6 @@ pub enum Need {
 pub type Needs = List<Need>;
 
 /// A grant on a grain: what its giver passes on, to whom, and under which needs. A token is known by its digest.
-#[derive(Drop)]
 pub struct Grant {
     pub num: GrantId,
     pub grain: GrainId,
@@ -46,6 +45,22 @@ pub struct Grant {
     pub needs: Needs,
     pub digest: Option<Digest>,
     pub revoked: bool,
+}
+
+// Written by hand, as those of the other rows are.
+impl Drop for Grant {
+    fn drop(self) {
+        let Grant {
+            num: _,
+            grain: _,
+            giver: _,
+            target: _,
+            assignment: _,
+            needs: _,
+            digest: _,
+            revoked: _,
+        } = self;
+    }
 }
 
 impl Clone for Grant {

@@ -1,4 +1,4 @@
-ghost use Rattle.std.specs.Prelude.{◌≡◌, ◌∷◌, ◌++◌, [], length, List, IfOk};
+ghost use Rattle.std.specs.Prelude.{◌≡◌, ◌∷◌, ◌++◌, [], List, IfOk};
 ghost use Rattle.share_graph.specs.declared.event.Event.{Event};
 ghost use Rattle.share_graph.specs.declared.state.State.{State};
 ghost use Rattle.share_graph.specs.History as history;
@@ -9,50 +9,7 @@ ghost use Rattle.state_step.specs.Losing.{RevokesExactly, ShutsOut, LeavesTheRes
 
 use crate::staged::Staged;
 use host_base::Memory;
-use share_graph::{Event, Room, Rows, Session, State};
-
-/// How many open sessions a root may have.
-pub const ROOT_SESSIONS: usize = 32;
-
-// Opens a session. Where its root then has more than 32 open ones, the first of them is closed.
-fn open(sessions: &mut Rows<Session>, session: Session, room: Room<Session>)
-    requires { room ≡ length sessions.old }
-    ensures { sessions.new ≡ history.opened sessions.old session }
-{
-    let root = session.root;
-    sessions.put(session, room);
-    if sessions.open_of(root) > ROOT_SESSIONS {
-        sessions.close_first(root);
-    }
-}
-
-// The step of an event for which all room was taken.
-fn step(state: &mut State, staged: Staged)
-    requires { HasRoomFor state.old staged }
-    ensures { state.new ≡ history.after state.old (event_of staged) }
-{
-    match staged {
-        Staged::AccountAdded(row, room) => state.tables.accounts.put(row, room),
-        Staged::AppAdded(row, room) => state.tables.apps.put(row, room),
-        Staged::GrainAdded(row, room) => state.tables.grains.put(row, room),
-        Staged::GrantAdded(row, room) => state.tables.grants.put(row, room),
-        Staged::SavedAdded(row, room) => state.tables.saved.put(row, room),
-        Staged::AdminSet(num, on) => state.tables.accounts.set_admin(num, on),
-        Staged::EnabledSet(num, on) => state.tables.accounts.set_enabled(num, on),
-        Staged::TrashedSet(num, on) => state.tables.grains.set_trashed(num, on),
-        Staged::GrantRevoked(num) => state.tables.grants.revoke(num),
-        Staged::Claimed(row, room, handle, more) => {
-            state.tables.grants.put(row, room);
-            state.handles.put(handle, more);
-        }
-        Staged::SavedDropped(num) => state.tables.saved.drop_reference(num),
-        Staged::RunStarted(run, room) => state.runs.put(run, room),
-        Staged::RunStopped(num) => state.runs.stop(num),
-        Staged::SessionOpened(session, room) => open(&mut state.sessions, session, room),
-        Staged::SessionClosed(num) => state.sessions.close(num),
-        Staged::HandleMade(handle, room) => state.handles.put(handle, room),
-    }
-}
+use share_graph::{Event, State};
 
 /// A copy of an event.
 pub fn copy_of_event(event: &Event) -> Result<Event, Memory>
@@ -79,5 +36,5 @@ pub fn apply(state: &mut State, staged: Staged)
     ensures left { LeavesTheRest state.old.tables (event_of staged) state.new.tables }
     ensures formed { IsWellFormed state.old → IsDue state.old (event_of staged) → IsWellFormed state.new }
 {
-    step(state, staged);
+    staged.step(state);
 }

@@ -5,6 +5,6 @@ mod applying;
 mod preparing;
 mod staged;
 
-pub use applying::{ROOT_SESSIONS, apply, copy_of_event};
+pub use applying::{apply, copy_of_event};
 pub use preparing::prepare;
-pub use staged::Staged;
+pub use staged::{ROOT_SESSIONS, Staged};
