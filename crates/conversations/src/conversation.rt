@@ -11,11 +11,21 @@ pub struct Piece {
 }
 
 /// What a client sends on one connection, and what must come back.
-#[derive(Drop)]
 pub struct Stream {
     pub line: usize,
     pub sent: Vec<u8>,
     pub answered: Vec<Piece>,
+}
+
+// Written by hand: a proof then has one call wherever one is let go.
+impl Drop for Stream {
+    fn drop(self) {
+        let Stream {
+            line: _,
+            sent: _,
+            answered: _,
+        } = self;
+    }
 }
 
 impl Stream {
@@ -30,7 +40,6 @@ impl Stream {
 }
 
 /// One run of the program.
-#[derive(Drop)]
 pub struct Round {
     /// Its words; none of them are `play`'s.
     pub words: Vec<String>,
@@ -40,6 +49,17 @@ pub struct Round {
     pub streams: Vec<Stream>,
     /// The status, and the line that says so.
     pub status: (usize, u8),
+}
+
+impl Drop for Round {
+    fn drop(self) {
+        let Round {
+            words: _,
+            own: _,
+            streams: _,
+            status: _,
+        } = self;
+    }
 }
 
 impl Round {
@@ -63,7 +83,6 @@ impl Round {
 }
 
 /// The calls that fail, from 1, of each of the objects around the server.
-#[derive(Drop)]
 pub struct Failing {
     pub source: Vec<u64>,
     pub sink: Vec<u64>,
@@ -71,6 +90,19 @@ pub struct Failing {
     pub draw: Vec<u64>,
     pub spawner: Vec<u64>,
     pub store: Vec<u64>,
+}
+
+impl Drop for Failing {
+    fn drop(self) {
+        let Failing {
+            source: _,
+            sink: _,
+            link: _,
+            draw: _,
+            spawner: _,
+            store: _,
+        } = self;
+    }
 }
 
 impl Failing {
@@ -88,7 +120,6 @@ impl Failing {
 }
 
 /// What keeps the rows, and which rows it has at first and must have at the end.
-#[derive(Drop)]
 pub struct Kept {
     /// Whether it has no rows at first, and not those of the small book.
     pub empty: bool,
@@ -100,8 +131,18 @@ pub struct Kept {
     pub last: Vec<(usize, Row)>,
 }
 
+impl Drop for Kept {
+    fn drop(self) {
+        let Kept {
+            empty: _,
+            first: _,
+            count: _,
+            last: _,
+        } = self;
+    }
+}
+
 /// A conversation: runs of the program, and what the objects around it do.
-#[derive(Drop)]
 pub struct Conversation {
     pub title: String,
     pub line: usize,
@@ -126,4 +167,24 @@ pub struct Conversation {
     pub cuts: bool,
     /// The method and the target of the last request in the short form.
     pub last: (String, String),
+}
+
+impl Drop for Conversation {
+    fn drop(self) {
+        let Conversation {
+            title: _,
+            line: _,
+            rounds: _,
+            failing: _,
+            kept: _,
+            grains: _,
+            asked: _,
+            told: _,
+            gives: _,
+            secrets: _,
+            repeats: _,
+            cuts: _,
+            last: _,
+        } = self;
+    }
 }
