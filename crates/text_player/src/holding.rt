@@ -8,6 +8,11 @@ use test_words::{Fault, bytes_of, size};
 // The most calls of a reader in a row.
 const MOST: usize = 100;
 
+// Reads the next request: whether there is one.
+fn reads_one(alloc: Global, reader: &mut RequestReader, input: &mut MemSource) -> bool {
+    matches!(reader.next(alloc, input), Ok(Some(_)))
+}
+
 /// How many bytes a reader holds behind each of its calls, over a text that comes so many bytes at a time, up to the one
 /// that gives no request.
 pub fn held_by(alloc: Global, rest: &str) -> Result<String, Fault> {
@@ -16,13 +21,12 @@ pub fn held_by(alloc: Global, rest: &str) -> Result<String, Fault> {
     let mut reader = RequestReader::new(alloc);
     let mut told = String::new(alloc);
     for _ in 0..MOST {
-        let found = reader.next(alloc, &mut input);
+        let is_read = reads_one(alloc, &mut reader, &mut input);
         let gap = if told.is_empty() { "" } else { " " };
         let held = reader.held();
         told = format!(in alloc; "{told}{gap}{held}")?;
-        match found {
-            Ok(Some(_)) => {}
-            Ok(None) | Err(_) => break,
+        if !is_read {
+            break;
         }
     }
     Ok(told)

@@ -66,16 +66,26 @@ impl Book {
         Ok(Book { state })
     }
 
-    // Performs an event that fits: whether the state is well formed then.
+    // Performs an event that fits: whether the state is well formed then. It is none where the event doesn't fit.
+    fn perform(&mut self, event: &Event) -> Result<Option<bool>, Fault> {
+        if !fits(&self.state, event)? {
+            return Ok(None);
+        }
+        perform(&mut self.state, event)?;
+        Ok(Some(is_well_formed(&self.state)))
+    }
+
+    // What an event comes to.
     fn happen(&mut self, alloc: Global, row: &str) -> Result<String, Fault> {
         let (word, num) = row.split_once(' ').ok_or(Fault::Unreadable)?;
-        let event = event_of(word, small(num)?)?;
-        if !fits(&self.state, &event)? {
-            return Ok(String::from_str(alloc, "it doesn't fit")?);
+        let formed = match event_of(word, small(num)?) {
+            Ok(event) => self.perform(&event),
+            Err(fault) => Err(fault),
+        };
+        match formed? {
+            Some(formed) => Ok(format!(in alloc; "well formed {formed}")?),
+            None => Ok(String::from_str(alloc, "it doesn't fit")?),
         }
-        perform(&mut self.state, &event)?;
-        let formed = is_well_formed(&self.state);
-        Ok(format!(in alloc; "well formed {formed}")?)
     }
 
     // The positions of the permissions that an account holds on a grain, as the number that their bits are, or `none`
