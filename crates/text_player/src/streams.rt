@@ -141,29 +141,51 @@ fn written_alone<R: Wait>(rt: &R, alloc: Global, request: &str) -> Result<Vec<u8
     written_at(alloc, &door)
 }
 
+// What came of a worker: how many requests it answered, and whether what was written is what is written to the connection alone.
+fn compared<'a, R: Wait>(
+    rt: &R,
+    alloc: Global,
+    worker: Worker<'a, MemDoor<HeldLink>, R>,
+    request: &str,
+) -> Result<(u64, bool), Fault> {
+    let (door, stopped) = worker.into_parts();
+    let answered = if stopped.stop == Stop::All {
+        stopped.answered
+    } else {
+        0
+    };
+    let came = written_at(alloc, &door)?;
+    let wanted = written_alone(rt, alloc, request)?;
+    Ok((answered, !wanted.is_empty() && came == wanted))
+}
+
+// The two workers once they have served, each a connection of its own, over a link that holds its first call.
+fn served<'a, R: Threads + Wait + Sync>(
+    rt: &'a R,
+    alloc: Global,
+    stage: Arc<AtomicU64, Global>,
+) -> Result<Vec<Worker<'a, MemDoor<HeldLink>, R>>, Fault> {
+    let link = HeldLink {
+        link: EchoLink::new(alloc, Fails::empty(alloc)),
+        stage,
+    };
+    let workers = workers_of(rt, alloc, &link)?;
+    let book = book_of(alloc, None)?;
+    let (_, workers) = on_passes(rt, alloc, book, NonZeroUsize::MIN, workers)?;
+    Ok(workers)
+}
+
 /// Serves two connections on two threads, over a link that holds its first call until the second one is answered: how many requests
 /// were answered, whether the first call was held so long, and whether what was written is what is written to each alone.
 pub fn serve_two<R: Threads + Wait + Sync>(rt: &R, alloc: Global) -> Result<String, Fault> {
-    let book = book_of(alloc, None)?;
     let stage = Arc::new(alloc, AtomicU64::new(NONE))?;
-    let link = HeldLink {
-        link: EchoLink::new(alloc, Fails::empty(alloc)),
-        stage: Arc::try_clone(&stage)?,
-    };
-    let workers = workers_of(rt, alloc, &link)?;
-    let (_, workers) = on_passes(rt, alloc, book, NonZeroUsize::MIN, workers)?;
+    let workers = served(rt, alloc, Arc::try_clone(&stage)?)?;
     let mut answered: u64 = 0;
     let mut same = true;
     for (worker, request) in workers.into_iter().zip(REQUESTS) {
-        let (door, stopped) = worker.into_parts();
-        if stopped.stop == Stop::All {
-            answered = answered.saturating_add(stopped.answered);
-        }
-        let (came, wanted) = (
-            written_at(alloc, &door)?,
-            written_alone(rt, alloc, request)?,
-        );
-        same = same && !wanted.is_empty() && came == wanted;
+        let (count, as_alone) = compared(rt, alloc, worker, request)?;
+        answered = answered.saturating_add(count);
+        same = same && as_alone;
     }
     let held = if stage.load(Ordering::SeqCst) == HELD {
         "the first was held"
