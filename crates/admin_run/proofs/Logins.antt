@@ -51,6 +51,7 @@ stay_after s (event.RunStopped r) = still s (after s (event.RunStopped r)) refl
 stay_after s (event.SessionOpened session) = still s (after s (event.SessionOpened session)) refl
 stay_after s (event.SessionClosed n) = still s (after s (event.SessionClosed n)) refl
 stay_after s (event.HandleMade handle) = still s (after s (event.HandleMade handle)) refl
+stay_after s (event.Ticked m) = still s (after s (event.Ticked m)) refl
 
 append_assoc : (xs ys zs : List Digest) → (xs ++ ys) ++ zs ≡ xs ++ (ys ++ zs)
 append_assoc [] ys zs = refl

@@ -1,4 +1,5 @@
 //! The commands that the bodies of the desk's routes state.
+ghost use Rattle.std.specs.Prelude.{None};
 ghost use Rattle.desk_bodies.specs.Answers.{Answers};
 ghost use Rattle.desk_bodies.specs.Bodies.{account_body, child_body, grain_body, manifest_body, mark_body, plain_body, redeem_body, share_body, tab_body, token_body};
 ghost use Rattle.desk_orders.specs.Commands.{IsStated};
@@ -94,7 +95,8 @@ pub fn new_share(
     body: &[u8],
 ) -> Result<Showing, BodyFault>
     ensures { Answers (stating
-        (λ fields. wants (caller.Login who) (command.Share grain fields.to fields.assignment fields.needs))
+        (λ fields.
+        wants (caller.Login who) (command.Share grain fields.to fields.assignment fields.needs None))
         (share_body body.now)) result }
 {
     let ShareFields {
@@ -109,6 +111,7 @@ pub fn new_share(
             to,
             assignment,
             needs,
+            expires: None,
         },
     )))
 }
@@ -123,7 +126,7 @@ pub fn new_token(
 ) -> Result<Showing, BodyFault>
     ensures { Answers (stating
         (λ fields.
-        wants (caller.Login who) (command.MakeToken grain for_sharing fields.assignment fields.needs))
+        wants (caller.Login who) (command.MakeToken grain for_sharing fields.assignment fields.needs None))
         (token_body body.now)) result }
 {
     let TokenFields { assignment, needs } = token_fields(alloc, body)?;
@@ -134,6 +137,7 @@ pub fn new_token(
             for_sharing,
             assignment,
             needs,
+            expires: None,
         },
     )))
 }
@@ -142,7 +146,7 @@ pub fn new_token(
 pub fn new_child(alloc: Global, who: Digest, body: &[u8]) -> Result<Showing, BodyFault>
     ensures { Answers (stating
         (λ fields.
-        wants (caller.Bearer who) (command.Child fields.for_sharing fields.assignment fields.needs))
+        wants (caller.Bearer who) (command.Child fields.for_sharing fields.assignment fields.needs None))
         (child_body body.now)) result }
 {
     let ChildFields {
@@ -156,6 +160,7 @@ pub fn new_child(alloc: Global, who: Digest, body: &[u8]) -> Result<Showing, Bod
             for_sharing,
             assignment,
             needs,
+            expires: None,
         },
     )))
 }

@@ -7,10 +7,11 @@ use Rattle.share_graph.specs.declared.refusal.Refusal.TheVariants.{TooMany}
 use Rattle.state_step.specs.NewRows.{handles_of}
 use Rattle.desk_base.specs.Steps.{Change, Plain, Drawn, Step, Refuses, Keeps, Makes}
 
--- the most rows of a kind; handles are those of one run, and open sessions are meant. Of runs there may be any number.
+-- the most entries of commands: the other 65,536 of a million are for ticks, which are never refused
 abbrev pub most_entries : ℕ
-most_entries = 1000000
+most_entries = 934464
 
+-- the most rows of a kind; handles are those of one run, and open sessions are meant. Of runs there may be any number.
 abbrev pub most_of : Kind → Option ℕ
 most_of kind.Account = Some 4096
 most_of kind.App = Some 256
@@ -56,6 +57,7 @@ limit_of s (event.SavedDropped v) = None
 limit_of s (event.RunStarted run) = None
 limit_of s (event.RunStopped r) = None
 limit_of s (event.SessionClosed n) = None
+limit_of s (event.Ticked m) = None
 
 abbrev pub no_digest : Digest
 no_digest = record { 0 = replicate 32 0 }

@@ -1,13 +1,14 @@
 -- The words of the table of commands.
-use Rattle.std.specs.Prelude.{◌≡◌, ◌⊎◌, List, true}
+use Rattle.std.specs.Prelude.{◌≡◌, ◌⊎◌, ℕ, List, Option, true}
 use Rattle.desk_base.specs.Terms.{Account, AccountId, App, AppId, Assignment, Caller, Digest, entry, found◌or◌then◌}
 use Rattle.desk_base.specs.Terms.{Grain, GrainId, Grant, GrantId, IsGrain, IsGrant, IsNoneOf, Made, must◌or◌then◌}
 use Rattle.desk_base.specs.Terms.{Need, Node, none, State, unless◌then◌else◌}
 use Rattle.share_graph.specs.declared.desk.Caller.TheVariants as caller
 use Rattle.share_graph.specs.declared.fault.Kind.TheVariants as kind
-use Rattle.share_graph.specs.declared.refusal.Refusal.TheVariants.{NotAdmin, Unknown}
+use Rattle.share_graph.specs.declared.refusal.Refusal.TheVariants.{NotAdmin, PastMoment, Unknown}
 use Rattle.share_graph.specs.Callers as callers
 use Rattle.share_graph.specs.Callers.{by_login}
+use Rattle.share_graph.specs.Expiry.{Lasts}
 use Rattle.share_graph.specs.Keys.{IsFirstOf}
 use Rattle.share_graph.specs.Rows.{IsAccount, IsApp}
 use Rattle.desk_base.specs.Needs.{AreGood, HasBadNeed}
@@ -64,6 +65,11 @@ abbrev pub needs◌of◌then◌ : List Need → State → (Step → Type 0) → 
 needs◌of◌then◌ wanted s Rest = must (AreGood s.tables wanted) or refusing (HasBadNeed s.tables wanted) then Rest
 
 infixr 10 needs◌of◌then◌
+-- lasts: PastMoment of the last moment, where the expiry isn't above it
+abbrev pub lasts◌of◌then◌ : Option ℕ → State → (Step → Type 0) → Step → Type 0
+lasts◌of◌then◌ expires s Rest = unless Lasts s.tables.moment expires then (Refuses (PastMoment s.tables.moment)) else Rest
+
+infixr 10 lasts◌of◌then◌
 -- same where some row of the list is so, and the reply shows the first one; else the rest
 abbrev pub keeps◌of◌showing◌else◌ : {X : Type 0} → (X → Type 0) → List X → (X → Made) → (Step → Type 0) → Step → Type 0
 keeps◌of◌showing◌else◌ {X} P rows shown Rest step = ((x : X) × (step ≡ Keeps (shown x)) × IsFirstOf rows P x) ⊎ (IsNoneOf rows P × Rest step)

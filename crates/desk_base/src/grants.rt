@@ -22,7 +22,7 @@ pub fn all_access() -> Assignment
     }
 }
 
-/// A new grant, which isn't revoked.
+/// A new grant, which isn't revoked, and ends at the expiry, if it has one, in seconds.
 pub fn new_grant(
     state: &State,
     grain: GrainId,
@@ -30,10 +30,12 @@ pub fn new_grant(
     target: Target,
     assignment: Assignment,
     needs: Needs,
+    expires: Option<u64>,
     digest: Option<Digest>,
 ) -> Grant
     requires { IsWellFormed state.now }
-    ensures { result ≡ granting.new_grant state.now.tables grain giver target assignment needs digest }
+    ensures { result ≡ granting.new_grant state.now.tables grain giver target assignment needs
+        expires digest }
 {
     Grant {
         num: GrantId(state.tables.grants.as_slice().len() as u32 + 1),
@@ -44,6 +46,7 @@ pub fn new_grant(
         needs,
         digest,
         revoked: false,
+        expires,
     }
 }
 
@@ -55,11 +58,15 @@ pub fn add_grant(
     target: Target,
     assignment: Assignment,
     needs: Needs,
+    expires: Option<u64>,
 ) -> Outcome
     requires { IsWellFormed state.now }
-    ensures { step_of result ≡ granting.grant_step state.now.tables grain giver target assignment needs }
+    ensures { step_of result ≡ granting.grant_step state.now.tables grain giver target assignment
+        needs expires }
 {
-    let grant = new_grant(state, grain, giver, target, assignment, needs, None);
+    let grant = new_grant(
+        state, grain, giver, target, assignment, needs, expires, None,
+    );
     let made = shown_grant(grant.num.0);
     Outcome::Change(Event::GrantAdded(grant), made)
 }
@@ -72,11 +79,22 @@ pub fn draft_grant(
     target: Target,
     assignment: Assignment,
     needs: Needs,
+    expires: Option<u64>,
 ) -> Outcome
     requires { IsWellFormed state.now }
-    ensures { step_of result ≡ granting.token_step state.now.tables grain giver target assignment needs }
+    ensures { step_of result ≡ granting.token_step state.now.tables grain giver target assignment
+        needs expires }
 {
-    let grant = new_grant(state, grain, giver, target, assignment, needs, Some(BLANK));
+    let grant = new_grant(
+        state,
+        grain,
+        giver,
+        target,
+        assignment,
+        needs,
+        expires,
+        Some(BLANK),
+    );
     let made = shown_grant(grant.num.0);
     Outcome::Draft(Draft {
         event: Event::GrantAdded(grant),

@@ -2,6 +2,7 @@
 #![tactic(auto)]
 
 mod callers;
+mod expiry;
 mod grants;
 mod known;
 mod limits;
@@ -12,6 +13,7 @@ mod roles;
 mod stop;
 
 pub use callers::{caller_account, caller_admin, caller_grant, caller_on, has_entry, secret_of};
+pub use expiry::good_expiry;
 pub use grants::{add_grant, all_access, draft_grant, new_grant};
 pub use known::{known_account, known_app, known_grain, known_grant};
 pub use limits::{has_grant_room, has_room, most_of};

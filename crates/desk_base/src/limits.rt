@@ -7,7 +7,7 @@ ghost use Rattle.desk_base.specs.Limits.{most_of, too_many};
 use share_graph::{Kind, Refusal, Tables};
 
 /// The most rows of a kind that there may be; handles are those of one run, and open sessions are meant. Of runs there may be
-/// any number.
+/// any number. Entries are those of commands: the other 65,536 of a million are for ticks, which are never refused.
 pub fn most_of(kind: Kind) -> Option<u32>
     ensures { result ≡ most_of kind }
 {
@@ -20,7 +20,7 @@ pub fn most_of(kind: Kind) -> Option<u32>
         Kind::Session => Some(4_096),
         Kind::Handle => Some(4_096),
         Kind::Run => None,
-        Kind::Entry => Some(1_000_000),
+        Kind::Entry => Some(934_464),
     }
 }
 

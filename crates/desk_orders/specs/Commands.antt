@@ -14,8 +14,8 @@ abbrev pub secret_use : Command → Option SecretUse
 secret_use (command.OpenSession n tab) = Some secret_uses.Session
 secret_use (command.StartRun n) = Some secret_uses.Run
 secret_use (command.AddAccount handle name) = Some secret_uses.Token
-secret_use (command.MakeToken n for_sharing assignment needs) = Some secret_uses.Token
-secret_use (command.Child for_sharing assignment needs) = Some secret_uses.Token
+secret_use (command.MakeToken n for_sharing assignment needs expires) = Some secret_uses.Token
+secret_use (command.Child for_sharing assignment needs expires) = Some secret_uses.Token
 secret_use (command.Choose n offer query assignment) = Some secret_uses.Token
 secret_use (command.Save handle label) = Some secret_uses.Token
 secret_use _ = None
@@ -34,7 +34,7 @@ lists _ = false
 abbrev pub IsStated : Caller → Command → Type 0
 IsStated who (command.AddAccount handle name) = ByLogin who × (is_handle handle ≡ true)
 IsStated who (command.AddApp manifest) = ByLogin who × IsSoundManifest manifest
-IsStated who (command.Child for_sharing assignment needs) = ByBearer who
+IsStated who (command.Child for_sharing assignment needs expires) = ByBearer who
 IsStated who (command.StartRun n) = NamesGrain who n
 IsStated who (command.OpenSession n tab) = NamesGrain who n
 IsStated who (command.CloseSession n) = ByEither who

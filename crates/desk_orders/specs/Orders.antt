@@ -13,10 +13,10 @@ RowBy s found who (command.AddApp manifest) = AddApp s who manifest
 RowBy s found who (command.NewGrain app title) = NewGrain s who app title
 RowBy s found who (command.Trash n) = Trash s who n true
 RowBy s found who (command.Untrash n) = Trash s who n false
-RowBy s found who (command.Share n to assignment needs) = Share s who n to assignment needs
-RowBy s found who (command.MakeToken n for_sharing assignment needs) =
-    MakeToken s who n for_sharing assignment needs
-RowBy s found who (command.Child for_sharing assignment needs) = Child s who for_sharing assignment needs
+RowBy s found who (command.Share n to assignment needs expires) = Share s who n to assignment needs expires
+RowBy s found who (command.MakeToken n for_sharing assignment needs expires) =
+    MakeToken s who n for_sharing assignment needs expires
+RowBy s found who (command.Child for_sharing assignment needs expires) = Child s who for_sharing assignment needs expires
 RowBy s found who (command.Redeem token) = Redeem s who token
 RowBy s found who (command.Revoke g) = Revoke s who g
 RowBy s found who (command.StartRun n) = StartRun s who n

@@ -52,14 +52,16 @@ fn carry_drawing(
         Command::MakeToken {
             grain,
             for_sharing: link,
-            assignment,
+            assignment: by,
             needs,
-        } => make_token(state, solved, caller, *grain, *link, assignment, needs),
+            expires,
+        } => make_token(state, solved, caller, *grain, *link, by, needs, *expires),
         Command::Child {
             for_sharing,
-            assignment,
+            assignment: by,
             needs,
-        } => child(state, solved, caller, *for_sharing, assignment, needs),
+            expires,
+        } => child(state, solved, caller, *for_sharing, by, needs, *expires),
         Command::StartRun(grain) => start_run(state, solved, caller, *grain),
         Command::OpenSession { grain, tab } => open_session(state, solved, caller, *grain, *tab),
         Command::Choose {
@@ -100,9 +102,10 @@ fn carry(
         Command::Share {
             grain,
             to,
-            assignment,
+            assignment: by,
             needs,
-        } => share(state, solved, caller, *grain, *to, assignment, needs),
+            expires,
+        } => share(state, solved, caller, *grain, *to, by, needs, *expires),
         Command::Redeem(token) => redeem(alloc, state, solved, caller, token),
         Command::Revoke(grant) => revoke(state, caller, *grant),
         Command::StopRun(grain) => stop_run(state, caller, *grain),

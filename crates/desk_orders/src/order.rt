@@ -28,25 +28,28 @@ pub enum Command {
     Trash(GrainId),
     /// A grain comes out of the trash.
     Untrash(GrainId),
-    /// A grain is shared with an account.
+    /// A grain is shared with an account, until the expiry, if there is one, in seconds.
     Share {
         grain: GrainId,
         to: AccountId,
         assignment: Assignment,
         needs: Needs,
+        expires: Option<u64>,
     },
-    /// A token to a grain: a link where it is for sharing, else an API token.
+    /// A token to a grain, until the expiry in the same way: a link where it is for sharing, else an API token.
     MakeToken {
         grain: GrainId,
         for_sharing: bool,
         assignment: Assignment,
         needs: Needs,
+        expires: Option<u64>,
     },
-    /// A further token from the grant whose token the caller bears.
+    /// A further token from the grant whose token the caller bears, until the expiry in the same way.
     Child {
         for_sharing: bool,
         assignment: Assignment,
         needs: Needs,
+        expires: Option<u64>,
     },
     /// The link whose token has this digest is redeemed.
     Redeem(Digest),

@@ -15,7 +15,7 @@ first_admin token =
 
 -- the tables with that account alone
 abbrev pub first_tables : List ℕ → Tables
-first_tables token = record { accounts = first_admin token ∷ []; apps = []; grains = []; grants = []; saved = [] }
+first_tables token = record { accounts = first_admin token ∷ []; apps = []; grains = []; grants = []; saved = []; moment = 0 }
 
 -- its row
 abbrev pub first_row : List ℕ → Row

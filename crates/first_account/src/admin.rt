@@ -34,6 +34,7 @@ fn first_tables(alloc: Global, token: &[u8]) -> Result<Tables, Memory>
         grains: Rows::empty(alloc),
         grants: Rows::empty(alloc),
         saved: Rows::empty(alloc),
+        moment: 0,
     })
 }
 

@@ -4,6 +4,7 @@ use Rattle.std.proofs.lemmas.List.Elements.{All-contains, Contains-push}
 use Rattle.std.specs.Prelude.{⊤}
 use Rattle.cloud_keeper.specs.Keeping.{Keeping, RowsFollow}
 use Rattle.cloud_keeper.specs.declared.row.Row.{Row}
+use Rattle.desk_base.specs.Limits.{most_entries}
 use Rattle.desk_base.specs.Terms.{after, AppId, Event, EventFits, HasGrain, is_open_of, IsOfTables, IsWellFormed, replay, Root, Run, RunId}
 use Rattle.desk_base.specs.Terms.{Session, State, Tables, tables_after}
 use Rattle.desk_orders.specs.declared.reply.OrderFault.{OrderFault}
@@ -19,7 +20,9 @@ use Rattle.state_step.proofs.AfterAll.{replay_appended}
 use Rattle.state_step.proofs.Touched.{AreTouched, change_row_touches, first_touches, length_touched}
 use Rattle.hub_core.specs.Inner.{KeepsRows, entry_of, kept_by}
 use Rattle.hub_core.specs.Sharing.{KeepsPast}
+use Rattle.hub_core.specs.Ticking.{ended}
 use Rattle.hub_core.specs.Spawning.{Spawned}
+use Rattle.hub_core.proofs.Ticking.{never_back_added}
 
 -- a spawner that wasn't told anything was told what no entry wants
 pub told_nothing : (old new : Spawns) (app : AppId) (token : List ℕ) → new.starts ≡ old.starts → new.stops ≡ old.stops
@@ -68,7 +71,7 @@ opens_one s e = omega arith
 
 -- what a value that holds a history keeps, once an entry was added
 pub keeps_added : (start s : State) (old : List Event) (before : Kept) → KeepsPast start s old before
-    → (s' : State) (new : List Event) (kept : Kept) (e : Event) → EventFits s e → length old < 1000000
+    → (s' : State) (new : List Event) (kept : Kept) (e : Event) → EventFits s e → length old + 1 ≤ most_entries + ended s'.tables
     → s' ≡ after s e → new ≡ old ++ e ∷ [] → IsSolvedFor s'.tables kept → KeepsPast start s' new kept
 keeps_added start s old before is s' new kept e fits room state_is entry solved = record {
   replayed = state_is ∙ ap (λ (x : State). after x e) is.replayed
@@ -83,7 +86,12 @@ keeps_added start s old before is s' new kept e fits room state_is entry solved 
     opens_one s e,
     ap (λ (x : State). length x.sessions) state_is,
   );
+  onward = rw entry (never_back_added start old e is.onward (rw is.replayed at fits));
 }
+
+-- where commands may add an entry, it is none too many
+pub room_for_commands : (t : Tables) (n : ℕ) → n < most_entries → n + 1 ≤ most_entries + ended t
+room_for_commands t n few = omega (arith, few)
 
 -- the tables of the state after an event
 tables_of_after : (s : State) (e : Event) → (after s e).tables ≡ tables_after s.tables e

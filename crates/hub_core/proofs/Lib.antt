@@ -1,3 +1,4 @@
+pub mod Ticking
 pub mod Adding
 pub mod Replies
 pub mod Placing

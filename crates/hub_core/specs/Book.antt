@@ -1,8 +1,10 @@
 -- What a desk tells; the verdict on a key, and the answer to an order, at one place of its history.
-use Rattle.std.specs.Prelude.{◌≡◌, ℕ, Bool, IsTrue, ◌+◌, ◌≤◌, ◌++◌, List, Option, Result, Err, length}
+use Rattle.std.specs.Prelude.{◌≡◌, ℕ, Bool, IsTrue, ◌+◌, ◌≤◌, ◌++◌, List, Option, Result, Err, length, take}
 use Rattle.hub_core.specs.Terms.{AppId, Asked, Drawer, DrawsAll, Event, IsAnswer, IsFoundBy, IsStored, IsVerdict, IsWellFormed, Keeping, Key, Law, OrderFault, replay, Reply, Rose, Spawns, State, Verdict}
 use Rattle.desk_orders.specs.declared.reply.OrderFault.TheVariants as fault
+use Rattle.host_base.specs.declared.bytes.Memory.{Memory}
 use Rattle.hub_core.specs.Spawning.{AreOfApp, HaveToken, Spawned, Untold, token_of}
+use Rattle.hub_core.specs.Ticking.{IsTick, NeverBack, added_by}
 
 -- What the objects that a desk works with tell: the keeper of its rows, the secrets that are drawn for it, and the
 -- spawner of its runs.
@@ -101,3 +103,23 @@ pub record Ordered (old new : Book) (order : Asked) (place : ℕ) (answer : Resu
   pub spawned : Spawned old.holds.spawns new.holds.spawns app (token_of order drawn) added
   pub tokens : HaveToken (token_of order drawn) added
   pub counted : IsCounted old.holds new.holds answer
+
+-- A TICK was answered: at a place that isn't before what was seen, by the state there, which is well formed. Where it was
+-- answered by yes it is the entry at that place, and the one command that was accepted. No secret was drawn, and the spawner
+-- was told nothing.
+pub record Ticked (old new : Book) (m place : ℕ) (answer : Result Bool Memory) : Type 0 where
+  pub before : List Event
+  pub rest : List Event
+  pub later : Later old new
+  pub seen : new.seen ≡ (before ++ added_by m answer) ++ rest
+  pub place_is : place ≡ length before
+  pub low_is : length old.seen ≤ place
+  pub formed : IsWellFormed (replay new.start before)
+  pub answered : IsTick (replay new.start before) m answer
+  pub accepted : new.accepted ≡ old.accepted + length (added_by m answer)
+  pub undrawn : new.holds.drawer.coming ≡ old.holds.drawer.coming
+  pub untold : Untold old.holds.spawns new.holds.spawns
+
+-- up to a place of what was seen the clock never went back
+abbrev pub GoesOn : Book → ℕ → Type 0
+GoesOn book place = NeverBack book.start (take place book.seen)

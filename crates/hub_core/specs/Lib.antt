@@ -1,3 +1,4 @@
+pub mod Ticking
 pub mod Book
 pub mod Inner
 pub mod Opening

@@ -1,7 +1,9 @@
 -- One value that holds a history: what it began with, its entries, and the objects beside it.
 use Rattle.std.specs.Prelude.{◌≡◌, ◌+◌, ◌<◌, ◌≤◌, List, length}
 use Rattle.hub_core.specs.Terms.{Event, IsSolvedFor, IsWellFormed, Kept, Law, replay, State}
+use Rattle.desk_base.specs.Limits.{most_entries}
 use Rattle.hub_core.specs.Book.{Book, Backing}
+use Rattle.hub_core.specs.Ticking.{ended, NeverBack}
 
 -- a history: the state that it began with, and its entries
 pub record Past : Type 0 where
@@ -30,14 +32,15 @@ sharing_of past objects =
     record { start = past.start; history = past.entries; holds = objects.tell; keeper = objects.keeper }
 
 -- What a value that holds a history keeps: its state is the replay of the history and well formed, what each node holds is
--- solved for it, the history isn't longer than it may be, and no more sessions were ever opened than a session's number can
--- say.
+-- solved for it, the history isn't longer than commands may make it and by the grants that ended more, no more sessions were
+-- ever opened than a session's number can say, and the clock never went back.
 pub record KeepsPast (start state : State) (entries : List Event) (kept : Kept) : Type 0 where
   pub replayed : state ≡ replay start entries
   pub formed : IsWellFormed state
   pub solved : IsSolvedFor state.tables kept
-  pub few : length entries ≤ 1000000
+  pub few : length entries ≤ most_entries + ended state.tables
   pub sessions : length state.sessions < 2147483648 + length entries
+  pub onward : NeverBack start entries
 
 -- what a desk tells that has nothing but this
 abbrev pub book_at : Law → Past → Backing → Book

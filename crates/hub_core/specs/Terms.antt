@@ -13,6 +13,7 @@ pub use Rattle.grain_supervise.specs.declared.start.Start.{Start}
 pub use Rattle.host_base.specs.Drawing.{Drawer}
 pub use Rattle.host_base.specs.declared.permit.Permit.{Permit}
 pub use Rattle.live_access.specs.Kept.{IsSolvedFor, Kept}
+pub use Rattle.region_access.specs.Seeds.{EndsBy}
 pub use Rattle.row_tables.specs.Checks.{GivesTables, IsBadRow}
 pub use Rattle.row_tables.specs.Kept.{AreRowsOf, IsStored, with_row}
 pub use Rattle.row_tables.specs.RowAfter.{row_after}

@@ -1,5 +1,5 @@
 ghost use Rattle.std.specs.Prelude.{◌≡◌, length, IfOk};
-ghost use Rattle.hub_core.specs.Book.{Book, TakesNone, Judged, Ordered};
+ghost use Rattle.hub_core.specs.Book.{Book, GoesOn, TakesNone, Judged, Ordered, Ticked};
 ghost use Rattle.site_caps.specs.Answering.{GivesText};
 
 use desk_orders::{Order, OrderFault, Reply};
@@ -7,7 +7,8 @@ use host_base::{Key, Memory, Verdict};
 use site_caps::{SiteFault, SiteText};
 use std::alloc::Global;
 
-/// What judges keys and answers orders. Others may add entries to its history at any call.
+/// What judges keys and answers orders. Others may add entries to its history at any call. Up to the place of each answer the clock
+/// never went back.
 pub trait Desk {
     ghost book: { Self → Book };
 
@@ -19,11 +20,19 @@ pub trait Desk {
     fn verdict(&mut self, alloc: Global, key: &Key) -> Result<(u64, Verdict), Memory>
         ensures none { TakesNone (book self.old) (book self.new) }
         ensures judged { IfOk result (λ r.
-            Judged (length (book self.old).seen) (book self.new) key.now r.0 r.1) };
+            Judged (length (book self.old).seen) (book self.new) key.now r.0 r.1) }
+        ensures onward { IfOk result (λ r. GoesOn (book self.new) r.0) };
 
     /// Answers an order, at a place of the history: where it changes something, its event is the entry at that place.
     fn order(&mut self, alloc: Global, order: Order) -> (u64, Result<Reply, OrderFault>)
-        ensures { Ordered (book self.old) (book self.new) order result.0 result.1 };
+        ensures ordered { Ordered (book self.old) (book self.new) order result.0 result.1 }
+        ensures onward { GoesOn (book self.new) result.0 };
+
+    /// Lets the clock go on to a moment, at a place of the history: where some grant ends by it, the tick is the entry at that place.
+    /// It is never refused; neither the keeper nor the spawner is called, and no secret is drawn.
+    fn tick(&mut self, alloc: Global, moment: u64) -> (u64, Result<bool, Memory>)
+        ensures ticked { Ticked (book self.old) (book self.new) moment result.0 result.1 }
+        ensures onward { GoesOn (book self.new) result.0 };
 
     /// What the site of a tag gives for an item, by the law of the sites. No command is accepted by it.
     fn site(&mut self, alloc: Global, tag: u64, item: u32) -> Result<SiteText, SiteFault>

@@ -1,6 +1,7 @@
 //! A history, with what stands at its end, and how an entry is added to it.
 
-ghost use Rattle.std.specs.Prelude.{◌≡◌, ◌+◌, ◌<◌, ◌≤◌, ◌++◌, ◌∷◌, [], length, vec_len, vec_capacity, IfOk, OnOk, OnErr};
+ghost use Rattle.std.specs.Prelude.{◌≡◌, ◌↔◌, ◌+◌, ◌<◌, ◌≤◌, ◌++◌, ◌∷◌, [], IsTrue, length, vec_len, vec_capacity, IfOk, OnOk, OnErr};
+ghost use Rattle.desk_base.specs.Limits.{most_entries};
 ghost use Rattle.desk_base.specs.Terms.{after, EventFits, IsSolutionOf, IsWellFormed};
 ghost use Rattle.live_access.specs.Kept.{IsSolvedFor};
 ghost use Rattle.live_access.specs.Ready.{IsReadyFor};
@@ -10,6 +11,7 @@ ghost use Rattle.share_graph.specs.History.{tables_after};
 ghost use Rattle.state_step.specs.Staging.{event_of, HasRoomFor};
 ghost use Rattle.hub_core.specs.Inner.{HasItsRow, KeepsRows, Outlasts, Told, entry_of};
 ghost use Rattle.hub_core.specs.Sharing.{state_of};
+ghost use Rattle.hub_core.specs.Ticking.{EndsSome, IsTick, NeverBack, added_by};
 
 use crate::held::{Held, Holding};
 use crate::telling::tell;
@@ -172,6 +174,26 @@ fn happen<L: Ledger>(
     entries.push_reserved(event);
 }
 
+// Whether some grant ends as the clock goes on to a moment.
+fn ends_some(
+    alloc: Global,
+    state: &State,
+    solution: &Solution,
+    moment: u64,
+) -> Result<bool, Memory>
+    requires formed { IsWellFormed state.now }
+    requires solved { IsSolvedFor state.now.tables solution.now }
+    ensures { IfOk result (λ ends. IsTrue ends ↔ EndsSome state.now.tables moment) }
+{
+    let seeds = seeds_of(
+        alloc,
+        &state.tables,
+        solution.ties(),
+        &Event::Ticked(moment),
+    )?;
+    Ok(!seeds.is_empty())
+}
+
 impl History {
     /// The history that begins with a well-formed state of fewer than 2^31 sessions, with no entry.
     pub fn new(alloc: Global, state: State) -> Result<Self, Memory>
@@ -204,10 +226,11 @@ impl History {
         self.solution.solved()
     }
 
-    /// How many entries it has, 1,000,000 at the most. It takes no memory.
+    /// How many entries it has, 1,000,000 at the most: fewer by commands, and one more for each grant that ended. It takes no memory.
     pub fn count(&self) -> u64
         ensures value { result ≡ length self.now.entries }
         ensures few { result ≤ 1000000 }
+        ensures onward { NeverBack self.now.start self.now.entries }
     {
         self.entries.len() as u64
     }
@@ -224,7 +247,7 @@ impl History {
         token: &[u8],
     ) -> Result<(), OrderFault>
         requires fits { EventFits (state_of self.old) event }
-        requires room { length self.old.entries < 1000000 }
+        requires room { length self.old.entries < most_entries }
         ensures start { self.new.start ≡ self.old.start }
         ensures entries { self.new.entries ≡ self.old.entries ++ entry_of event result }
         ensures told { Told held.old.tell held.new.tell event app token.now result }
@@ -259,5 +282,35 @@ impl History {
                 Err(fault)
             }
         }
+    }
+    /// Lets the clock go on to a moment: where some grant ends by it, the tick is added as an entry, and what hung on those grants
+    /// is solved again. It is never refused, and nobody is told. Where memory runs out, all is as before.
+    pub fn tick(&mut self, alloc: Global, moment: u64) -> Result<bool, Memory>
+        ensures start { self.new.start ≡ self.old.start }
+        ensures entries { self.new.entries ≡ self.old.entries ++ added_by moment result }
+        ensures ticks { IsTick (state_of self.old) moment result }
+        ensures formed { IsWellFormed (state_of self.old) }
+    {
+        if !ends_some(alloc, &self.state, &self.solution, moment)? {
+            return Ok(false);
+        }
+        make_room(&mut self.entries)?;
+        let event = Event::Ticked(moment);
+        let (state, solution) = (&self.state, &mut self.solution);
+        let Ready {
+            staged,
+            row: _,
+            region,
+        } = make_ready::<Brand>(alloc, state, solution, &event, Blank::new(1))?;
+        happen::<Brand>(
+            &mut self.state,
+            &mut self.solution,
+            &mut self.entries,
+            staged,
+            region,
+            event,
+            Blank::new(1),
+        );
+        Ok(true)
     }
 }

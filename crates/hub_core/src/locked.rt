@@ -3,11 +3,12 @@
 ghost use Rattle.std.specs.Prelude.{◌≡◌, ◌<◌, ◌≤◌, [], length, IfOk, IfErr};
 ghost use Rattle.desk_base.specs.Terms.{IsSolutionOf, IsWellFormed, replay};
 ghost use Rattle.session_table.specs.Verdict.{IsVerdict};
-ghost use Rattle.hub_core.specs.Book.{Ordered};
+ghost use Rattle.hub_core.specs.Book.{Ordered, Ticked};
 ghost use Rattle.site_caps.specs.Answering.{GivesText};
 ghost use Rattle.hub_core.specs.Revoking.{TakesAway, Spares};
 ghost use Rattle.hub_core.specs.Sharing.{book_of};
 ghost use Rattle.hub_core.specs.Stopping.{LeavesBehind, OutliveStops};
+ghost use Rattle.hub_core.specs.Ticking.{NeverBack};
 ghost use Rattle.row_tables.specs.Kept.{IsStored};
 
 use crate::answering::answer;
@@ -99,10 +100,11 @@ impl<H: Holding, C: SiteDriver + Drop> Locked<H, C> {
         held
     }
 
-    /// How many entries the history has, 1,000,000 at the most. It takes no memory.
+    /// How many entries the history has, 1,000,000 at the most. Along them the clock never went back. It takes no memory.
     pub fn entries(&self) -> u64
         ensures value { result ≡ length self.now.history }
         ensures few { length self.now.history ≤ 1000000 }
+        ensures onward { NeverBack self.now.start self.now.history }
     {
         self.history.count()
     }
@@ -142,6 +144,17 @@ impl<H: Holding, C: SiteDriver + Drop> Locked<H, C> {
             Ok(text) => Ok(text),
             Err(fault) => Err(fault),
         }
+    }
+
+    /// Lets the clock go on to a moment at the end of the history: where some grant ends by it, the tick is the next entry. It is
+    /// never refused; neither the keeper nor the spawner is called, and no secret is drawn.
+    pub fn tick(&mut self, alloc: Global, moment: u64) -> Result<bool, Memory>
+        ensures ticked { Ticked (book_of C.Law.law self.old) (book_of C.Law.law self.new) moment
+            (length self.old.history) result }
+        ensures holds { self.new.holds ≡ self.old.holds }
+        ensures keeper { self.new.keeper ≡ self.old.keeper }
+    {
+        self.history.tick(alloc, moment)
     }
 
     /// Answers an order at the end of the history. Where it changes something, its event is the next entry, and the keeper has

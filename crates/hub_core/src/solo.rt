@@ -71,6 +71,11 @@ impl<H: Holding, C: SiteDriver + Drop> Desk for SoloDesk<H, C> {
         (place, self.locked.order(alloc, order))
     }
 
+    fn tick(&mut self, alloc: Global, moment: u64) -> (u64, Result<bool, Memory>) {
+        let place = self.locked.entries();
+        (place, self.locked.tick(alloc, moment))
+    }
+
     fn site(&mut self, alloc: Global, tag: u64, item: u32) -> Result<SiteText, SiteFault> {
         self.locked.site(alloc, tag, item)
     }

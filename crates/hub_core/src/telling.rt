@@ -38,6 +38,7 @@ pub fn app_of(state: &State, event: &Event) -> AppId
         Event::AdminSet(_, _) | Event::EnabledSet(_, _) | Event::TrashedSet(_, _) => AppId(0),
         Event::GrantRevoked(_) | Event::SavedDropped(_) | Event::RunStopped(_) => AppId(0),
         Event::SessionOpened(_) | Event::SessionClosed(_) | Event::HandleMade(_) => AppId(0),
+        Event::Ticked(_) => AppId(0),
     }
 }
 
@@ -90,6 +91,7 @@ fn tell_spawner<P: Spawner>(
         Event::AdminSet(_, _) | Event::EnabledSet(_, _) | Event::TrashedSet(_, _) => Ok(()),
         Event::GrantRevoked(_) | Event::SavedDropped(_) => Ok(()),
         Event::SessionOpened(_) | Event::SessionClosed(_) | Event::HandleMade(_) => Ok(()),
+        Event::Ticked(_) => Ok(()),
     }
 }
 

@@ -31,12 +31,12 @@ module _ (t : Tables) (R : Node → Fact → Type 0) (g : GrantId) (grant : Gran
   live_by (Some n) at fact s = s.0.is_live
 
   -- only a live grant passes anything on
-  pub follows_live : (at : Node) (fact : Fact) → Follows t R g grant at fact → grant.revoked ≡ false
-  follows_live at fact f = (live_by (source_of grant) at fact f.source).live
+  pub follows_live : (at : Node) (fact : Fact) → Follows t R g grant at fact → IsLive t g grant
+  follows_live at fact f = live_by (source_of grant) at fact f.source
 
   -- and it is there
   pub follows_row : (at : Node) (fact : Fact) → Follows t R g grant at fact → IsGrant t g grant
-  follows_row at fact f = (live_by (source_of grant) at fact f.source).is_row
+  follows_row at fact f = (follows_live at fact f).is_row
 
   -- what follows from a source
   pub follows_source : (from at : Node) (fact : Fact) → source_of grant ≡ Some from → Follows t R g grant at fact → LetsThrough t g grant fact × (at ≡ node_of g grant) × R from fact

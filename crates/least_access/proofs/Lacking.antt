@@ -14,16 +14,12 @@ use Rattle.share_graph.specs.declared.grants.Target.{Target}
 use Rattle.share_graph.specs.declared.grants.Target.TheVariants as target
 use Rattle.share_graph.specs.declared.state.Tables.{Tables}
 use Rattle.share_graph.specs.Derivation.{Holds, IsMetBy, IsMet, via, site}
+use Rattle.share_graph.specs.Expiry.{Lasts}
 use Rattle.share_graph.specs.Missing.{AreMet, IsNode, IsMissing}
 use Rattle.share_graph.specs.Nodes.{node_at, source_of, MayReceive}
 use Rattle.share_graph.specs.Parents.{IsNoUser}
 use Rattle.share_graph.specs.Rows.{IsGrant, IsKept}
 use Rattle.least_access.specs.Solved.{Table, HeldAt, IsSolutionOf}
-
--- what a grant was given from holds no entry; a grant of the site was given from nothing
-abbrev pub IsLost : Tables → Option Node → Type 0
-IsLost t (Some from) = Holds t from Open → ⊥
-IsLost t None = ⊥
 
 -- a test that fails tells that what it tests isn't so
 pub not_so : (P : Type 0) (test : Bool) → IsTrue test ↔ P → test ≡ false → P → ⊥
@@ -35,32 +31,6 @@ met_by_solution t table solved need = (
   λ met. (met.0, λ at asked a. (solved at asked).0 (met.1 at asked a)),
   λ met. (met.0, λ at asked a. (solved at asked).1 (met.1 at asked a)),
 )
-
--- a grant that goes to no account is its own node
-own_node : (g : GrantId) (n : GrainId) (to : Target) → IsNoUser to → node_at g n to ≡ node.Grant g
-own_node g n (target.Bearer for_sharing) own = refl
-own_node g n (target.Claim h) own = refl
-own_node g n (target.Grain h) own = refl
-own_node g n (target.User a) own = absurd own
-
-receives : (t : Tables) (to : Target) → IsNoUser to → MayReceive t to
-receives t (target.Bearer for_sharing) own = tt
-receives t (target.Claim h) own = tt
-receives t (target.Grain h) own = tt
-receives t (target.User a) own = absurd own
-
--- a live grant with its needs met that holds no entry has lost its source
-module _ (t : Tables) (g : GrantId) (grant : Grant) (is : IsGrant t g grant) (live : grant.revoked ≡ false) (own : IsNoUser grant.target)
-    (kept : IsKept t grant.grain) (met : AreMet t grant.needs) (none : Holds t (node.Grant g) Open → ⊥) where
-  lost_from : (from : Option Node) → source_of grant ≡ from → IsLost t from
-  lost_from (Some from) given = λ held.
-      none (subst (λ (n : Node). Holds t n Open) (own_node g grant.grain grant.target own)
-      (via (record { is_live = record { is_row = is; live = live }; received = receives t grant.target own; gives = tt }) given held (λ q c. (met q c).0) (λ q c. (met q c).1)))
-  lost_from None given =
-      none (site (record { is_live = record { is_row = is; live = live }; kept = kept }) given (λ q c. (met q c).0) (λ q c. (met q c).1))
-
-  pub lost : IsLost t (source_of grant)
-  lost = lost_from (source_of grant) refl
 
 -- each need before an index is met
 abbrev pub MetBelow : Tables → List Need → ℕ → Type 0

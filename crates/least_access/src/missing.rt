@@ -1,10 +1,11 @@
 //! The first step that is missing where a node holds no entry.
 
-ghost use Rattle.std.specs.Prelude.{◌≡◌, MatchOption, Some, false};
+ghost use Rattle.std.specs.Prelude.{◌≡◌, ◌≤◌, MatchOption, Some, false};
 ghost use Rattle.share_graph.specs.declared.facts.Fact.TheVariants.{Open};
 ghost use Rattle.share_graph.specs.declared.facts.Node.TheVariants as node;
 ghost use Rattle.share_graph.specs.Checked.{IsChecked};
 ghost use Rattle.share_graph.specs.Derivation.{Holds};
+ghost use Rattle.share_graph.specs.Expiry.{Lasts};
 ghost use Rattle.share_graph.specs.Forms.{IsOne};
 ghost use Rattle.share_graph.specs.Missing.{IsNode, AreMet, IsFirstUnmet, UserMissing, GrantMissing, IsMissing};
 ghost use Rattle.share_graph.specs.Rows.{IsGrant};
@@ -41,6 +42,16 @@ fn first_unmet(solved: &Solved, tables: &Tables, needs: &[Need]) -> Option<usize
     None
 }
 
+// The expiry of a grant, if it has come at a moment.
+fn ended(moment: u64, expires: Option<u64>) -> Option<u64>
+    ensures { MatchOption result (Lasts moment expires) (λ end. (expires ≡ Some end) × (end ≤ moment)) }
+{
+    match expires {
+        Some(end) if end <= moment => Some(end),
+        _ => None,
+    }
+}
+
 // What a grant without entry lacks.
 fn grant_lacks(solved: &Solved, tables: &Tables, num: GrantId, grant: &Grant) -> Denial
     requires solution { IsSolutionOf tables.now solved.now }
@@ -54,6 +65,9 @@ fn grant_lacks(solved: &Solved, tables: &Tables, num: GrantId, grant: &Grant) ->
     }
     if grant.revoked {
         return Denial::Revoked(num);
+    }
+    if let Some(end) = ended(tables.moment, grant.expires) {
+        return Denial::Expired(num, end);
     }
     match first_unmet(solved, tables, grant.needs.as_slice()) {
         Some(index) => Denial::Unmet(num, index as u16),

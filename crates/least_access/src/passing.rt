@@ -6,6 +6,7 @@ ghost use Rattle.perm_roles.specs.Roles.{GivesPermission as AssignmentGives};
 ghost use Rattle.share_graph.specs.declared.facts.Fact.{Fact};
 ghost use Rattle.share_graph.specs.Coherent.{IsCoherent};
 ghost use Rattle.share_graph.specs.Derivation.{LetsThrough, IsOpenSite, Follows};
+ghost use Rattle.share_graph.specs.Expiry.{Lasts};
 ghost use Rattle.share_graph.specs.Fitting.{IsSoundManifest, IsAssignmentFor};
 ghost use Rattle.share_graph.specs.Nodes.{node_of, Gives};
 ghost use Rattle.share_graph.specs.Rows.{IsGrant};
@@ -18,7 +19,7 @@ use crate::table::{Table, holding};
 use app_manifest::Manifest;
 use host_base::GrantId;
 use perm_roles::{Assignment, PermSet};
-use share_graph::{Grant, Node, Tables, app_of, is_kept, may_receive, source_of};
+use share_graph::{Grant, Node, Tables, app_of, is_kept, lasts, may_receive, source_of};
 
 // What an assignment gives by a manifest that it fits.
 fn given_by(manifest: &Manifest, assignment: &Assignment) -> PermSet
@@ -43,11 +44,19 @@ fn given(tables: &Tables, num: GrantId, grant: &Grant) -> PermSet
     }
 }
 
+// Whether a grant isn't revoked and hasn't ended by itself.
+fn is_live(tables: &Tables, grant: &Grant) -> bool
+    ensures { IsTrue result ↔ ((grant.now.revoked ≡ false) × Lasts tables.now.moment grant.now.expires) }
+{
+    !grant.revoked && lasts(tables.moment, grant.expires)
+}
+
 // What a live grant passes on of what its source holds.
 fn passed_on(tables: &Tables, table: &Table, num: GrantId, grant: &Grant, from: Node) -> Held
     requires coherent { IsCoherent tables.now }
     requires row { IsGrant tables.now num grant.now }
     requires live { grant.now.revoked ≡ false }
+    requires lasts { Lasts tables.now.moment grant.now.expires }
     ensures { (fact : Fact) → IsIn result fact ↔ (LetsThrough tables.now num grant.now fact
         × HeldAt table.now.entries from fact) }
 {
@@ -65,6 +74,7 @@ fn passed_on(tables: &Tables, table: &Table, num: GrantId, grant: &Grant, from: 
 fn given_by_site(tables: &Tables, num: GrantId, grant: &Grant) -> Held
     requires row { IsGrant tables.now num grant.now }
     requires live { grant.now.revoked ≡ false }
+    requires lasts { Lasts tables.now.moment grant.now.expires }
     ensures { (fact : Fact) → IsIn result fact ↔ (IsOpenSite tables.now num grant.now × (fact ≡ Fact.Open)) }
 {
     Held {
@@ -80,7 +90,7 @@ pub fn passed(tables: &Tables, table: &Table, num: GrantId, grant: &Grant) -> He
     ensures { (fact : Fact) → IsIn result fact ↔ Follows tables.now (HeldAt table.now.entries) num
         grant.now (node_of num grant.now) fact }
 {
-    if grant.revoked {
+    if !is_live(tables, grant) {
         return Held::none();
     }
     if !are_met(tables, table, grant.needs.as_slice()) {

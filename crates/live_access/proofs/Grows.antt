@@ -113,20 +113,21 @@ module _ (t : Tables) (n : GrainId) where
   grain_untrashed : GivesOutside (Contains []) t untrashed
   grain_untrashed = record {
     owned = λ m grain app out o. record { is_row = kept_row m grain o.is_row o.kept; of_app = o.of_app; kept = o.kept; enabled = o.enabled };
-    passed = λ g grant fact out p. record { is_live = record { is_row = p.is_live.is_row; live = p.is_live.live }; received = p.received; gives = still_gives grant fact p.gives };
+    passed = λ g grant fact out p. record { is_live = record { is_row = p.is_live.is_row; live = p.is_live.live; lasts = p.is_live.lasts }; received = p.received; gives = still_gives grant fact p.gives };
     asked = λ g grant q out is c now. now;
     asked_of_site = λ g grant q out is none c now. now;
-    opened = λ g grant out none o. record { is_live = record { is_row = o.is_live.is_row; live = o.is_live.live }; kept = still_kept grant.grain o.kept };
+    opened = λ g grant out none o. record { is_live = record { is_row = o.is_live.is_row; live = o.is_live.live; lasts = o.is_live.lasts }; kept = still_kept grant.grain o.kept };
   }
 
 -- ---- each event
 
-same_rows : (t u : Tables) → t.accounts ≡ u.accounts → t.apps ≡ u.apps → t.grains ≡ u.grains → t.grants ≡ u.grants → Widens t u
-same_rows t u accounts apps grains grants = record {
+same_rows : (t u : Tables) → t.accounts ≡ u.accounts → t.apps ≡ u.apps → t.grains ≡ u.grains → t.grants ≡ u.grants → u.moment ≡ t.moment → Widens t u
+same_rows t u accounts apps grains grants moment = record {
   accounts = λ a x is. rw (← accounts) is;
   apps = λ p x is. rw (← apps) is;
   grains = λ n. rw grains refl;
   grants = λ g. rw grants refl;
+  moment = moment;
 }
 
 module _ (s : State) (seeds : List Node) (formed : IsWellFormed s) where
@@ -136,16 +137,16 @@ module _ (s : State) (seeds : List Node) (formed : IsWellFormed s) where
   whole : IsCoherent t
   whole = coherent t formed.tables
 
-  untouched : (u : Tables) → t.accounts ≡ u.accounts → t.apps ≡ u.apps → t.grains ≡ u.grains → t.grants ≡ u.grants → Adds t u seeds
-  untouched u accounts apps grains grants = widened t u (same_rows t u accounts apps grains grants) whole seeds
+  untouched : (u : Tables) → t.accounts ≡ u.accounts → t.apps ≡ u.apps → t.grains ≡ u.grains → t.grants ≡ u.grants → u.moment ≡ t.moment → Adds t u seeds
+  untouched u accounts apps grains grants moment = widened t u (same_rows t u accounts apps grains grants moment) whole seeds
 
   pub event_only_adds : (e : Event) → EventFits s e → ((at : Node) → Contains seeds at ↔ IsSeedOf t e at) → may_take e ≡ false → Adds t (after s e).tables seeds
   event_only_adds (event.AccountAdded account) fits exact takes =
       widened t (after s (event.AccountAdded account)).tables
-      (record { accounts = λ a x is. push_old_row t.accounts (account ∷ []) a.0 x is; apps = λ p x is. is; grains = λ n. refl; grants = λ g. refl }) whole seeds
+      (record { accounts = λ a x is. push_old_row t.accounts (account ∷ []) a.0 x is; apps = λ p x is. is; grains = λ n. refl; grants = λ g. refl; moment = refl }) whole seeds
   event_only_adds (event.AppAdded app) fits exact takes =
       widened t (after s (event.AppAdded app)).tables
-      (record { accounts = λ a x is. is; apps = λ p x is. push_old_row t.apps (app ∷ []) p.0 x is; grains = λ n. refl; grants = λ g. refl }) whole seeds
+      (record { accounts = λ a x is. is; apps = λ p x is. push_old_row t.apps (app ∷ []) p.0 x is; grains = λ n. refl; grants = λ g. refl; moment = refl }) whole seeds
   event_only_adds (event.GrainAdded grain) fits exact takes =
       let next = next_number (λ (x : Grain). x.num.0) t.grains grain fits.formed.numbered.grains in
       record {
@@ -187,10 +188,11 @@ module _ (s : State) (seeds : List Node) (formed : IsWellFormed s) where
             (λ g grant is c. (exact (node_of g grant)).1 (inl (g, grant, is, c, refl)))
             (coherent (after s (event.EnabledSet a true)).tables fits.formed.tables);
       }
-  event_only_adds (event.SavedAdded saved) fits exact takes = untouched (after s (event.SavedAdded saved)).tables refl refl refl refl
-  event_only_adds (event.SavedDropped v) fits exact takes = untouched (after s (event.SavedDropped v)).tables refl refl refl refl
-  event_only_adds (event.RunStarted run) fits exact takes = untouched t refl refl refl refl
-  event_only_adds (event.RunStopped r) fits exact takes = untouched t refl refl refl refl
-  event_only_adds (event.SessionOpened session) fits exact takes = untouched t refl refl refl refl
-  event_only_adds (event.SessionClosed n) fits exact takes = untouched t refl refl refl refl
-  event_only_adds (event.HandleMade handle) fits exact takes = untouched t refl refl refl refl
+  event_only_adds (event.SavedAdded saved) fits exact takes = untouched (after s (event.SavedAdded saved)).tables refl refl refl refl refl
+  event_only_adds (event.SavedDropped v) fits exact takes = untouched (after s (event.SavedDropped v)).tables refl refl refl refl refl
+  event_only_adds (event.RunStarted run) fits exact takes = untouched t refl refl refl refl refl
+  event_only_adds (event.RunStopped r) fits exact takes = untouched t refl refl refl refl refl
+  event_only_adds (event.SessionOpened session) fits exact takes = untouched t refl refl refl refl refl
+  event_only_adds (event.SessionClosed n) fits exact takes = untouched t refl refl refl refl refl
+  event_only_adds (event.HandleMade handle) fits exact takes = untouched t refl refl refl refl refl
+  event_only_adds (event.Ticked m) fits exact takes = cc takes

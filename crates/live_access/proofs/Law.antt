@@ -9,7 +9,7 @@ use Rattle.share_graph.specs.declared.rows.Grain.{Grain}
 use Rattle.share_graph.specs.declared.state.State.{State}
 use Rattle.share_graph.specs.declared.state.Tables.{Tables}
 use Rattle.share_graph.specs.Coherent.{IsCoherent}
-use Rattle.share_graph.specs.EventFits.{EventFits}
+use Rattle.share_graph.specs.EventFits.{HasChanged, EventFits}
 use Rattle.share_graph.specs.History.{after}
 use Rattle.share_graph.specs.Nodes.{node_of}
 use Rattle.share_graph.specs.Region.{seed}
@@ -23,6 +23,7 @@ use Rattle.region_access.specs.NewEdges.{HasNoRow, AddsGrant}
 use Rattle.region_access.specs.Reaching.{IsRegionOf}
 use Rattle.region_access.specs.Seeds.{IsSeedOf}
 use Rattle.region_access.proofs.Roomy.{region_closed}
+use Rattle.region_access.proofs.Ticked.{tick_touches}
 use Rattle.region_access.proofs.Trashed.{trash_touches}
 use Rattle.live_access.specs.Adding.{grant_added, IsNewOf}
 use Rattle.live_access.proofs.NewRow.{adds_none, adds_none_revoked, adds_one, adds_nothing, no_row_of_one, no_row_of_none}
@@ -37,6 +38,7 @@ record IsSetFor (s : State) (e : Event) (nodes : List Node) : Type 0 where
   numbered : IsNumbered (after s e)
   inside : (at : Node) → IsSeedOf s.tables e at → Contains nodes at
   closed : LeadsNowhere s.tables nodes
+  changed : HasChanged s e
 
 set_for : (s : State) (e : Event) (seeds nodes : List Node) → IsWellFormed s → EventFits s e → ((at : Node) → Contains seeds at ↔ IsSeedOf s.tables e at) → IsRegionOf s.tables seeds nodes → IsSetFor s e nodes
 set_for s e seeds nodes formed fits exact region = record {
@@ -45,24 +47,26 @@ set_for s e seeds nodes formed fits exact region = record {
   numbered = fits.formed.numbered;
   inside = λ at is. (region.exact at).1 (seed ((exact at).1 is));
   closed = region_closed s.tables seeds nodes region;
+  changed = fits.changed;
 }
 
 -- the rows on which anything hangs are the same
-same_rows : (t u : Tables) → t.accounts ≡ u.accounts → t.apps ≡ u.apps → t.grains ≡ u.grains → t.grants ≡ u.grants → Widens t u
-same_rows t u accounts apps grains grants = record {
+same_rows : (t u : Tables) → t.accounts ≡ u.accounts → t.apps ≡ u.apps → t.grains ≡ u.grains → t.grants ≡ u.grants → u.moment ≡ t.moment → Widens t u
+same_rows t u accounts apps grains grants moment = record {
   accounts = λ a x is. rw (← accounts) is;
   apps = λ p x is. rw (← apps) is;
   grains = λ n. rw grains refl;
   grants = λ g. rw grants refl;
+  moment = moment;
 }
 
 touched : (s : State) (e : Event) (nodes : List Node) → IsSetFor s e nodes → Touches nodes s.tables (after s e).tables
 touched s (event.AccountAdded account) nodes set =
     touches_by_widening s.tables (after s (event.AccountAdded account)).tables
-    (record { accounts = λ a x is. push_old_row s.tables.accounts (account ∷ []) a.0 x is; apps = λ p x is. is; grains = λ n. refl; grants = λ g. refl }) set.whole nodes set.closed
+    (record { accounts = λ a x is. push_old_row s.tables.accounts (account ∷ []) a.0 x is; apps = λ p x is. is; grains = λ n. refl; grants = λ g. refl; moment = refl }) set.whole nodes set.closed
 touched s (event.AppAdded app) nodes set =
     touches_by_widening s.tables (after s (event.AppAdded app)).tables
-    (record { accounts = λ a x is. is; apps = λ p x is. push_old_row s.tables.apps (app ∷ []) p.0 x is; grains = λ n. refl; grants = λ g. refl }) set.whole nodes set.closed
+    (record { accounts = λ a x is. is; apps = λ p x is. push_old_row s.tables.apps (app ∷ []) p.0 x is; grains = λ n. refl; grants = λ g. refl; moment = refl }) set.whole nodes set.closed
 touched s (event.GrainAdded grain) nodes set =
     grain_added_touches s.tables grain (next_number (λ (x : Grain). x.num.0) s.tables.grains grain set.numbered.grains) set.whole nodes set.whole_after (set.inside (node.User grain.num grain.owner) refl) set.closed
 touched s (event.GrantAdded grant) nodes set =
@@ -78,13 +82,15 @@ touched s (event.AdminSet a on) nodes set =
 touched s (event.EnabledSet a on) nodes set =
     account_set_touches s.tables a (with_enabled on) nodes (inr (λ n grain is. set.inside (node.User n a) (inr (n, grain, is, refl))))
     (λ g grant is c. set.inside (node_of g grant) (inl (g, grant, is, c, refl))) set.whole set.whole_after set.closed
-touched s (event.SavedAdded saved) nodes set = touches_by_widening s.tables (after s (event.SavedAdded saved)).tables (same_rows s.tables _ refl refl refl refl) set.whole nodes set.closed
-touched s (event.SavedDropped v) nodes set = touches_by_widening s.tables (after s (event.SavedDropped v)).tables (same_rows s.tables _ refl refl refl refl) set.whole nodes set.closed
-touched s (event.RunStarted run) nodes set = touches_by_widening s.tables s.tables (same_rows s.tables _ refl refl refl refl) set.whole nodes set.closed
-touched s (event.RunStopped r) nodes set = touches_by_widening s.tables s.tables (same_rows s.tables _ refl refl refl refl) set.whole nodes set.closed
-touched s (event.SessionOpened session) nodes set = touches_by_widening s.tables s.tables (same_rows s.tables _ refl refl refl refl) set.whole nodes set.closed
-touched s (event.SessionClosed n) nodes set = touches_by_widening s.tables s.tables (same_rows s.tables _ refl refl refl refl) set.whole nodes set.closed
-touched s (event.HandleMade handle) nodes set = touches_by_widening s.tables s.tables (same_rows s.tables _ refl refl refl refl) set.whole nodes set.closed
+touched s (event.SavedAdded saved) nodes set = touches_by_widening s.tables (after s (event.SavedAdded saved)).tables (same_rows s.tables _ refl refl refl refl refl) set.whole nodes set.closed
+touched s (event.SavedDropped v) nodes set = touches_by_widening s.tables (after s (event.SavedDropped v)).tables (same_rows s.tables _ refl refl refl refl refl) set.whole nodes set.closed
+touched s (event.RunStarted run) nodes set = touches_by_widening s.tables s.tables (same_rows s.tables _ refl refl refl refl refl) set.whole nodes set.closed
+touched s (event.RunStopped r) nodes set = touches_by_widening s.tables s.tables (same_rows s.tables _ refl refl refl refl refl) set.whole nodes set.closed
+touched s (event.SessionOpened session) nodes set = touches_by_widening s.tables s.tables (same_rows s.tables _ refl refl refl refl refl) set.whole nodes set.closed
+touched s (event.SessionClosed n) nodes set = touches_by_widening s.tables s.tables (same_rows s.tables _ refl refl refl refl refl) set.whole nodes set.closed
+touched s (event.HandleMade handle) nodes set = touches_by_widening s.tables s.tables (same_rows s.tables _ refl refl refl refl refl) set.whole nodes set.closed
+touched s (event.Ticked m) nodes set =
+    tick_touches s.tables m nodes set.changed (λ g grant ends. set.inside (node_of g grant) (g, grant, ends, refl)) set.whole set.whole_after set.closed
 
 -- the change touches the region of its seeds alone
 pub event_touches : (s : State) (e : Event) (seeds nodes : List Node) → IsWellFormed s → EventFits s e → ((at : Node) → Contains seeds at ↔ IsSeedOf s.tables e at) → IsRegionOf s.tables seeds nodes
@@ -109,6 +115,7 @@ event_adds s (event.RunStopped r) added fits is = adds_nothing s.tables s.tables
 event_adds s (event.SessionOpened session) added fits is = adds_nothing s.tables s.tables added is (adds_none s.tables _ (λ g. refl))
 event_adds s (event.SessionClosed n) added fits is = adds_nothing s.tables s.tables added is (adds_none s.tables _ (λ g. refl))
 event_adds s (event.HandleMade handle) added fits is = adds_nothing s.tables s.tables added is (adds_none s.tables _ (λ g. refl))
+event_adds s (event.Ticked m) added fits is = adds_nothing s.tables (after s (event.Ticked m)).tables added is (adds_none s.tables _ (λ g. refl))
 
 -- no grant has the number of the one that it adds
 pub event_is_new : (s : State) (e : Event) (added : Option NewGrant) → EventFits s e → IsNewOf (grant_added e) added → HasNoRow s.tables added
@@ -128,3 +135,4 @@ event_is_new s (event.RunStopped r) added fits is = no_row_of_none s.tables adde
 event_is_new s (event.SessionOpened session) added fits is = no_row_of_none s.tables added is
 event_is_new s (event.SessionClosed n) added fits is = no_row_of_none s.tables added is
 event_is_new s (event.HandleMade handle) added fits is = no_row_of_none s.tables added is
+event_is_new s (event.Ticked m) added fits is = no_row_of_none s.tables added is

@@ -18,11 +18,12 @@ use Rattle.live_access.proofs.Pushed.{row_new, row_pushed, none_next}
 
 -- a grant is as it was
 same_row : (g : GrantId) (grant : Grant) → IsAlike g grant grant
-same_row g grant = record { source = refl; needs = refl; grain = refl; node = refl }
+same_row g grant = record { source = refl; needs = refl; grain = refl; node = refl; expires = refl }
 
--- a grant that is revoked gives from the same source, under the same needs, on the same grain and to the same node
+-- a grant that is revoked gives from the same source, under the same needs, on the same grain, to the same node, and ends when it
+-- did
 same_revoked : (g : GrantId) (grant : Grant) → IsAlike g grant (revoked grant)
-same_revoked g grant = record { source = refl; needs = refl; grain = refl; node = refl }
+same_revoked g grant = record { source = refl; needs = refl; grain = refl; node = refl; expires = refl }
 
 -- the grants stay
 pub adds_none : (t u : Tables) → ((g : GrantId) → row u.grants g.0 ≡ row t.grants g.0) → AddsGrant None t u

@@ -49,7 +49,7 @@ module _ (t : Tables) (grant : Grant) (next : grant.num.0 ≡ length t.grants + 
   with_grant = adding t grant
 
   live_on : (h : GrantId) (x : Grant) → IsLive t h x → IsLive with_grant h x
-  live_on h x l = record { is_row = push_old_row t.grants (grant ∷ []) h.0 x l.is_row; live = l.live }
+  live_on h x l = record { is_row = push_old_row t.grants (grant ∷ []) h.0 x l.is_row; live = l.live; lasts = l.lasts }
 
   forth : {at : Node} {fact : Fact} → Derivation t at fact → Derivation with_grant at fact
   forth (own o r) = own (record { is_row = o.is_row; of_app = o.of_app; kept = o.kept; enabled = o.enabled }) r
@@ -73,12 +73,12 @@ module _ (t : Tables) (grant : Grant) (next : grant.num.0 ≡ length t.grants + 
     back (via {g = h} {grant = x} {from = from} {fact = fact} p s d now needs) =
         elim (row_pushed t.grants grant h.0 x p.is_live.is_row) [
           | inl before ↦
-              via (record { is_live = record { is_row = before; live = p.is_live.live }; received = p.received; gives = p.gives }) s (back d) now (λ n c at asked a. back (needs n c at asked a))
+              via (record { is_live = record { is_row = before; live = p.is_live.live; lasts = p.is_live.lasts }; received = p.received; gives = p.gives }) s (back d) now (λ n c at asked a. back (needs n c at asked a))
           | inr (last, same) ↦ by_new h x from fact last same s p.gives (back d)
         ]
     back (site {g = h} {grant = x} o s now needs) =
         elim (row_pushed t.grants grant h.0 x o.is_live.is_row) [
-          | inl before ↦ site (record { is_live = record { is_row = before; live = o.is_live.live }; kept = o.kept }) s now (λ n c at asked a. back (needs n c at asked a))
+          | inl before ↦ site (record { is_live = record { is_row = before; live = o.is_live.live; lasts = o.is_live.lasts }; kept = o.kept }) s now (λ n c at asked a. back (needs n c at asked a))
           | inr (last, same) ↦ absurd (let odd : Some nothing.from ≡ None = sym nothing.source ∙ ap source_of same ∙ s in cc)
         ]
 

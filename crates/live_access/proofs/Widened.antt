@@ -1,5 +1,5 @@
 -- Accounts and applications that are added, where grains and grants stay, touch no node: no row names one that wasn't there.
-use Rattle.std.proofs.Common.{◌≡◌, List, Some, Contains, sym, ◌∙◌, subst}
+use Rattle.std.proofs.Common.{◌≡◌, ℕ, List, Some, Contains, sym, ◌∙◌, subst}
 use Rattle.std.proofs.lemmas.List.Elements.{All-contains}
 use Rattle.host_base.specs.declared.ids.AccountId.{AccountId}
 use Rattle.host_base.specs.declared.ids.AppId.{AppId}
@@ -18,28 +18,32 @@ use Rattle.share_graph.specs.declared.rows.App.{App}
 use Rattle.share_graph.specs.declared.state.Tables.{Tables}
 use Rattle.share_graph.specs.Coherent.{IsCoherent}
 use Rattle.share_graph.specs.Derivation.{IsLive, AsksNow}
+use Rattle.share_graph.specs.Expiry.{Lasts}
 use Rattle.share_graph.specs.Known.{HasAccount, HasApp, KnowsTarget, KnowsNeed}
 use Rattle.share_graph.specs.Nodes.{MayReceive, Gives}
 use Rattle.share_graph.specs.Region.{GivesOutside}
 use Rattle.share_graph.specs.Rows.{row, IsAccount, IsApp, IsGrant, IsEnabled, IsKept}
 use Rattle.region_work.specs.Prepared.{LeadsNowhere, Touches}
 
--- The accounts and applications of the first tables are in the second, which have the same grains and grants.
+-- The accounts and applications of the first tables are in the second, which have the same grains, grants and moment.
 pub record Widens (t u : Tables) : Type 0 where
   pub accounts : (a : AccountId) (account : Account) → IsAccount t a account → IsAccount u a account
   pub apps : (p : AppId) (app : App) → IsApp t p app → IsApp u p app
   pub grains : (n : GrainId) → row u.grains n.0 ≡ row t.grains n.0
   pub grants : (g : GrantId) → row u.grants g.0 ≡ row t.grants g.0
+  pub moment : u.moment ≡ t.moment
 
 module _ (t u : Tables) (widens : Widens t u) (coherent : IsCoherent t) where
   grant_back : (g : GrantId) (grant : Grant) → IsGrant u g grant → IsGrant t g grant
   grant_back g grant is = sym (widens.grants g) ∙ is
 
   live_on : (g : GrantId) (grant : Grant) → IsLive t g grant → IsLive u g grant
-  live_on g grant l = record { is_row = widens.grants g ∙ l.is_row; live = l.live }
+  live_on g grant l =
+      record { is_row = widens.grants g ∙ l.is_row; live = l.live; lasts = subst (λ (now : ℕ). Lasts now grant.expires) (sym widens.moment) l.lasts }
 
   live_back : (g : GrantId) (grant : Grant) → IsLive u g grant → IsLive t g grant
-  live_back g grant l = record { is_row = grant_back g grant l.is_row; live = l.live }
+  live_back g grant l =
+      record { is_row = grant_back g grant l.is_row; live = l.live; lasts = subst (λ (now : ℕ). Lasts now grant.expires) widens.moment l.lasts }
 
   kept_on : (n : GrainId) → IsKept t n → IsKept u n
   kept_on n (grain, is, kept) = (grain, widens.grains n ∙ is, kept)

@@ -24,14 +24,16 @@ grant_added (event.RunStopped r) = None
 grant_added (event.SessionOpened session) = None
 grant_added (event.SessionClosed n) = None
 grant_added (event.HandleMade handle) = None
+grant_added (event.Ticked m) = None
 
--- Something may be lost by the event: a grant is revoked, a grain goes into the trash, an account is disabled or no admin.
+-- Something may be lost by the event: a grant is revoked or ends, a grain goes into the trash, an account is disabled or no admin.
 -- Every other event only adds.
 abbrev pub may_take : Event → Bool
 may_take (event.GrantRevoked g) = true
 may_take (event.TrashedSet n on) = on
 may_take (event.AdminSet a on) = not on
 may_take (event.EnabledSet a on) = not on
+may_take (event.Ticked m) = true
 may_take _ = false
 
 -- there is no grant and no new one, or the new one is the grant's: of its number, its node, the nodes that feed it and what it

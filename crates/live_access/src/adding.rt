@@ -38,6 +38,7 @@ pub fn may_take(event: &Event) -> bool
         Event::GrantRevoked(_) => true,
         Event::TrashedSet(_, on) => *on,
         Event::AdminSet(_, on) | Event::EnabledSet(_, on) => !*on,
+        Event::Ticked(_) => true,
         _ => false,
     }
 }

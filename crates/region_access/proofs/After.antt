@@ -24,7 +24,7 @@ use Rattle.region_access.proofs.Indexed.{index_same, index_more, IsRowBy}
 use Rattle.region_access.proofs.Tied.{Hangs}
 
 turned : (g : GrantId) (a b : Grant) → IsAlike g a b → IsAlike g b a
-turned g a b alike = record { source = sym alike.source; needs = sym alike.needs; grain = sym alike.grain; node = sym alike.node }
+turned g a b alike = record { source = sym alike.source; needs = sym alike.needs; grain = sym alike.grain; node = sym alike.node; expires = sym alike.expires }
 
 -- what a row is of is what each row is of that is alike, and the keys of a new grant are what its row is of
 module _ {K : Type 0} (Of : K → GrantId → Grant → Type 0) (keys : NewGrant → List K) (alike_of : (g : GrantId) (a b : Grant) → IsAlike g a b → (at : K) → Of at g a → Of at g b)
@@ -90,6 +90,7 @@ arrivals_after added t u old new adds into has =
 tied_alike : (g : GrantId) (a b : Grant) → IsAlike g a b → (on : Tie) → IsTied on a → IsTied on b
 tied_alike g a b alike (tie.Grain n) same = sym alike.grain ∙ same
 tied_alike g a b alike (tie.Admin u) c = subst (λ (needs : List Need). Contains needs (need.UserIsAdmin u)) alike.needs c
+tied_alike g a b alike (tie.End end) ends = sym alike.expires ∙ ends
 
 ties_after : (added : Option NewGrant) (t u : Tables) (old new : Tie → List GrantId) → AddsGrant added t u → IsTiesOf t old → HasTies added old new → IsTiesOf u new
 ties_after added t u old new adds ties has =

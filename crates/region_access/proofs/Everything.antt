@@ -57,7 +57,7 @@ listed_all rows of ys i done end n x is = done.all n x (let within = row_within 
 -- ---- nothing holds where there are no rows
 
 abbrev pub no_tables : Tables
-no_tables = record { accounts = []; apps = []; grains = []; grants = []; saved = [] }
+no_tables = record { accounts = []; apps = []; grains = []; grants = []; saved = []; moment = 0 }
 
 no_row : {X : Type 0} (n : ℕ) (x : X) → row [] n ≡ Some x → ⊥
 no_row zero x is = cc is

@@ -13,4 +13,6 @@ pub mod Tied
 pub mod After
 pub mod Picked
 pub mod ManyGrains
+pub mod Ends
+pub mod Ticked
 pub mod Trashed

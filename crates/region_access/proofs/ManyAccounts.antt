@@ -42,7 +42,7 @@ module _ (t : Tables) (nodes : List Node) (old new : List Account) (coherent : I
   after = with_accounts t new
 
   live_on : (g : GrantId) (grant : Grant) → IsLive before g grant → IsLive after g grant
-  live_on g grant l = record { is_row = l.is_row; live = l.live }
+  live_on g grant l = record { is_row = l.is_row; live = l.live; lasts = l.lasts }
 
   received_on : (g : GrantId) (n : GrainId) (grain : Grain) → IsGrain t n grain → (to : Target) → (Contains nodes (node_at g n to) → ⊥) → MayReceive before to → MayReceive after to
   received_on g n grain is (target.User a) out may =

@@ -42,7 +42,7 @@ module _ (t : Tables) (nodes : List Node) (old new : List Grain) (coherent : IsC
   after = with_grains t new
 
   live_on : (g : GrantId) (grant : Grant) → IsLive before g grant → IsLive after g grant
-  live_on g grant l = record { is_row = l.is_row; live = l.live }
+  live_on g grant l = record { is_row = l.is_row; live = l.live; lasts = l.lasts }
 
   gives_on : (g : GrantId) (grant : Grant) → IsGrant t g grant → (fact : Fact) → Gives before grant fact → Gives after grant fact
   gives_on g grant is Open gives = tt

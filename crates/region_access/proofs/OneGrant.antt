@@ -20,10 +20,10 @@ module _ (t : Tables) (gs : List Grant) (g : GrantId) (nodes : List Node) where
 
   module _ (others : (h : GrantId) → h ≢ g → row gs h.0 ≡ row t.grants h.0) where
     live_after : (h : GrantId) (grant : Grant) → h ≢ g → IsLive t h grant → IsLive after h grant
-    live_after h grant apart l = record { is_row = others h apart ∙ l.is_row; live = l.live }
+    live_after h grant apart l = record { is_row = others h apart ∙ l.is_row; live = l.live; lasts = l.lasts }
 
     live_before : (h : GrantId) (grant : Grant) → h ≢ g → IsLive after h grant → IsLive t h grant
-    live_before h grant apart l = record { is_row = sym (others h apart) ∙ l.is_row; live = l.live }
+    live_before h grant apart l = record { is_row = sym (others h apart) ∙ l.is_row; live = l.live; lasts = l.lasts }
 
     module _ (was : (grant : Grant) → IsGrant t g grant → Contains nodes (node_of g grant)) where
       apart_before : (h : GrantId) (grant : Grant) → IsGrant t h grant → (Contains nodes (node_of h grant) → ⊥) → h ≢ g

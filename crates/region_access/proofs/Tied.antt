@@ -1,5 +1,6 @@
 -- What grants hang on.
-use Rattle.std.proofs.Common.{◌≡◌, ◌⊎◌, ◌↔◌, List, Some, Contains, refl, ap, subst, inl, inr}
+use Rattle.std.proofs.Common.{◌≡◌, ◌⊎◌, ◌↔◌, ℕ, List, Option, Some, None, Contains, refl, ap, subst, inl, inr}
+use Rattle.std.specs.Prelude.{option_map}
 use Rattle.host_base.specs.declared.ids.AccountId.{AccountId}
 use Rattle.host_base.specs.declared.ids.GrainId.{GrainId}
 use Rattle.host_base.specs.declared.ids.GrantId.{GrantId}
@@ -23,20 +24,52 @@ asks_admin (need.UserIsAdmin b) a e = let same : b ≡ a = cc e in ap (λ (x : A
 asks_admin (need.TokenValid h) a e = cc e
 asks_admin (need.PermissionsHeld holder set) a e = cc e
 
--- what a grant hangs on is its grain, or asked by a need
-pub tied_either : (grant : Grant) (on : Tie) → IsTied on grant ↔ ((Some (tie.Grain grant.grain) ≡ Some on) ⊎ IsAskedBy grant.needs on)
+asks_no_end : (q : Need) (end : ℕ) → tie_of q ≡ Some (tie.End end) → ⊥
+asks_no_end (need.UserIsAdmin a) end e = cc e
+asks_no_end (need.TokenValid h) end e = cc e
+asks_no_end (need.PermissionsHeld holder set) end e = cc e
+
+-- the moment at which a grant ends, as a tie
+abbrev pub end_of : Option ℕ → Option Tie
+end_of expires = option_map (λ end. tie.End end) expires
+
+end_is : (expires : Option ℕ) (end : ℕ) → end_of expires ≡ Some (tie.End end) → expires ≡ Some end
+end_is None end e = cc e
+end_is (Some other) end e = let same : other ≡ end = cc e in ap (λ (n : ℕ). Some n) same
+
+end_no_grain : (expires : Option ℕ) (n : GrainId) → end_of expires ≡ Some (tie.Grain n) → ⊥
+end_no_grain None n e = cc e
+end_no_grain (Some end) n e = cc e
+
+end_no_admin : (expires : Option ℕ) (a : AccountId) → end_of expires ≡ Some (tie.Admin a) → ⊥
+end_no_admin None a e = cc e
+end_no_admin (Some end) a e = cc e
+
+-- what a grant hangs on is its grain, its end, or asked by a need
+pub tied_either : (grant : Grant) (on : Tie)
+    → IsTied on grant ↔ ((Some (tie.Grain grant.grain) ≡ Some on) ⊎ (end_of grant.expires ≡ Some on) ⊎ IsAskedBy grant.needs on)
 tied_either grant (tie.Grain n) = (
   λ same. inl (ap (λ (m : GrainId). Some (tie.Grain m)) same),
   elim [
     | inl same ↦ cc same
-    | inr (q, c, asked) ↦ absurd (asks_no_grain q n asked)
+    | inr (inl ends) ↦ absurd (end_no_grain grant.expires n ends)
+    | inr (inr (q, c, asked)) ↦ absurd (asks_no_grain q n asked)
   ],
 )
 tied_either grant (tie.Admin a) = (
-  λ c. inr (need.UserIsAdmin a, c, refl),
+  λ c. inr (inr (need.UserIsAdmin a, c, refl)),
   elim [
     | inl never ↦ cc never
-    | inr (q, c, asked) ↦ subst (λ (x : Need). Contains grant.needs x) (asks_admin q a asked) c
+    | inr (inl ends) ↦ absurd (end_no_admin grant.expires a ends)
+    | inr (inr (q, c, asked)) ↦ subst (λ (x : Need). Contains grant.needs x) (asks_admin q a asked) c
+  ],
+)
+tied_either grant (tie.End end) = (
+  λ ends. inr (inl (ap end_of ends)),
+  elim [
+    | inl never ↦ cc never
+    | inr (inl ends) ↦ end_is grant.expires end ends
+    | inr (inr (q, c, asked)) ↦ absurd (asks_no_end q end asked)
   ],
 )
 

@@ -34,12 +34,13 @@ HasArrival = HasNew (λ added. added.node ∷ [])
 abbrev pub HasTies : Option NewGrant → (Tie → List GrantId) → (Tie → List GrantId) → Type 0
 HasTies = HasNew (λ added. added.ties.items)
 
--- the two rows of a grant have the same source and needs, are on the same grain, and go to the same node
+-- the two rows of a grant have the same source, needs and expiry, are on the same grain, and go to the same node
 pub record IsAlike (g : GrantId) (a b : Grant) : Type 0 where
   pub source : source_of a ≡ source_of b
   pub needs : a.needs ≡ b.needs
   pub grain : a.grain ≡ b.grain
   pub node : node_of g a ≡ node_of g b
+  pub expires : a.expires ≡ b.expires
 
 -- the new grant is of the row: its nodes are those that feed it, its node is the one that it goes to, and its ties are what it
 -- hangs on

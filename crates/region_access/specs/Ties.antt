@@ -1,4 +1,4 @@
--- What grants hang on beside nodes: their grains, and the accounts that they need to be admins.
+-- What grants hang on beside nodes: their grains, the accounts that they need to be admins, and the moments at which they end.
 use Rattle.std.specs.Prelude.{◌≡◌, List, Option, Some, None, Contains}
 use Rattle.std.specs.Global.{Vec}
 use Rattle.host_base.specs.declared.ids.GrantId.{GrantId}
@@ -12,16 +12,18 @@ use Rattle.region_access.specs.declared.tie.Tie.{Tie}
 use Rattle.region_access.specs.declared.tie.Tie.TheVariants as tie
 use Rattle.region_access.specs.Indexed.{listed_in, IsIndexBy}
 
--- the grant is on the grain, or needs the account to be an admin
+-- the grant is on the grain, needs the account to be an admin, or ends at the moment
 abbrev pub IsTied : Tie → Grant → Type 0
 IsTied (tie.Grain n) grant = grant.grain ≡ n
 IsTied (tie.Admin a) grant = Contains grant.needs (need.UserIsAdmin a)
+IsTied (tie.End end) grant = grant.expires ≡ Some end
 
 -- the grant of that number is there, and hangs on the tie
 abbrev pub HangsOn : Tables → Tie → GrantId → Type 0
 HangsOn t on g = (grant : Grant) × IsGrant t g grant × IsTied on grant
 
--- the index has, for each grain, the grants on it, and, for each account, the grants that need it to be an admin, each once
+-- the index has, for each grain, the grants on it, for each account, the grants that need it to be an admin, and, for each
+-- moment, the grants that end then, each once
 abbrev pub IsTiesOf : Tables → (Tie → List GrantId) → Type 0
 IsTiesOf t tied = IsIndexBy (HangsOn t) tied
 

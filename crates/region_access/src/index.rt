@@ -26,5 +26,6 @@ impl Key for Tie {
 /// For each key some grants.
 pub type Index<K> = BTreeMap<K, Vec<GrantId>>;
 
-/// For each grain the grants on it, and for each account the grants that need it to be an admin.
+/// For each grain the grants on it, for each account the grants that need it to be an admin, and for each moment the grants that
+/// end then.
 pub type Ties = Index<Tie>;

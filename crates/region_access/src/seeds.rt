@@ -3,7 +3,7 @@
 ghost use Rattle.std.specs.Prelude.{◌≡◌, ◌⊎◌, ◌↔◌, ◌∷◌, [], Some, IfOk, OnOk, Contains};
 ghost use Rattle.share_graph.specs.declared.facts.Node.{Node};
 ghost use Rattle.share_graph.specs.Coherent.{HasNumbers};
-ghost use Rattle.region_access.specs.Seeds.{IsSeedOfGrant, IsSeedOfGrants, IsSeedOfTie, IsSeedOfOwner, IsSeedOfGrain, IsSeedOfAdmin, IsNodeOfAccount, IsSeedOfAccount, IsSeedOf};
+ghost use Rattle.region_access.specs.Seeds.{IsSeedOfGrant, IsSeedOfGrants, IsSeedOfTie, IsSeedOfOwner, IsSeedOfGrain, IsSeedOfAdmin, IsNodeOfAccount, IsSeedOfAccount, IsSeedOfTies, IsSeedOfTick, IsSeedOf};
 ghost use Rattle.region_access.specs.Ties.{IsTiesOf, tied_in};
 
 use crate::index::Ties;
@@ -13,6 +13,7 @@ use crate::tying::tied_by;
 use host_base::{AccountId, GrainId, GrantId, Memory};
 use share_graph::{Event, Node, Tables, grain, grant, node_of};
 use std::alloc::Global;
+use std::collections::btree_map::Range;
 
 // One node alone.
 fn one(alloc: Global, node: Node) -> Result<Vec<Node>, Memory>
@@ -139,6 +140,43 @@ fn seeds_of_account(
     Ok(nodes)
 }
 
+// Adds the nodes of the grants that stand at some ties.
+fn add_each(
+    tables: &Tables,
+    nodes: &mut Vec<Node>,
+    entries: Range<'_, Tie, Vec<GrantId>>,
+) -> Result<(), Memory>
+    ensures { OnOk result ((at : Node)
+        → Contains nodes.new.items at ↔ (Contains nodes.old.items at
+        ⊎ IsSeedOfTies tables.now entries.entry at)) }
+{
+    for (_, nums) in entries {
+        add_nodes(tables, nodes, nums.as_slice())?;
+    }
+    Ok(())
+}
+
+// The nodes of the grants that end as the clock goes on to a moment. Only the moments in between at which some grant ends are
+// looked at.
+fn seeds_of_tick(
+    alloc: Global,
+    tables: &Tables,
+    ties: &Ties,
+    moment: u64,
+) -> Result<Vec<Node>, Memory>
+    requires { IsTiesOf tables.now (tied_in ties.now.entries) }
+    ensures { IfOk result (λ nodes. (at : Node)
+        → Contains nodes.items at ↔ IsSeedOfTick tables.now moment at) }
+{
+    let mut nodes = Vec::new(alloc);
+    if moment <= tables.moment {
+        return Ok(nodes);
+    }
+    let first = Tie::End(tables.moment + 1);
+    add_each(tables, &mut nodes, ties.range(first..=Tie::End(moment)))?;
+    Ok(nodes)
+}
+
 /// The seeds of an event, by the tables before it and what their grants hang on.
 pub fn seeds_of(
     alloc: Global,
@@ -168,5 +206,6 @@ pub fn seeds_of(
         | Event::SessionOpened(_)
         | Event::SessionClosed(_)
         | Event::HandleMade(_) => Ok(Vec::new(alloc)),
+        Event::Ticked(moment) => seeds_of_tick(alloc, tables, ties, *moment),
     }
 }

@@ -1,6 +1,6 @@
 //! What grants hang on beside nodes.
 
-ghost use Rattle.std.specs.Prelude.{◌≡◌, ◌⊎◌, ◌↔◌, Contains, OnOk, IfOk};
+ghost use Rattle.std.specs.Prelude.{◌≡◌, ◌⊎◌, ◌↔◌, Contains, OnOk, IfOk, option_map};
 ghost use Rattle.share_graph.specs.Coherent.{HasNumbers};
 ghost use Rattle.region_access.specs.declared.tie.Tie.{Tie};
 ghost use Rattle.region_access.specs.Ties.{IsTied, IsTiesOf, IsAskedBy, tie_of as the_tie_of, tied_in};
@@ -24,6 +24,16 @@ fn tie_of(need: &Need) -> Option<Tie>
     }
 }
 
+// What an expiry has its grant hang on.
+fn end_of(expires: Option<u64>) -> Option<Tie>
+    ensures { result ≡ option_map (λ end. Tie.End end) expires }
+{
+    match expires {
+        Some(end) => Some(Tie::End(end)),
+        None => None,
+    }
+}
+
 // Adds what needs have their grant hang on.
 fn add_asked(ties: &mut Vec<Tie>, needs: &[Need]) -> Result<(), Memory>
     ensures { OnOk result ((on : Tie) → Contains ties.new.items on ↔ (Contains ties.old.items on
@@ -41,11 +51,13 @@ pub fn ties_of_grant(alloc: Global, grant: &Grant) -> Result<Vec<Tie>, Memory>
 {
     let mut ties = Vec::new(alloc);
     push_some(&mut ties, Some(Tie::Grain(grant.grain)))?;
+    push_some(&mut ties, end_of(grant.expires))?;
     add_asked(&mut ties, grant.needs.as_slice())?;
     Ok(ties)
 }
 
-/// For each grain the grants on it, and for each account the grants that need it to be an admin.
+/// For each grain the grants on it, for each account the grants that need it to be an admin, and for each moment the grants that
+/// end then.
 pub fn ties_of(alloc: Global, tables: &Tables) -> Result<Ties, Memory>
     requires { HasNumbers tables.now }
     ensures { IfOk result (λ ties. IsTiesOf tables.now (tied_in ties.entries)) }

@@ -2,7 +2,7 @@
 use Rattle.std.specs.Prelude.{ℕ, Bool, List, [], ◌∷◌, codes}
 use Rattle.app_manifest.specs.Fault.{number_of, argument_of}
 use Rattle.share_graph.specs.declared.refusal.Refusal.{Refusal}
-use Rattle.share_graph.specs.declared.refusal.Refusal.TheVariants.{Denied, NotAdmin, NotOwner, NotGiver, Unknown, BadRole, ObsoleteRole, LongSet, BadParent, SelfShare, HandleTaken, LastAdmin, Manifest, AlreadyClaimed, NoSuchOffer, NoMatch, UnknownHandle, TooMany, TokenClash, BadNeed}
+use Rattle.share_graph.specs.declared.refusal.Refusal.TheVariants.{Denied, NotAdmin, NotOwner, NotGiver, Unknown, BadRole, ObsoleteRole, LongSet, BadParent, SelfShare, HandleTaken, LastAdmin, Manifest, AlreadyClaimed, NoSuchOffer, NoMatch, UnknownHandle, TooMany, TokenClash, BadNeed, PastMoment}
 use Rattle.share_graph.specs.Kinds.{kind_number}
 use Rattle.reply_texts.specs.Texts.{own_text, denial_name, denial_numbers, denial_status}
 
@@ -27,6 +27,7 @@ command_name (UnknownHandle n) = codes "UnknownHandle"
 command_name (TooMany kind limit) = codes "TooMany"
 command_name (TokenClash kind n) = codes "TokenClash"
 command_name (BadNeed index) = codes "BadNeed"
+command_name (PastMoment now) = codes "PastMoment"
 
 abbrev pub command_numbers : Refusal → List ℕ
 command_numbers (Denied reason) = denial_numbers reason
@@ -49,6 +50,7 @@ command_numbers (UnknownHandle n) = n ∷ []
 command_numbers (TooMany kind limit) = kind_number kind ∷ limit ∷ []
 command_numbers (TokenClash kind n) = kind_number kind ∷ n ∷ []
 command_numbers (BadNeed index) = index ∷ []
+command_numbers (PastMoment now) = now ∷ []
 
 abbrev pub command_status : Refusal → ℕ
 command_status (Denied reason) = denial_status reason

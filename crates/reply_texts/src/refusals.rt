@@ -36,6 +36,7 @@ fn name_of(refusal: &Refusal) -> &'static str
         Refusal::TooMany(_, _) => "TooMany",
         Refusal::TokenClash(_, _) => "TokenClash",
         Refusal::BadNeed(_) => "BadNeed",
+        Refusal::PastMoment(_) => "PastMoment",
     }
 }
 
@@ -59,6 +60,7 @@ fn numbers_of(refusal: &Refusal) -> Numbers
             Numbers::One(u64::from(*number))
         }
         Refusal::UnknownHandle(number) => Numbers::One(u64::from(*number)),
+        Refusal::PastMoment(moment) => Numbers::One(*moment),
         Refusal::Unknown(kind, number) => of_kind(*kind, u64::from(*number)),
         Refusal::TooMany(kind, limit) => of_kind(*kind, u64::from(*limit)),
         Refusal::TokenClash(kind, number) => of_kind(*kind, *number),

@@ -3,3 +3,4 @@ pub mod Views
 pub mod ValuesRead
 pub mod Written
 pub mod Fitting
+pub mod GrantWritten

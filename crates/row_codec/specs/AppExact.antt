@@ -7,8 +7,8 @@ use Rattle.row_formats.proofs.Fields.{number_exact, text_exact, wide32, wide64}
 use Rattle.row_formats.proofs.Parts.{always_exact, pair_exact, made_exact}
 use Rattle.row_formats.proofs.Choices.{numbered_exact}
 use Rattle.row_formats.proofs.Chains.{chain_exact}
-use Rattle.row_formats.proofs.Basics.{flag_exact, set_exact}
-use Rattle.row_codec.specs.AppRow.{permission, role, quality_number, qualities, quality, tag, descriptor, app}
+use Rattle.row_formats.proofs.Basics.{flag_exact, set_exact, first_version_exact}
+use Rattle.row_codec.specs.AppRow.{permission, role, quality_number, qualities, quality, tag, descriptor, app_fields, app}
 use Rattle.row_codec.specs.ValueExact.{value_exact}
 
 permission_exact : IsExact permission
@@ -28,8 +28,8 @@ descriptor_exact : IsExact descriptor
 descriptor_exact = made_exact _ _ _ (λ y h. refl) (pair_exact _ _ quality_exact (chain_exact 32 (λ last. tag) (λ last. tag_exact)))
 
 pub app_exact : (num : ℕ) → IsExact (app num)
-app_exact num = made_exact _ _ _ (λ y h. refl)
+app_exact num = first_version_exact (app_fields num) (made_exact _ _ _ (λ y h. refl)
     (pair_exact _ _ text_exact (pair_exact _ _ (number_exact w32 wide32)
     (pair_exact _ _ (chain_exact 65535 (λ last. permission) (λ last. permission_exact))
     (pair_exact _ _ (chain_exact 65535 (λ last. role) (λ last. role_exact))
-    (chain_exact 65535 (λ last. descriptor) (λ last. descriptor_exact))))))
+    (chain_exact 65535 (λ last. descriptor) (λ last. descriptor_exact)))))))

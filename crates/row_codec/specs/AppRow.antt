@@ -1,4 +1,4 @@
--- The fields of an application: what its manifest says.
+-- The row of an application: what its manifest says.
 use Rattle.std.specs.Prelude.{ℕ, ◌≤◌, length, List, [], ◌∷◌}
 use Rattle.std.specs.Int.{w32, w64}
 use Rattle.app_manifest.specs.declared.manifest.PermissionDef.{PermissionDef}
@@ -8,7 +8,7 @@ use Rattle.powerbox_match.specs.declared.value.Quality.TheVariants.{Acceptable, 
 use Rattle.powerbox_match.specs.Descriptor.{DescriptorData}
 use Rattle.powerbox_match.specs.Value.{TagData}
 use Rattle.share_graph.specs.declared.rows.App.{App}
-use Rattle.row_formats.specs.Format.{Format, number, text, flag, always, ◌⊗◌, made, choice, list}
+use Rattle.row_formats.specs.Format.{Format, number, text, flag, always, ◌⊗◌, made, choice, list, first_version}
 use Rattle.row_formats.specs.Sets.{set}
 use Rattle.row_codec.specs.ValueFormat.{value}
 
@@ -57,9 +57,13 @@ pub record IsCountableApp (a : App) : Type 0 where
   pub roles : length a.manifest.roles ≤ 65535
   pub descriptors : length a.manifest.match_requests ≤ 65535
 
--- an application: title, version, permissions, roles, descriptors
-abbrev pub app : ℕ → Format App
-app num = made
+-- the fields of an application: title, version, permissions, roles, descriptors
+abbrev pub app_fields : ℕ → Format App
+app_fields num = made
     (λ f. record { num = record { 0 = num }; manifest = record { title = f.0; version = f.1.0; permissions = f.1.1.0; roles = f.1.1.1.0; match_requests = f.1.1.1.1 } })
     (λ a. (a.manifest.title, (a.manifest.version, (a.manifest.permissions, (a.manifest.roles, a.manifest.match_requests)))))
     (text ⊗ number w32 ⊗ list 65535 permission ⊗ list 65535 role ⊗ list 65535 descriptor)
+
+-- an application: version 1, and its fields
+abbrev pub app : ℕ → Format App
+app num = first_version (app_fields num)

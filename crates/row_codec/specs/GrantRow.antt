@@ -1,5 +1,5 @@
--- The fields of a grant, each choice with the numbers of what can stand there.
-use Rattle.std.specs.Prelude.{ℕ, ◌≤◌, length, Bool, false, List, [], ◌∷◌, Option, Some, None}
+-- The row of a grant, each choice with the numbers of what can stand there.
+use Rattle.std.specs.Prelude.{ℕ, ◌≤◌, nat_lt, length, Bool, false, List, [], ◌∷◌, Option, Some, None}
 use Rattle.std.specs.Int.{w16, w32, w64}
 use Rattle.host_base.specs.declared.digest.Digest.{Digest}
 use Rattle.host_base.specs.declared.ids.AccountId.{AccountId}
@@ -10,6 +10,7 @@ use Rattle.perm_roles.specs.declared.perm_set.PermSet.{PermSet}
 use Rattle.perm_roles.specs.declared.roles.Assignment.{Assignment}
 use Rattle.perm_roles.specs.declared.roles.Base.{Base}
 use Rattle.perm_roles.specs.declared.roles.Base.TheVariants as base
+use Rattle.share_graph.specs.Expiry.{IsExpiry}
 use Rattle.share_graph.specs.declared.facts.Node.{Node}
 use Rattle.share_graph.specs.declared.facts.Node.TheVariants as node
 use Rattle.share_graph.specs.declared.grants.Giver.{Giver}
@@ -19,7 +20,7 @@ use Rattle.share_graph.specs.declared.grants.Target.TheVariants as target
 use Rattle.share_graph.specs.declared.grants.Need.{Need}
 use Rattle.share_graph.specs.declared.grants.Need.TheVariants as need
 use Rattle.share_graph.specs.declared.grants.Grant.{Grant}
-use Rattle.row_formats.specs.Format.{Format, number, digest, flag, always, ◌⊗◌, made, choice, list}
+use Rattle.row_formats.specs.Format.{Format, number, digest, flag, always, ◌⊗◌, made, only, choice, list, versions}
 use Rattle.row_formats.specs.Sets.{set}
 use Rattle.row_codec.specs.Ids.{account_id, grain_id, grant_id}
 
@@ -207,13 +208,43 @@ tokens =
 abbrev pub token : Format (Option Digest)
 token = choice 0 token_number tokens
 
--- two bytes can count the needs of a grant
-abbrev pub IsCountableGrant : Grant → Type 0
-IsCountableGrant g = length g.needs ≤ 65535
+-- two bytes can count the needs of a grant, and its expiry, if it has one, is above 0
+pub record IsCountableGrant (g : Grant) : Type 0 where
+  pub needs : length g.needs ≤ 65535
+  pub ends : IsExpiry g.expires
 
--- a grant: grain, giver, target, assignment, needs, token, revoked
-abbrev pub grant : ℕ → Format Grant
-grant num = made
-    (λ f. record { num = record { 0 = num }; grain = f.0; giver = f.1.0; target = f.1.1.0; assignment = f.1.1.1.0; needs = f.1.1.1.1.0; digest = f.1.1.1.1.1.0; revoked = f.1.1.1.1.1.1 })
+-- the fields of a grant without an expiry: grain, giver, target, assignment, needs, token, revoked
+abbrev pub without_expiry : ℕ → Format Grant
+without_expiry num = made
+    (λ f. record { num = record { 0 = num }; grain = f.0; giver = f.1.0; target = f.1.1.0; assignment = f.1.1.1.0; needs = f.1.1.1.1.0; digest = f.1.1.1.1.1.0; revoked = f.1.1.1.1.1.1; expires = None })
     (λ g. (g.grain, (g.giver, (g.target, (g.assignment, (g.needs, (g.digest, g.revoked)))))))
     (grain_id ⊗ giver_format ⊗ target_format ⊗ assignment ⊗ list 65535 need_format ⊗ token ⊗ flag)
+
+-- an expiry, which is above 0: eight bytes
+abbrev pub expiry : Format ℕ
+expiry = only (λ end. nat_lt 0 end) (number w64)
+
+-- the moment of an expiry, with anything where there is none
+abbrev pub expiry_moment : Option ℕ → ℕ
+expiry_moment (Some end) = end
+expiry_moment _ = 0
+
+-- the fields of a grant with an expiry: those of one without, and the expiry
+abbrev pub with_expiry : ℕ → Format Grant
+with_expiry num = made
+    (λ f. record f.0 { expires = Some f.1 })
+    (λ g. (record g { expires = None }, expiry_moment g.expires))
+    (without_expiry num ⊗ expiry)
+
+-- 2 where there is an expiry, and 1 else
+abbrev pub expiry_version : Option ℕ → ℕ
+expiry_version None = 1
+expiry_version (Some end) = 2
+
+-- the version in which a grant is written
+abbrev pub grant_version : Grant → ℕ
+grant_version g = expiry_version g.expires
+
+-- a grant: 1 and the fields without an expiry, or 2 and those with one
+abbrev pub grant : ℕ → Format Grant
+grant num = versions grant_version (without_expiry num ∷ with_expiry num ∷ [])

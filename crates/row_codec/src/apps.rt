@@ -1,6 +1,7 @@
 //! Applications as rows.
 
-ghost use Rattle.row_codec.specs.AppRow.{permission, role, quality, tag, descriptor, app, IsCountableApp};
+ghost use Rattle.row_formats.specs.Gives.{GivesRead};
+ghost use Rattle.row_codec.specs.AppRow.{permission, role, quality, tag, descriptor, app_fields, app, IsCountableApp};
 ghost use Rattle.row_codec.specs.AppExact.{app_exact};
 
 use crate::bodies::Stored;
@@ -117,23 +118,34 @@ impl RowField for Descriptor {
     ghost format = { descriptor };
 }
 
+// The fields of an application, behind the version.
+fn app_fields(alloc: Global, reader: &mut Reader, num: u32) -> Result<App, ReadError>
+    ensures { GivesRead (λ x. x) result reader.new ((app_fields num).read reader.old) }
+{
+    let manifest = Manifest {
+        title: reader.name(alloc)?,
+        version: reader.u32()?,
+        permissions: read_list(alloc, reader, u16::MAX)?,
+        roles: read_list(alloc, reader, u16::MAX)?,
+        match_requests: read_list(alloc, reader, u16::MAX)?,
+    };
+    Ok(App {
+        num: AppId(num),
+        manifest,
+    })
+}
+
 impl Stored for App {
-    fn read_fields(alloc: Global, reader: &mut Reader, num: u32) -> Result<App, ReadError> {
-        let manifest = Manifest {
-            title: reader.name(alloc)?,
-            version: reader.u32()?,
-            permissions: read_list(alloc, reader, u16::MAX)?,
-            roles: read_list(alloc, reader, u16::MAX)?,
-            match_requests: read_list(alloc, reader, u16::MAX)?,
-        };
-        Ok(App {
-            num: AppId(num),
-            manifest,
-        })
+    fn read_row(alloc: Global, reader: &mut Reader, num: u32) -> Result<App, ReadError> {
+        match reader.u8()? {
+            1 => app_fields(alloc, reader, num),
+            version => Err(ReadError::Fault(RowFault::BadVersion(version))),
+        }
     }
 
-    fn write_fields(&self, writer: &mut Writer) -> Result<(), Memory> {
+    fn write_row(&self, writer: &mut Writer) -> Result<(), Memory> {
         let manifest = &self.manifest;
+        writer.u8(1)?;
         writer.name(&manifest.title)?;
         writer.u32(manifest.version)?;
         write_list(writer, &manifest.permissions)?;

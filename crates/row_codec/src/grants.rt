@@ -1,9 +1,10 @@
 //! Grants as rows.
 
-ghost use Rattle.std.specs.Prelude.{◌≡◌, ◌++◌, ◌∷◌, OnOk};
+ghost use Rattle.std.specs.Prelude.{◌≡◌, ◌≤◌, ◌++◌, ◌∷◌, ℕ, length, OnOk};
 ghost use Rattle.std.specs.Int.{w32};
+ghost use Rattle.row_formats.specs.Gives.{GivesRead};
 ghost use Rattle.row_formats.specs.Format.{number};
-ghost use Rattle.row_codec.specs.GrantRow.{giver_format, target_format, base_format, assignment, node_format, need_format, token, grant, IsCountableGrant};
+ghost use Rattle.row_codec.specs.GrantRow.{giver_format, target_format, base_format, assignment, node_format, need_format, token, without_expiry, expiry, with_expiry, grant, IsCountableGrant};
 ghost use Rattle.row_codec.specs.GrantExact.{grant_exact};
 
 use crate::bodies::Stored;
@@ -211,28 +212,78 @@ impl RowField for Option<Digest> {
     ghost format = { token };
 }
 
+// The fields of a grant without an expiry, behind the version.
+fn without_expiry(alloc: Global, reader: &mut Reader, num: u32) -> Result<Grant, ReadError>
+    ensures { GivesRead (λ x. x) result reader.new ((without_expiry num).read reader.old) }
+{
+    Ok(Grant {
+        grain: GrainId(reader.u32()?),
+        giver: Giver::read_field(alloc, reader)?,
+        target: Target::read_field(alloc, reader)?,
+        assignment: Assignment::read_field(alloc, reader)?,
+        needs: read_list(alloc, reader, u16::MAX)?,
+        digest: Option::<Digest>::read_field(alloc, reader)?,
+        revoked: reader.flag()?,
+        num: GrantId(num),
+        expires: None,
+    })
+}
+
+// An expiry, which is above 0.
+fn expiry(reader: &mut Reader) -> Result<u64, ReadError>
+    ensures { GivesRead (λ x. x) result reader.new (expiry.read reader.old) }
+{
+    let at = reader.place();
+    match reader.u64()? {
+        0 => Err(ReadError::Fault(RowFault::BadField(at))),
+        end => Ok(end),
+    }
+}
+
+// The fields of a grant with an expiry, behind the version.
+fn with_expiry(alloc: Global, reader: &mut Reader, num: u32) -> Result<Grant, ReadError>
+    ensures { GivesRead (λ x. x) result reader.new ((with_expiry num).read reader.old) }
+{
+    let mut grant = without_expiry(alloc, reader, num)?;
+    let end = expiry(reader)?;
+    grant.expires = Some(end);
+    Ok(grant)
+}
+
+// Writes a version, and the fields of a grant but for its expiry.
+fn put_fields(writer: &mut Writer, version: u8, grant: &Grant) -> Result<(), Memory>
+    ensures written { OnOk result ((num : ℕ)
+        → writer.new ≡ writer.old ++ version ∷ (without_expiry num).write grant.now) }
+    ensures fits { OnOk result (length grant.now.needs ≤ 65535
+        → (without_expiry grant.now.num.0).fits (record grant.now { expires = None })) }
+{
+    writer.u8(version)?;
+    writer.u32(grant.grain.0)?;
+    grant.giver.write_field(writer)?;
+    grant.target.write_field(writer)?;
+    grant.assignment.write_field(writer)?;
+    write_list(writer, &grant.needs)?;
+    grant.digest.write_field(writer)?;
+    writer.flag(grant.revoked)
+}
+
 impl Stored for Grant {
-    fn read_fields(alloc: Global, reader: &mut Reader, num: u32) -> Result<Grant, ReadError> {
-        Ok(Grant {
-            grain: GrainId(reader.u32()?),
-            giver: Giver::read_field(alloc, reader)?,
-            target: Target::read_field(alloc, reader)?,
-            assignment: Assignment::read_field(alloc, reader)?,
-            needs: read_list(alloc, reader, u16::MAX)?,
-            digest: Option::<Digest>::read_field(alloc, reader)?,
-            revoked: reader.flag()?,
-            num: GrantId(num),
-        })
+    fn read_row(alloc: Global, reader: &mut Reader, num: u32) -> Result<Grant, ReadError> {
+        match reader.u8()? {
+            1 => without_expiry(alloc, reader, num),
+            2 => with_expiry(alloc, reader, num),
+            version => Err(ReadError::Fault(RowFault::BadVersion(version))),
+        }
     }
 
-    fn write_fields(&self, writer: &mut Writer) -> Result<(), Memory> {
-        writer.u32(self.grain.0)?;
-        self.giver.write_field(writer)?;
-        self.target.write_field(writer)?;
-        self.assignment.write_field(writer)?;
-        write_list(writer, &self.needs)?;
-        self.digest.write_field(writer)?;
-        writer.flag(self.revoked)
+    fn write_row(&self, writer: &mut Writer) -> Result<(), Memory> {
+        match self.expires {
+            None => put_fields(writer, 1, self),
+            Some(end) => {
+                put_fields(writer, 2, self)?;
+                writer.u64(end)
+            }
+        }
     }
 
     ghost format = { grant };

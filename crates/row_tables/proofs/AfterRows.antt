@@ -1,5 +1,5 @@
 -- The rows of the tables after an event.
-use Rattle.std.proofs.Common.{◌≡◌, ℕ, zero, suc, ◌+◌, ◌≤◌, ◌<◌, Bool, true, List, [], ◌∷◌, ◌++◌, length, Option, Result, Ok, Err, refl, sym, ap, subst, ◌∙◌, append-nil, arith}
+use Rattle.std.proofs.Common.{◌≡◌, ℕ, zero, suc, ◌+◌, ◌≤◌, ◌<◌, Bool, true, List, [], ◌∷◌, ◌++◌, length, Option, Some, None, Result, Ok, Err, refl, sym, ap, subst, ◌∙◌, append-nil, arith}
 use Rattle.std.specs.Prelude.{IfOk, OnOk}
 use Rattle.host_base.specs.declared.bytes.Memory.{Memory}
 use Rattle.std.proofs.lemmas.List.{length-append}
@@ -23,7 +23,7 @@ use Rattle.row_formats.specs.Format.{Format}
 use Rattle.row_formats.proofs.Fits.{flag_fits}
 use Rattle.row_codec.specs.Rows.{account, grain, saved}
 use Rattle.row_codec.specs.AppRow.{app}
-use Rattle.row_codec.specs.GrantRow.{grant}
+use Rattle.row_codec.specs.GrantRow.{without_expiry, grant}
 use Rattle.row_tables.specs.Sections.{stored, section_rows, SectionFits}
 use Rattle.row_tables.specs.TablesRows.{HaveRows, rows_of}
 use Rattle.row_tables.specs.RowAfter.{AddedFits, row_after}
@@ -60,8 +60,16 @@ enabled_fits on n a h = ((h.0.0, (h.0.1.0, (h.0.1.1.0, (h.0.1.1.1.0, flag_fits o
 trashed_fits : (on : Bool) (n : ℕ) (g : Grain) → (grain n).fits g → (grain n).fits (with_trashed on g)
 trashed_fits on n g h = ((h.0.0, (h.0.1.0, (h.0.1.1.0, flag_fits on))), ap (with_trashed on) h.1)
 
+revoked_fields : (n : ℕ) (g : Grant) → (without_expiry n).fits g → (without_expiry n).fits (revoked g)
+revoked_fields n g h = ((h.0.0, (h.0.1.0, (h.0.1.1.0, (h.0.1.1.1.0, (h.0.1.1.1.1.0, (h.0.1.1.1.1.1.0, flag_fits true)))))), ap revoked h.1)
+
+revoked_by : (n : ℕ) (g : Grant) (expires : Option ℕ) → (grant n).fits (record g { expires = expires }) → (grant n).fits (revoked (record g { expires = expires }))
+revoked_by n g None h = revoked_fields n (record g { expires = None }) h
+revoked_by n g (Some end) h = ((revoked_fields n (record g { expires = None }) h.0.0, h.0.1), ap revoked h.1)
+
+-- its expiry stays
 revoked_fits : (n : ℕ) (g : Grant) → (grant n).fits g → (grant n).fits (revoked g)
-revoked_fits n g h = ((h.0.0, (h.0.1.0, (h.0.1.1.0, (h.0.1.1.1.0, (h.0.1.1.1.1.0, (h.0.1.1.1.1.1.0, flag_fits true)))))), ap revoked h.1)
+revoked_fits n g h = revoked_by n g g.expires h
 
 dropped_fits : (n : ℕ) (s : Saved) → (saved n).fits s → (saved n).fits (dropped s)
 dropped_fits n s h = ((h.0.0, (h.0.1.0, (h.0.1.1.0, (h.0.1.1.1.0, flag_fits true)))), ap dropped h.1)
@@ -102,6 +110,7 @@ have_rows_after s (event.RunStopped r) f fits h = h
 have_rows_after s (event.SessionOpened session) f fits h = h
 have_rows_after s (event.SessionClosed n) f fits h = h
 have_rows_after s (event.HandleMade handle) f fits h = h
+have_rows_after s (event.Ticked m) f fits h = record { accounts = h.accounts; apps = h.apps; grains = h.grains; grants = h.grants; saved = h.saved }
 
 -- ---- their rows are the rows before, with the one that is put among them
 
@@ -182,6 +191,7 @@ rows_after s (event.RunStopped r) f = refl
 rows_after s (event.SessionOpened session) f = refl
 rows_after s (event.SessionClosed n) f = refl
 rows_after s (event.HandleMade handle) f = refl
+rows_after s (event.Ticked m) f = refl
 
 -- the rows of tables, with the row of an event put among them, are the rows of the tables after the event
 pub are_rows_after : (s : State) (t : Tables) (e : Event) (rows : List Row) (r : Option Row) → s.tables ≡ t → EventFits s e → AddedFits e → r ≡ row_after t e → AreRowsOf t rows → AreRowsOf (tables_after t e) (with_row r rows)

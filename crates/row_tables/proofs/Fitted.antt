@@ -1,5 +1,5 @@
 -- Values of one kind that fit their rows, and the numbers that they carry.
-use Rattle.std.proofs.Common.{◌≡◌, ℕ, zero, suc, ◌+◌, ◌≤◌, List, [], ◌∷◌, length, Some, None, Result, Ok, Err, refl, sym, ap, subst, ◌∙◌, arith, inl, inr}
+use Rattle.std.proofs.Common.{◌≡◌, ℕ, zero, suc, ◌+◌, ◌≤◌, List, [], ◌∷◌, length, Option, Some, None, Result, Ok, Err, refl, sym, ap, subst, ◌∙◌, arith, inl, inr}
 use Rattle.std.specs.Prelude.{All, IfOk, slice_get}
 use Rattle.std.proofs.lemmas.List.Elements.{All-head, All-tail}
 use Rattle.share_graph.specs.declared.state.State.{State}
@@ -37,12 +37,19 @@ from_one : {A : Type 0} (limit : ℕ) (format : ℕ → Format A) (num : A → �
     → (i : ℕ) (x : A) → slice_get xs i ≡ Some x → num x ≡ i + 1
 from_one limit format num own xs fits i x e = numbered_from limit format num own 1 xs fits i x e ∙ omega arith
 
+grant_number : (n : ℕ) (g : Grant) → (grant n).fits g → g.num.0 ≡ n
+grant_number n g fits = by_expiry g.expires fits
+  where
+    by_expiry : (expires : Option ℕ) → (grant n).fits (record g { expires = expires }) → g.num.0 ≡ n
+    by_expiry None h = sym (ap (λ (b : Grant). b.num.0) h.1)
+    by_expiry (Some end) h = sym (ap (λ (b : Grant). b.num.0) h.0.0.1)
+
 are_numbered : (t : Tables) → HaveRows t → TablesAreNumbered t
 are_numbered t h = record {
   accounts = from_one 4096 account (λ a. a.num.0) (λ n a fits. sym (ap (λ b. b.num.0) fits.1)) t.accounts h.accounts;
   apps = from_one 256 app (λ a. a.num.0) (λ n a fits. sym (ap (λ b. b.num.0) fits.1)) t.apps h.apps;
   grains = from_one 16384 grain (λ g. g.num.0) (λ n g fits. sym (ap (λ b. b.num.0) fits.1)) t.grains h.grains;
-  grants = from_one 65536 grant (λ g. g.num.0) (λ n g fits. sym (ap (λ b. b.num.0) fits.1)) t.grants h.grants;
+  grants = from_one 65536 grant (λ g. g.num.0) grant_number t.grants h.grants;
   saved = from_one 65536 saved (λ s. s.num.0) (λ n s fits. sym (ap (λ b. b.num.0) fits.1)) t.saved h.saved;
 }
 
@@ -87,7 +94,7 @@ grant_countable t i g h = elim h [
           | inl bad ↦ absurd (none_some _ bad.0)
           | inr sets ↦ elim sets.1 [
             | inl bad ↦ absurd (none_some _ bad.0)
-            | inr good ↦ omega (arith, good.0.few_needs)
+            | inr good ↦ record { needs = omega (arith, good.0.few_needs); ends = good.0.ends }
           ]
         ]
       ]

@@ -1,6 +1,7 @@
 pub mod SectionLoop
 pub mod SectionExact
 pub mod Listing
+pub mod AtStart
 pub mod Refusing
 pub mod ListRows
 pub mod NextRows

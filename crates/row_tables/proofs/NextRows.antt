@@ -28,3 +28,4 @@ fits_next s (event.RunStopped r) h = tt
 fits_next s (event.SessionOpened session) h = tt
 fits_next s (event.SessionClosed n) h = tt
 fits_next s (event.HandleMade handle) h = tt
+fits_next s (event.Ticked m) h = tt

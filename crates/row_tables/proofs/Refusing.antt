@@ -16,9 +16,10 @@ use Rattle.row_tables.specs.declared.stored.BadRow.{BadRow}
 use Rattle.row_tables.specs.declared.stored.LoadFault.{LoadFault}
 use Rattle.row_tables.specs.declared.stored.LoadFault.TheVariants as load
 use Rattle.row_tables.specs.Sections.{SectionFits, FailsRows, GivesRow}
-use Rattle.row_tables.specs.TablesRows.{HaveRows, tables_of}
+use Rattle.row_tables.specs.TablesRows.{HaveRows, at_start, tables_of}
 use Rattle.row_tables.specs.Checks.{bad_ref, GivesTables}
 use Rattle.row_tables.specs.Kept.{AreRowsOf}
+use Rattle.row_tables.proofs.AtStart.{checked_at_start}
 use Rattle.row_tables.proofs.SectionExact.{tables_again}
 
 few : {A : Type 0} (limit : ℕ) (format : ℕ → Format A) (n : ℕ) (xs : List A) → n ≤ limit + 1 → SectionFits limit format n xs → n + length xs ≤ limit + 1
@@ -49,12 +50,17 @@ pub are_checked : (r : Result Tables LoadFault) (rows : List Row) → GivesTable
 are_checked (Ok t) rows h = h.1
 are_checked (Err e) rows h = tt
 
-pub is_only : (r : Result Tables LoadFault) (rows : List Row) → GivesTables r rows → (t : Tables) → AreRowsOf t rows → IsChecked t → GivesRow (λ u. u) r (Ok t)
+pub is_only : (r : Result Tables LoadFault) (rows : List Row) → GivesTables r rows → (t : Tables) → AreRowsOf t rows → IsChecked t → GivesRow (λ u. u) r (Ok (at_start t))
 is_only (Ok u) rows h t are checked = sym (ap tables_of are.rows_are ∙ tables_again t are.have) ∙ h.0
 is_only (Err load.Memory) rows h t are checked = tt
 is_only (Err (load.BadRow bad)) rows h t are checked =
-    let read : tables_of rows ≡ Ok t = ap tables_of are.rows_are ∙ tables_again t are.have in
+    let read : tables_of rows ≡ Ok (at_start t) = ap tables_of are.rows_are ∙ tables_again t are.have in
     elim h [
-      | inl early ↦ absurd (let both : Ok t ≡ Err bad = sym read ∙ early in cc)
-      | inr w ↦ absurd (let same : w.0 ≡ t = ok_is w.0 t (sym w.1 ∙ read) in fault_refutes t w.2.0 (subst (λ (u : Tables). TablesFault u (Some w.2.0)) same w.2.1) checked)
+      | inl early ↦ absurd (let both : Ok (at_start t) ≡ Err bad = sym read ∙ early in cc)
+      | inr w ↦ absurd (let same : w.0 ≡ at_start t = ok_is w.0 (at_start t) (sym w.1 ∙ read) in fault_refutes (at_start t) w.2.0 (subst (λ (u : Tables). TablesFault u (Some w.2.0)) same w.2.1) (checked_at_start t checked))
     ]
+
+-- and it has the moment of a start
+pub all_start : (r : Result Tables LoadFault) (rows : List Row) → GivesTables r rows → IfOk r (λ t. AreRowsOf t rows) → IfOk r (λ t. t.moment ≡ 0)
+all_start (Ok t) rows h are = let same : at_start t ≡ t = ok_is (at_start t) t (is_only (Ok t) rows h t are h.1) in sym (ap (λ (u : Tables). u.moment) same)
+all_start (Err e) rows h are = tt

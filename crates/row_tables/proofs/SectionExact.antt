@@ -8,7 +8,7 @@ use Rattle.row_formats.specs.declared.fault.RowFault.TheVariants.{BadField}
 use Rattle.cloud_keeper.specs.declared.row.Row.{Row}
 use Rattle.row_tables.specs.declared.stored.LoadFault.{LoadFault}
 use Rattle.row_formats.specs.Place.{◌>>=◌, whole}
-use Rattle.row_formats.specs.Format.{Format, first_version}
+use Rattle.row_formats.specs.Format.{Format}
 use Rattle.row_formats.specs.Exact.{IsBytes}
 use Rattle.row_formats.specs.Exact.{IsExact, Spells}
 use Rattle.share_graph.specs.declared.state.Tables.{Tables}
@@ -16,10 +16,9 @@ use Rattle.row_codec.specs.Rows.{account, grain, saved}
 use Rattle.row_codec.specs.AppRow.{app}
 use Rattle.row_codec.specs.GrantRow.{grant}
 use Rattle.row_tables.specs.Sections.{at_row, row_at, body_of, with_first, section_at, section_rows, SectionFits, IsPast, GivesRow, AreBytes, blank}
-use Rattle.row_tables.specs.TablesRows.{rows_of, HaveRows, ended_rows, tables_of}
+use Rattle.row_tables.specs.TablesRows.{rows_of, HaveRows, at_start, ended_rows, tables_of}
 use Rattle.row_tables.specs.Kept.{AreRowsOf}
 use Rattle.row_formats.proofs.Steps.{bind_ok, bind_at, ok_is}
-use Rattle.row_formats.proofs.Basics.{first_version_exact}
 use Rattle.row_formats.proofs.Whole.{whole_found, whole_again}
 use Rattle.row_codec.specs.RowsExact.{account_exact, grain_exact, saved_exact}
 use Rattle.row_codec.specs.AppExact.{app_exact}
@@ -42,24 +41,24 @@ all_bytes (row ∷ rows) h = (h 0 (omega arith), all_bytes rows (λ k lt. h (suc
 
 -- what was read of a row: its number, and its body
 row_found : {A : Type 0} (limit : ℕ) (body : ℕ → Format A) → ((n : ℕ) → IsExact (body n)) → (n i : ℕ) (row : Row) (x : A) → IsBytes row.body → row_at limit (body_of body) n i row ≡ Ok x
-    → (row.num ≡ n) × (n ≤ limit) × Spells (first_version (body n)) x row.body
+    → (row.num ≡ n) × (n ≤ limit) × Spells (body n) x row.body
 row_found {A} limit body exact n i row x fits e = this (eqb row.num n && leb n limit) refl e
   where
     located : (r : Result A RowFault) → at_row i r ≡ Ok x → r ≡ Ok x
     located (Ok y) h = ap (λ (z : A). Ok z) (ok_is y x h)
     located (Err f) h = absurd cc
 
-    this : (b : Bool) → (eqb row.num n && leb n limit) ≡ b → cond b (at_row i (whole (first_version (body n)).read row.body)) (Err (record { index = i; fault = BadField 0 })) ≡ Ok x → (row.num ≡ n) × (n ≤ limit) × Spells (first_version (body n)) x row.body
+    this : (b : Bool) → (eqb row.num n && leb n limit) ≡ b → cond b (at_row i (whole (body n).read row.body)) (Err (record { index = i; fault = BadField 0 })) ≡ Ok x → (row.num ≡ n) × (n ≤ limit) × Spells (body n) x row.body
     this true t h =
         let both = and_parts (eqb row.num n) (leb n limit) t in
-        (eqb-true row.num n both.0, leb-true n limit both.1, whole_found (first_version (body n)) (first_version_exact (body n) (exact n)) row.body x fits (located (whole (first_version (body n)).read row.body) h))
+        (eqb-true row.num n both.0, leb-true n limit both.1, whole_found (body n) (exact n) row.body x fits (located (whole (body n).read row.body) h))
     this false t h = absurd cc
 
-row_again : {A : Type 0} (limit : ℕ) (body : ℕ → Format A) → ((n : ℕ) → IsExact (body n)) → (kind n i : ℕ) (x : A) → n ≤ limit → (first_version (body n)).fits x
-    → row_at limit (body_of body) n i (record { kind = kind; num = n; body = (first_version (body n)).write x }) ≡ Ok x
+row_again : {A : Type 0} (limit : ℕ) (body : ℕ → Format A) → ((n : ℕ) → IsExact (body n)) → (kind n i : ℕ) (x : A) → n ≤ limit → (body n).fits x
+    → row_at limit (body_of body) n i (record { kind = kind; num = n; body = (body n).write x }) ≡ Ok x
 row_again {A} limit body exact kind n i x le fits =
     let good : (eqb n n && leb n limit) ≡ true = and_from (eqb n n) (leb n limit) (eq-eqb n n refl) (le-leb n limit le) in
-    rw (good, whole_again (first_version (body n)) (first_version_exact (body n) (exact n)) ((first_version (body n)).write x) x (record { fits = fits; text = refl })) refl
+    rw (good, whole_again (body n) (exact n) ((body n).write x) x (record { fits = fits; text = refl })) refl
 
 row_is : (row : Row) (k n : ℕ) (bs : List ℕ) → row.kind ≡ k → row.num ≡ n → row.body ≡ bs → row ≡ record { kind = k; num = n; body = bs }
 row_is row k n bs ek en eb =
@@ -86,8 +85,8 @@ section_found {A} kind limit body exact n i (row ∷ rows) xs j rest all e =
         let r = row_found limit body exact n i row a.0 all.0 a.1 in
         let s = next b.0 b.1 in
         let k : row.kind ≡ kind = eqb-true row.kind kind t in
-        let head : row ≡ record { kind = kind; num = n; body = (first_version (body n)).write a.0 } = row_is row kind n ((first_version (body n)).write a.0) k r.0 r.2.text in
-        let whole_list : (row ∷ rows) ≡ section_rows kind body n (a.0 ∷ b.0.0) ++ b.0.1.1 = ap (λ (q : Row). q ∷ rows) head ∙ ap (λ (qs : List Row). record { kind = kind; num = n; body = (first_version (body n)).write a.0 } ∷ qs) s.0 in
+        let head : row ≡ record { kind = kind; num = n; body = (body n).write a.0 } = row_is row kind n ((body n).write a.0) k r.0 r.2.text in
+        let whole_list : (row ∷ rows) ≡ section_rows kind body n (a.0 ∷ b.0.0) ++ b.0.1.1 = ap (λ (q : Row). q ∷ rows) head ∙ ap (λ (qs : List Row). record { kind = kind; num = n; body = (body n).write a.0 } ∷ qs) s.0 in
         subst (λ (y : List A × (ℕ × List Row)). ((row ∷ rows) ≡ section_rows kind body n y.0 ++ y.1.1) × SectionFits limit body n y.0 × AllBytes y.1.1) (ok_is (a.0 ∷ b.0.0, b.0.1) (xs, (j, rest)) b.2)
         (whole_list, (r.1, r.2.fits, s.1), s.2)
     this false t next h =
@@ -102,7 +101,7 @@ section_again {A} kind limit body exact n i (x ∷ xs) rest fits past =
     let moved : suc i + length xs ≡ i + suc (length xs) = omega arith in
     let others = section_again kind limit body exact (suc n) (suc i) xs rest fits.2 past in
     rw (eq-eqb kind kind refl)
-    (bind_at (row_at limit (body_of body) n i (record { kind = kind; num = n; body = (first_version (body n)).write x })) _ x _ (row_again limit body exact kind n i x fits.0 fits.1)
+    (bind_at (row_at limit (body_of body) n i (record { kind = kind; num = n; body = (body n).write x })) _ x _ (row_again limit body exact kind n i x fits.0 fits.1)
     (bind_at (section_at kind limit (body_of body) (suc n) (suc i) (section_rows kind body (suc n) xs ++ rest)) _ (xs, (suc i + length xs, rest)) _ others
     (ap (λ (k : ℕ). Ok (x ∷ xs, (k, rest))) moved)))
 
@@ -151,7 +150,7 @@ past_grants kind t ne other = past_rows kind 4 grant 1 t.grants (section_rows 5 
 past_grains : (kind : ℕ) (t : Tables) → 3 ≢ kind → 4 ≢ kind → 5 ≢ kind → IsPast kind (section_rows 3 grain 1 t.grains ++ (section_rows 4 grant 1 t.grants ++ section_rows 5 saved 1 t.saved))
 past_grains kind t ne next other = past_rows kind 3 grain 1 t.grains (section_rows 4 grant 1 t.grants ++ section_rows 5 saved 1 t.saved) ne (past_grants kind t next other)
 
-pub tables_again : (t : Tables) → HaveRows t → tables_of (rows_of t) ≡ Ok t
+pub tables_again : (t : Tables) → HaveRows t → tables_of (rows_of t) ≡ Ok (at_start t)
 unfolding tables_of
 tables_again t h =
     let saveds : List Row = section_rows 5 saved 1 t.saved in

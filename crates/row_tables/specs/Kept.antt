@@ -5,7 +5,7 @@ use Rattle.cloud_keeper.specs.declared.row.Row.{Row}
 use Rattle.cloud_keeper.specs.Keeping.{Keeping, put}
 use Rattle.row_tables.specs.TablesRows.{HaveRows, rows_of}
 
--- THESE ARE THE ROWS OF THE TABLES: each fits its format, so they are read back.
+-- THESE ARE THE ROWS OF THE TABLES, of which the moment is none: each fits its format, so they are read back.
 pub record AreRowsOf (t : Tables) (rows : List Row) : Type 0 where
   pub have : HaveRows t
   pub rows_are : rows ≡ rows_of t

@@ -30,6 +30,7 @@ AddsNext t (event.RunStopped r) = Unit {0}
 AddsNext t (event.SessionOpened session) = Unit {0}
 AddsNext t (event.SessionClosed n) = Unit {0}
 AddsNext t (event.HandleMade handle) = Unit {0}
+AddsNext t (event.Ticked m) = Unit {0}
 
 -- the row that the event adds fits the row of the number that it carries
 abbrev pub AddedFits : Event → Type 0
@@ -41,6 +42,6 @@ AddedFits (event.Claimed row handle) = IsCountableGrant row → (grant row.num.0
 AddedFits (event.SavedAdded row) = (saved row.num.0).fits row
 AddedFits _ = Unit {0}
 
--- the row that the event adds or changes, in the tables after it; none where it leaves the tables as they are
+-- the row that the event adds or changes, in the tables after it; none where it leaves their rows as they are
 abbrev pub row_after : Tables → Event → Option Row
 row_after t e = option_and_then (λ named. row_of (tables_after t e) named.0 named.1) (changed_row e)

@@ -3,7 +3,7 @@ use Rattle.std.specs.Prelude.{◌≡◌, ◌≢◌, ℕ, ◌<◌, slice_index_or
 use Rattle.row_formats.specs.declared.fault.RowFault.{RowFault}
 use Rattle.row_formats.specs.declared.fault.RowFault.TheVariants.{BadField}
 use Rattle.row_formats.specs.Place.{◌>>=◌, whole}
-use Rattle.row_formats.specs.Format.{Format, first_version}
+use Rattle.row_formats.specs.Format.{Format}
 use Rattle.row_formats.specs.Exact.{IsBytes}
 use Rattle.cloud_keeper.specs.declared.row.Row.{Row}
 use Rattle.row_tables.specs.declared.stored.BadRow.{BadRow}
@@ -14,9 +14,9 @@ use Rattle.row_tables.specs.declared.stored.LoadFault.TheVariants as load
 abbrev pub ReadRows : Type 0 → Type 0
 ReadRows A = Result (A × (ℕ × List Row)) BadRow
 
--- what a body states as the row of a number, whose fields have a format
+-- what a body states as the row of a number, which has a format
 abbrev pub body_of : {A : Type 0} → (ℕ → Format A) → ℕ → List ℕ → Result A RowFault
-body_of format n body = whole (first_version (format n)).read body
+body_of format n body = whole (format n).read body
 
 -- a row's first fault, with the row's index
 abbrev pub at_row : {A : Type 0} → ℕ → Result A RowFault → Result A BadRow
@@ -42,7 +42,7 @@ section_at kind limit read n i (row ∷ rows) =
 
 -- the row of a number that a value is written as
 abbrev pub stored : {A : Type 0} → ℕ → (ℕ → Format A) → ℕ → A → Row
-stored kind format n x = record { kind = kind; num = n; body = (first_version (format n)).write x }
+stored kind format n x = record { kind = kind; num = n; body = (format n).write x }
 
 -- the rows that values of one kind are written as, numbered from n on
 abbrev pub section_rows : {A : Type 0} → ℕ → (ℕ → Format A) → ℕ → List A → List Row
@@ -52,9 +52,9 @@ section_rows kind format n (x ∷ xs) = stored kind format n x ∷ section_rows 
 -- values of one kind have such rows, of at most so many
 abbrev pub SectionFits : {A : Type 0} → ℕ → (ℕ → Format A) → ℕ → List A → Type 0
 SectionFits limit format n [] = Unit {0}
-SectionFits limit format n (x ∷ xs) = (n ≤ limit) × (first_version (format n)).fits x × SectionFits limit format (suc n) xs
+SectionFits limit format n (x ∷ xs) = (n ≤ limit) × (format n).fits x × SectionFits limit format (suc n) xs
 
--- a value fits the row of the number that it carries, where no list of it is too long to be counted
+-- a value fits the row of the number that it carries, where it is countable
 abbrev pub FitsOwn : {A : Type 0} → (ℕ → Format A) → (A → ℕ) → (A → Type 0) → A → Type 0
 FitsOwn format carried is_countable x = is_countable x → (format (carried x)).fits x
 

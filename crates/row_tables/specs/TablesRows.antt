@@ -29,7 +29,11 @@ abbrev pub ended_rows : Tables → ℕ → List Row → Result Tables BadRow
 ended_rows t i [] = Ok t
 ended_rows t i (row ∷ rows) = Err (record { index = i; fault = BadField 0 })
 
--- the tables that rows state, or the first bad row
+-- the tables with the moment of a start, which is no row
+abbrev pub at_start : Tables → Tables
+at_start t = record t { moment = 0 }
+
+-- the tables that rows state, at a start, or the first bad row
 unfoldable pub tables_of : List Row → Result Tables BadRow
 tables_of rows = do
   a ← section_at 1 4096 (body_of account) 1 0 rows
@@ -37,4 +41,4 @@ tables_of rows = do
   n ← section_at 3 16384 (body_of grain) 1 p.1.0 p.1.1
   g ← section_at 4 65536 (body_of grant) 1 n.1.0 n.1.1
   s ← section_at 5 65536 (body_of saved) 1 g.1.0 g.1.1
-  ended_rows (record { accounts = a.0; apps = p.0; grains = n.0; grants = g.0; saved = s.0 }) s.1.0 s.1.1
+  ended_rows (record { accounts = a.0; apps = p.0; grains = n.0; grants = g.0; saved = s.0; moment = 0 }) s.1.0 s.1.1

@@ -161,12 +161,13 @@ fn event_row(alloc: Global, tables: &Tables, event: &Event) -> Result<Option<Row
         | Event::RunStopped(_)
         | Event::SessionOpened(_)
         | Event::SessionClosed(_)
-        | Event::HandleMade(_) => Ok(None),
+        | Event::HandleMade(_)
+        | Event::Ticked(_) => Ok(None),
     }
 }
 
 /// Writes the row that an event adds to the tables or changes in them, as it stands after the event. An event that changes sessions,
-/// runs or handles alone has none.
+/// runs, handles or the moment alone has none.
 pub fn row_after(alloc: Global, tables: &Tables, event: &Event) -> Result<Option<Row>, Memory>
     requires { AddsNext tables.now event.now }
     ensures row { IfOk result (λ r. r ≡ row_after tables.now event.now) }

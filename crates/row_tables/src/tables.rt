@@ -6,7 +6,7 @@ ghost use Rattle.share_graph.specs.WellFormed.{IsWithinLimits};
 ghost use Rattle.share_graph.specs.declared.state.Tables.{Tables};
 ghost use Rattle.row_tables.specs.Sections.{GivesRow, AreBytes};
 ghost use Rattle.row_tables.specs.Checks.{GivesTables};
-ghost use Rattle.row_tables.specs.TablesRows.{tables_of, ended_rows};
+ghost use Rattle.row_tables.specs.TablesRows.{tables_of, at_start, ended_rows};
 ghost use Rattle.row_tables.specs.Kept.{AreRowsOf};
 ghost use Rattle.row_tables.specs.Numbered.{TablesAreNumbered};
 
@@ -48,6 +48,7 @@ fn read_all(alloc: Global, rows: &[Row]) -> Result<Tables, LoadFault>
         grains,
         grants,
         saved,
+        moment: 0,
     };
     ended(tables, rows, at)
 }
@@ -74,7 +75,7 @@ fn read_checked(alloc: Global, rows: &[Row]) -> Result<Tables, LoadFault>
     }
 }
 
-/// Reads the tables that rows state.
+/// Reads the tables that rows state, at a start.
 ///
 /// # Errors
 /// Want of memory, and the first bad row.
@@ -85,8 +86,12 @@ pub fn tables_of(alloc: Global, rows: &[Row]) -> Result<Tables, LoadFault>
     ensures checked { IfOk result IsChecked }
     ensures numbered { IfOk result TablesAreNumbered }
 
-    // Tables without a fault are read of their rows, unless memory runs out.
-    ensures only { (t : Tables) → AreRowsOf t rows.now → IsChecked t → GivesRow (λ u. u) result (Ok t) }
+    // The moment is that of a start.
+    ensures moment { IfOk result (λ t. t.moment ≡ 0) }
+
+    // Tables without a fault are read of their rows, with the moment of a start, unless memory runs out.
+    ensures only { (t : Tables) → AreRowsOf t rows.now → IsChecked t
+        → GivesRow (λ u. u) result (Ok (at_start t)) }
 
     // Which row is bad first, and how.
     ensures exact { GivesTables result rows.now }

@@ -70,17 +70,17 @@ bare m b listed = record { add = none_within _; remove = none_within _; listed =
 module _ (s : State) (formed : IsWellFormed s) where
   -- what is chosen for a grain to claim fits
   choice_fits : (n m : GrainId) (from : Giver) (assignment : Assignment) (admin_only : Bool) (by : AccountId) → HasGrain s.tables n → HasGrain s.tables m → HasAccount s.tables by → KnowsGiver s.tables from
-      → ((d : Digest) → GiverFits s.tables from (new_grant s.tables m from (target.Claim n) assignment (admin_needs admin_only by) (Some d))) → ForApp s.tables m (λ app. IsAssignmentFor app.manifest assignment)
-      → RowFits s true (adds s (token_step s.tables m from (target.Claim n) assignment (admin_needs admin_only by)))
+      → ((d : Digest) → GiverFits s.tables from (new_grant s.tables m from (target.Claim n) assignment (admin_needs admin_only by) None (Some d))) → ForApp s.tables m (λ app. IsAssignmentFor app.manifest assignment)
+      → RowFits s true (adds s (token_step s.tables m from (target.Claim n) assignment (admin_needs admin_only by) None))
   choice_fits n m from assignment admin_only by there other account giver may assigned =
-      adds_fits s (Drawn λ d. GrantAdded (new_grant s.tables m from (target.Claim n) assignment (admin_needs admin_only by) (Some d))) (made_grant s.tables) λ room d unused.
-      grant_added_fits s formed (new_grant s.tables m from (target.Claim n) assignment (admin_needs admin_only by) (Some d)) (record {
+      adds_fits s (Drawn λ d. GrantAdded (new_grant s.tables m from (target.Claim n) assignment (admin_needs admin_only by) None (Some d))) (made_grant s.tables) λ room d unused.
+      grant_added_fits s formed (new_grant s.tables m from (target.Claim n) assignment (admin_needs admin_only by) None (Some d)) (record {
         num = refl;
         room = room_of kind.Grant 65536 _ room;
         knows = record { grain = other; giver = giver; target = there; needs = admin_needs_all (KnowsNeed s.tables) admin_only by account };
         parent = record { giver = may d; needs = admin_needs_all (NeedFits s.tables) admin_only by tt };
         sets = record { assignment = assigned; needs = admin_needs_all (NeedSetFits s.tables) admin_only by tt };
-        shares = record { token = (d, refl); few_needs = few_admin_needs admin_only by };
+        shares = record { token = (d, refl); few_needs = few_admin_needs admin_only by; ends = tt };
         unused = unused;
       })
 
@@ -141,7 +141,7 @@ claim_fits s formed who token set =
           needs = all_one (NeedFits s.tables) holds tt;
         };
         sets = record { assignment = (app, its, bare app.manifest base.AllAccess tt); needs = all_one (NeedSetFits s.tables) holds fits };
-        shares = record { token = refl; few_needs = omega arith };
+        shares = record { token = refl; few_needs = omega arith; ends = tt };
         unused = tt;
       };
       run = run;

@@ -32,13 +32,13 @@ ChooseGrain s n m query assignment from =
     access (node.User m from) of s then
     unless IsMatching s.tables m query then (Refuses NoMatch) else
     role assignment on m of s then
-    adds s (token_step s.tables m (giver.Account from) (target.Claim n) assignment [])
+    adds s (token_step s.tables m (giver.Account from) (target.Claim n) assignment [] None)
 
 -- choose, of an item of a site: NoSuchOffer where the sites have none; else it is told whether the offer is for admins alone
 abbrev pub ChooseSite : State → GrainId → ℕ → ℕ → Option Bool → AccountId → Step → Type 0
 ChooseSite s n tag item None from step = step ≡ Refuses NoSuchOffer
 ChooseSite s n tag item (Some admin_only) from step =
-    adds s (token_step s.tables n (giver.Site from tag item) (target.Claim n) no_role (admin_needs admin_only from)) step
+    adds s (token_step s.tables n (giver.Site from tag item) (target.Claim n) no_role (admin_needs admin_only from) None) step
 
 abbrev pub ChooseOffer : State → GrainId → Offer → List DescriptorData → Assignment → Option Bool → AccountId → Step → Type 0
 ChooseOffer s n (offer.Grain m) query assignment offered from step = ChooseGrain s n m query assignment from step

@@ -29,7 +29,7 @@ admin_needs false a = []
 -- what a grain holds once it claimed: all that the chosen grant has, while its root maker holds the set on the holder
 abbrev pub claimed_grant : Tables → GrainId → Grant → PermSet → AccountId → Grant
 claimed_grant t holder chosen set maker =
-    new_grant t chosen.grain (giver.Grant chosen.num) (target.Grain holder) all_access (need.PermissionsHeld (node.User holder maker) set ∷ []) None
+    new_grant t chosen.grain (giver.Grant chosen.num) (target.Grain holder) all_access (need.PermissionsHeld (node.User holder maker) set ∷ []) None None
 
 -- how many handles a run has
 abbrev pub count_of : List Handle → RunId → ℕ

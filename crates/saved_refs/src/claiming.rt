@@ -94,6 +94,7 @@ pub fn claim(
         all_access(),
         needs,
         None,
+        None,
     );
     let made = Made {
         grant: Some(place),

@@ -79,7 +79,7 @@ fn choose_grain(
     has_grant_room(&state.tables)?;
     let (giver, target) = (Giver::Account(by), Target::Claim(num));
     let needs = Needs::empty(alloc);
-    Ok(draft_grant(state, other, giver, target, *assignment, needs))
+    Ok(draft_grant(state, other, giver, target, *assignment, needs, None))
 }
 
 // Chooses an item of a site, where the sites have it; they may offer it to admins alone.
@@ -101,7 +101,7 @@ fn choose_site(
     has_grant_room(&state.tables)?;
     let (giver, target) = (Giver::Site { by, tag, item }, Target::Claim(num));
     let needs = admin_needs(alloc, admin_only, by)?;
-    Ok(draft_grant(state, num, giver, target, no_role(), needs))
+    Ok(draft_grant(state, num, giver, target, no_role(), needs, None))
 }
 
 /// Chooses what a grain, to which the caller has access, may claim by a token, which is drawn: another grain of which the caller

@@ -1,6 +1,6 @@
 -- Each command makes one step at the most.
-use Rattle.std.proofs.Common.{Bool, List}
-use Rattle.desk_base.specs.Terms.{AccountId, Assignment, Caller, Digest, Giver, GrainId, Grant, GrantId, IsOne}
+use Rattle.std.proofs.Common.{ℕ, Bool, List, Option}
+use Rattle.desk_base.specs.Terms.{AccountId, Assignment, Caller, Digest, Giver, GrainId, GrantId, IsOne}
 use Rattle.desk_base.specs.Terms.{IsWellFormed, Need, State, Target}
 use Rattle.share_graph.specs.declared.facts.Node.TheVariants as node
 use Rattle.share_graph.specs.declared.grants.Giver.TheVariants as giver
@@ -16,28 +16,28 @@ use Rattle.desk_base.proofs.GivenRoles.{role_one}
 use Rattle.share_desk.specs.Commands.{Gives, Share, MakeToken, Child, Redeem, Revoke}
 
 module _ (s : State) (formed : IsWellFormed s) (who : Caller) where
-  gives_one : (n : GrainId) (from : Giver) (to : Target) (assignment : Assignment) (wanted : List Need) → IsOne (Gives s n from to assignment wanted)
-  gives_one n from to assignment wanted = role_one s n assignment (needs_one s wanted (adds_one s _))
+  gives_one : (n : GrainId) (from : Giver) (to : Target) (assignment : Assignment) (wanted : List Need) (expires : Option ℕ) → IsOne (Gives s n from to assignment wanted expires)
+  gives_one n from to assignment wanted expires = role_one s n assignment (needs_one s wanted (unless_one (adds_one s _)))
 
-  pub share_one : (n : GrainId) (to : AccountId) (assignment : Assignment) (wanted : List Need) → IsOne (Share s who n to assignment wanted)
-  share_one n to assignment wanted =
+  pub share_one : (n : GrainId) (to : AccountId) (assignment : Assignment) (wanted : List Need) (expires : Option ℕ) → IsOne (Share s who n to assignment wanted expires)
+  share_one n to assignment wanted expires =
       by_account_one s formed who λ from.
       known_grain_one s n λ grain.
       known_account_one s to λ account.
       entry_one denies s.tables (node.User n from.num) (when_one (
-      gives_one n (giver.Account from.num) (target.User to) assignment wanted))
+      gives_one n (giver.Account from.num) (target.User to) assignment wanted expires))
 
-  pub make_token_one : (n : GrainId) (for_sharing : Bool) (assignment : Assignment) (wanted : List Need) → IsOne (MakeToken s who n for_sharing assignment wanted)
-  make_token_one n for_sharing assignment wanted =
+  pub make_token_one : (n : GrainId) (for_sharing : Bool) (assignment : Assignment) (wanted : List Need) (expires : Option ℕ) → IsOne (MakeToken s who n for_sharing assignment wanted expires)
+  make_token_one n for_sharing assignment wanted expires =
       by_account_one s formed who λ from.
       known_grain_one s n λ grain.
       entry_one denies s.tables (node.User n from.num) (
-      gives_one n (giver.Account from.num) (target.Bearer for_sharing) assignment wanted)
+      gives_one n (giver.Account from.num) (target.Bearer for_sharing) assignment wanted expires)
 
-  pub child_one : (for_sharing : Bool) (assignment : Assignment) (wanted : List Need) → IsOne (Child s who for_sharing assignment wanted)
-  child_one for_sharing assignment wanted =
+  pub child_one : (for_sharing : Bool) (assignment : Assignment) (wanted : List Need) (expires : Option ℕ) → IsOne (Child s who for_sharing assignment wanted expires)
+  child_one for_sharing assignment wanted expires =
       by_bearer_one s formed who λ from.
-      gives_one from.grain (giver.Grant from.num) (target.Bearer for_sharing) assignment wanted
+      gives_one from.grain (giver.Grant from.num) (target.Bearer for_sharing) assignment wanted expires
 
   pub redeem_one : (token : Digest) → IsOne (Redeem s who token)
   redeem_one token =

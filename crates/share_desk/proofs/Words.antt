@@ -1,5 +1,5 @@
 -- What the tests of this desk tell, and what is added for a gift, by whom it goes to.
-use Rattle.std.proofs.Common.{◌≡◌, Bool, List, length, refl, subst, inl, inr}
+use Rattle.std.proofs.Common.{◌≡◌, ℕ, Bool, List, Option, length, refl, subst, inl, inr}
 use Rattle.desk_base.specs.Terms.{Assignment, Caller, Giver, GrainId, Grant, HasGrain, IsBearerOf, IsOneOf}
 use Rattle.desk_base.specs.Terms.{IsWellFormed, Need, State, Target}
 use Rattle.share_graph.specs.declared.fault.Kind.TheVariants as kind
@@ -26,16 +26,16 @@ caller_grain s formed who grant passes =
     let one = caller_is s who grant (passes (Keeps nothing_made)) in
     ((coherent s.tables formed.tables).grants grant.num grant (listed_row (λ (x : Grant). x.num.0) s.tables.grants grant formed.numbered.grants one.listed)).knows.grain
 
-module _ (s : State) (n : GrainId) (from : Giver) (assignment : Assignment) (wanted : List Need) where
+module _ (s : State) (n : GrainId) (from : Giver) (assignment : Assignment) (wanted : List Need) (expires : Option ℕ) where
   -- a gift is one more of the grants
-  pub gift_limit : (to : Target) → limit_at s (give_step s.tables n from to assignment wanted) ≡ too_many kind.Grant (length s.tables.grants)
+  pub gift_limit : (to : Target) → limit_at s (give_step s.tables n from to assignment wanted expires) ≡ too_many kind.Grant (length s.tables.grants)
   gift_limit (target.Bearer for_sharing) = refl
   gift_limit (target.User a) = refl
   gift_limit (target.Claim h) = refl
   gift_limit (target.Grain h) = refl
 
   -- only a bearer has a token
-  pub others_gift : (to : Target) → ((for_sharing : Bool) → to ≡ target.Bearer for_sharing → ⊥) → give_step s.tables n from to assignment wanted ≡ grant_step s.tables n from to assignment wanted
+  pub others_gift : (to : Target) → ((for_sharing : Bool) → to ≡ target.Bearer for_sharing → ⊥) → give_step s.tables n from to assignment wanted expires ≡ grant_step s.tables n from to assignment wanted expires
   others_gift (target.Bearer for_sharing) other = absurd (other for_sharing refl)
   others_gift (target.User a) other = refl
   others_gift (target.Claim h) other = refl

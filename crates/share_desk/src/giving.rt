@@ -4,12 +4,15 @@ ghost use Rattle.desk_base.specs.Terms.{HasGrain, IsWellFormed};
 ghost use Rattle.desk_base.specs.Outcomes.{IsCarried};
 ghost use Rattle.share_desk.specs.Commands.{Gives};
 
-use desk_base::{Answer, add_grant, draft_grant, given_role, good_needs, has_grant_room};
+use desk_base::{
+    Answer, add_grant, draft_grant, given_role, good_expiry, good_needs, has_grant_room,
+};
 use host_base::GrainId;
 use perm_roles::Assignment;
 use share_graph::{Giver, Needs, State, Target};
 
-// Gives what an assignment says, under needs, on a grain that is there. Whoever bears a token gets one, which is drawn.
+// Gives what an assignment says, under needs and until the expiry, on a grain that is there. Whoever bears a token gets
+// one, which is drawn.
 pub(crate) fn give(
     state: &State,
     num: GrainId,
@@ -17,17 +20,27 @@ pub(crate) fn give(
     target: Target,
     assignment: &Assignment,
     needs: &Needs,
+    expires: Option<u64>,
 ) -> Answer
     requires formed { IsWellFormed state.now }
     requires there { HasGrain state.now.tables num }
-    ensures { IsCarried (Gives state.now num giver target assignment.now needs.now) result }
+    ensures { IsCarried (Gives state.now num giver target assignment.now needs.now expires) result }
 {
     given_role(&state.tables, num, assignment)?;
     good_needs(&state.tables, needs)?;
+    good_expiry(&state.tables, expires)?;
     has_grant_room(&state.tables)?;
     let needs = needs.clone()?;
     match target {
-        Target::Bearer { .. } => Ok(draft_grant(state, num, giver, target, *assignment, needs)),
-        _ => Ok(add_grant(state, num, giver, target, *assignment, needs)),
+        Target::Bearer { .. } => Ok(draft_grant(
+            state,
+            num,
+            giver,
+            target,
+            *assignment,
+            needs,
+            expires,
+        )),
+        _ => Ok(add_grant(state, num, giver, target, *assignment, needs, expires)),
     }
 }

@@ -46,5 +46,5 @@ pub fn redeem(
     has_grant_room(&state.tables)?;
     let (giver, target) = (Giver::Grant(link.num), Target::User(account.num));
     let needs = Needs::empty(alloc);
-    Ok(add_grant(state, link.grain, giver, target, all_access(), needs))
+    Ok(add_grant(state, link.grain, giver, target, all_access(), needs, None))
 }

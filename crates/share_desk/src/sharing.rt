@@ -13,7 +13,8 @@ use least_access::Solved;
 use perm_roles::Assignment;
 use share_graph::{Caller, Giver, Needs, Node, Refusal, State, Target};
 
-/// Shares a grain, to which the caller has access, with another account. The reply shows the number of the grant.
+/// Shares a grain, to which the caller has access, with another account, until the expiry, if there is one, in seconds.
+/// The reply shows the number of the grant.
 #[tactic(auto, using(crate::proofs::OneRows::share_one, crate::proofs::FitRows::share_fits))]
 pub fn share(
     state: &State,
@@ -23,12 +24,14 @@ pub fn share(
     to: AccountId,
     assignment: &Assignment,
     needs: &Needs,
+    expires: Option<u64>,
 ) -> Answer
     requires formed { IsWellFormed state.now }
     requires solution { IsSolutionOf state.now.tables solved.now }
-    ensures row { IsCarried (Share state.now caller.now num to assignment.now needs.now) result }
-    ensures one { IsOne (Share state.now caller.now num to assignment.now needs.now) }
-    ensures fits { RowFits state.now false (Share state.now caller.now num to assignment.now needs.now) }
+    ensures row { IsCarried (Share state.now caller.now num to assignment.now needs.now expires) result }
+    ensures one { IsOne (Share state.now caller.now num to assignment.now needs.now expires) }
+    ensures fits { RowFits state.now false
+        (Share state.now caller.now num to assignment.now needs.now expires) }
 {
     let from = caller_account(state, caller)?;
     known_grain(&state.tables, num)?;
@@ -38,5 +41,5 @@ pub fn share(
         return Err(Stop::Refused(Refusal::SelfShare));
     }
     let (giver, target) = (Giver::Account(from.num), Target::User(to));
-    give(state, num, giver, target, assignment, needs)
+    give(state, num, giver, target, assignment, needs, expires)
 }

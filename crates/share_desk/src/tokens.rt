@@ -14,7 +14,7 @@ use perm_roles::Assignment;
 use share_graph::{Caller, Giver, Needs, State, Target};
 
 /// Makes a token, which is drawn, to a grain to which the caller has access: for sharing it is a link, and else an API token.
-/// The reply shows the number of the grant.
+/// The grant lasts until the expiry, if there is one, in seconds. The reply shows its number.
 #[tactic(auto, using(crate::proofs::OneRows::make_token_one, crate::proofs::FitRows::make_token_fits))]
 pub fn make_token(
     state: &State,
@@ -24,21 +24,23 @@ pub fn make_token(
     for_sharing: bool,
     assignment: &Assignment,
     needs: &Needs,
+    expires: Option<u64>,
 ) -> Answer
     requires formed { IsWellFormed state.now }
     requires solution { IsSolutionOf state.now.tables solved.now }
-    ensures row { IsCarried (MakeToken state.now caller.now num for_sharing assignment.now needs.now) result }
-    ensures one { IsOne (MakeToken state.now caller.now num for_sharing assignment.now needs.now) }
+    ensures row { IsCarried
+        (MakeToken state.now caller.now num for_sharing assignment.now needs.now expires) result }
+    ensures one { IsOne (MakeToken state.now caller.now num for_sharing assignment.now needs.now expires) }
     ensures fits { RowFits state.now true
-        (MakeToken state.now caller.now num for_sharing assignment.now needs.now) }
+        (MakeToken state.now caller.now num for_sharing assignment.now needs.now expires) }
 {
     let from = caller_on(state, solved, caller, num)?;
     let (giver, target) = (Giver::Account(from.num), Target::Bearer { for_sharing });
-    give(state, num, giver, target, assignment, needs)
+    give(state, num, giver, target, assignment, needs, expires)
 }
 
-/// Makes a further token, which is drawn, from the grant whose token the caller bears, on the same grain. The reply shows the
-/// number of its grant.
+/// Makes a further token, which is drawn, from the grant whose token the caller bears, on the same grain, until the
+/// expiry, if there is one, in seconds. The reply shows the number of its grant.
 #[tactic(auto, using(crate::proofs::OneRows::child_one, crate::proofs::FitRows::child_fits))]
 pub fn child(
     state: &State,
@@ -47,14 +49,16 @@ pub fn child(
     for_sharing: bool,
     assignment: &Assignment,
     needs: &Needs,
+    expires: Option<u64>,
 ) -> Answer
     requires formed { IsWellFormed state.now }
     requires solution { IsSolutionOf state.now.tables solved.now }
-    ensures row { IsCarried (Child state.now caller.now for_sharing assignment.now needs.now) result }
-    ensures one { IsOne (Child state.now caller.now for_sharing assignment.now needs.now) }
-    ensures fits { RowFits state.now true (Child state.now caller.now for_sharing assignment.now needs.now) }
+    ensures row { IsCarried (Child state.now caller.now for_sharing assignment.now needs.now expires) result }
+    ensures one { IsOne (Child state.now caller.now for_sharing assignment.now needs.now expires) }
+    ensures fits { RowFits state.now true
+        (Child state.now caller.now for_sharing assignment.now needs.now expires) }
 {
     let from = caller_grant(state, solved, caller)?;
     let (giver, target) = (Giver::Grant(from.num), Target::Bearer { for_sharing });
-    give(state, from.grain, giver, target, assignment, needs)
+    give(state, from.grain, giver, target, assignment, needs, expires)
 }

@@ -1,7 +1,7 @@
 -- A node has one first missing step at the most.
-use Rattle.std.proofs.Common.{◌≡◌, ◌<◌, ◌⊎◌, ℕ, List, Option, Some, None, sym, ◌∙◌, ap, subst, arith, inl, inr}
+use Rattle.std.proofs.Common.{◌≡◌, ◌<◌, ◌≤◌, ◌⊎◌, ℕ, List, Option, Some, None, sym, ◌∙◌, ap, subst, arith, inl, inr}
 use Rattle.host_base.specs.declared.verdict.Denial.{Denial}
-use Rattle.host_base.specs.declared.verdict.Denial.TheVariants.{Unmet}
+use Rattle.host_base.specs.declared.verdict.Denial.TheVariants.{Expired, Unmet}
 use Rattle.host_base.specs.declared.ids.GrantId.{GrantId}
 use Rattle.share_graph.specs.declared.facts.Fact.TheVariants.{Open}
 use Rattle.share_graph.specs.declared.facts.Node.{Node}
@@ -11,8 +11,9 @@ use Rattle.share_graph.specs.declared.grants.Need.{Need}
 use Rattle.share_graph.specs.declared.state.Tables.{Tables}
 use Rattle.share_graph.specs.Callers.{entry}
 use Rattle.share_graph.specs.Derivation.{Holds}
+use Rattle.share_graph.specs.Expiry.{Lasts}
 use Rattle.share_graph.specs.Forms.{IsOne}
-use Rattle.share_graph.specs.Missing.{AreMet, IsFirstUnmet, IsUnmet, GrantMissing, IsMissing}
+use Rattle.share_graph.specs.Missing.{AreMet, HasEnded, IsFirstUnmet, IsUnmet, GrantMissing, IsMissing}
 use Rattle.share_graph.proofs.Contained.{contains_at}
 use Rattle.share_graph.proofs.OneAnswer.{answers_one, when_one, unless_one, must_one}
 
@@ -31,8 +32,24 @@ unmet_one t g grant = record { one = λ a b x y. x.1 ∙ ap (λ (i : ℕ). Some 
 met_apart : (t : Tables) (g : GrantId) (grant : Grant) (a : Option Denial) → AreMet t grant.needs → IsUnmet t g grant a → ⊥
 met_apart t g grant a met x = x.2.unmet (met x.2.need (contains_at grant.needs x.0 x.2.need x.2.there))
 
+ended_one : (t : Tables) (g : GrantId) (grant : Grant) → IsOne (HasEnded t g grant)
+ended_one t g grant = record {
+  one = λ a b x y.
+      let both : Some x.0 ≡ Some y.0 = sym x.2 ∙ y.2 in
+      let same : x.0 ≡ y.0 = cc both in
+      x.1 ∙ ap (λ (end : ℕ). Some (Expired g end)) same ∙ sym y.1;
+}
+
+lasts_apart_by : (now : ℕ) (expires : Option ℕ) (end : ℕ) → expires ≡ Some end → Lasts now expires → end ≤ now → ⊥
+lasts_apart_by now None end is lasts come = cc is
+lasts_apart_by now (Some other) end is lasts come = let same : other ≡ end = cc is in omega (arith, lasts, come, same)
+
+lasts_apart : (t : Tables) (g : GrantId) (grant : Grant) (a : Option Denial) → Lasts t.moment grant.expires → HasEnded t g grant a → ⊥
+lasts_apart t g grant a lasts x = lasts_apart_by t.moment grant.expires x.0 x.2 lasts x.3
+
 grant_one : (t : Tables) (g : GrantId) (grant : Grant) → IsOne (GrantMissing t g grant)
-grant_one t g grant = when_one (unless_one (when_one (must_one (met_apart t g grant) (unmet_one t g grant) (answers_one _))))
+grant_one t g grant =
+    when_one (unless_one (when_one (must_one (lasts_apart t g grant) (ended_one t g grant) (must_one (met_apart t g grant) (unmet_one t g grant) (answers_one _)))))
 
 missing_cases : (t : Tables) (at : Node) (a b : Option Denial) → IsMissing t at a → IsMissing t at b → a ≡ b
 missing_cases t (node.User n u) a b x y = (when_one (unless_one (unless_one (answers_one _)))).one a b x y
@@ -67,5 +84,6 @@ none_held t (node.User n u) (inr (never, inr (kept, inr (on, e)))) = cc
 none_held t (node.Grant g) (grant, is, inl (e, held)) = held
 none_held t (node.Grant g) (grant, is, inr (never, inl (e, out))) = cc
 none_held t (node.Grant g) (grant, is, inr (never, inr (kept, inl (e, gone)))) = cc
-none_held t (node.Grant g) (grant, is, inr (never, inr (kept, inr (live, inl (i, e, first))))) = cc
-none_held t (node.Grant g) (grant, is, inr (never, inr (kept, inr (live, inr (met, e))))) = cc
+none_held t (node.Grant g) (grant, is, inr (never, inr (kept, inr (live, inl (end, e, expires, come))))) = cc
+none_held t (node.Grant g) (grant, is, inr (never, inr (kept, inr (live, inr (lasts, inl (i, e, first)))))) = cc
+none_held t (node.Grant g) (grant, is, inr (never, inr (kept, inr (live, inr (lasts, inr (met, e)))))) = cc

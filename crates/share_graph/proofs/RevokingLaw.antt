@@ -31,10 +31,10 @@ module _ (t : Tables) (gs : List Grant) (g : GrantId)
   live_before : (h : GrantId) (grant : Grant) → IsLive after h grant → (h ≢ g) × IsLive t h grant
   live_before h grant l =
       let ne = live_other h grant l.is_row l.live in
-      (ne, record { is_row = sym (others h ne) ∙ l.is_row; live = l.live })
+      (ne, record { is_row = sym (others h ne) ∙ l.is_row; live = l.live; lasts = l.lasts })
 
   live_after : (h : GrantId) (grant : Grant) → h ≢ g → IsLive t h grant → IsLive after h grant
-  live_after h grant ne l = record { is_row = others h ne ∙ l.is_row; live = l.live }
+  live_after h grant ne l = record { is_row = others h ne ∙ l.is_row; live = l.live; lasts = l.lasts }
 
   pub before : {at : Node} {fact : Fact} → Derivation after at fact → HoldsWithout t g at fact
   before (own o r) = (own (record { is_row = o.is_row; of_app = o.of_app; kept = o.kept; enabled = o.enabled }) r, λ used. used)

@@ -13,6 +13,7 @@ use Rattle.share_graph.specs.declared.grants.Need.TheVariants as need
 use Rattle.share_graph.specs.declared.rows.App.{App}
 use Rattle.share_graph.specs.declared.rows.Grain.{Grain}
 use Rattle.share_graph.specs.declared.state.Tables.{Tables}
+use Rattle.share_graph.specs.Expiry.{Lasts}
 use Rattle.share_graph.specs.Rows.{IsApp, IsGrain, IsGrant, IsEnabled, IsAdmin, IsKept}
 use Rattle.share_graph.specs.Nodes.{node_of, source_of, MayReceive, Gives}
 
@@ -28,10 +29,11 @@ abbrev pub IsFactOf : App → Fact → Type 0
 IsFactOf app Open = Unit {0}
 IsFactOf app (Perm p) = p < length app.manifest.permissions
 
--- The grant is there and not revoked.
+-- The grant is there, not revoked, and hasn't ended by itself.
 pub record IsLive (t : Tables) (g : GrantId) (grant : Grant) : Type 0 where
   pub is_row : IsGrant t g grant
   pub live : grant.revoked ≡ false
+  pub lasts : Lasts t.moment grant.expires
 
 -- The grant passes the fact on, where its source holds it: an account that it goes to is enabled, and it lets the fact
 -- through.

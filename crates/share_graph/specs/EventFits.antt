@@ -1,4 +1,5 @@
 -- When an event fits a state.
+use Rattle.std.specs.Prelude.{◌<◌}
 use Rattle.share_graph.specs.declared.event.Event.{Event}
 use Rattle.share_graph.specs.declared.event.Event.TheVariants as event
 use Rattle.share_graph.specs.declared.rows.Saved.{Saved}
@@ -10,7 +11,7 @@ use Rattle.share_graph.specs.Known.{HasAccount, HasGrain, HasGrant}
 use Rattle.share_graph.specs.Rows.{IsSaved, IsSession, IsRun}
 use Rattle.share_graph.specs.WellFormed.{IsWellFormed}
 
--- the row that the event changes is there; a row that it adds needs none
+-- the row that the event changes is there; a row that it adds needs none; and a tick goes on from the moment
 abbrev pub HasChanged : State → Event → Type 0
 HasChanged s (event.AdminSet a on) = HasAccount s.tables a
 HasChanged s (event.EnabledSet a on) = HasAccount s.tables a
@@ -28,8 +29,10 @@ HasChanged s (event.Claimed grant handle) = Unit {0}
 HasChanged s (event.RunStarted run) = Unit {0}
 HasChanged s (event.SessionOpened session) = Unit {0}
 HasChanged s (event.HandleMade handle) = Unit {0}
+HasChanged s (event.Ticked m) = s.tables.moment < m
 
--- An event fits a state: the row that it changes is there, and the state after it is well formed.
+-- An event fits a state: the row that it changes is there, or its moment is above the last one, and the state after it is
+-- well formed.
 pub record EventFits (s : State) (e : Event) : Type 0 where
   pub changed : HasChanged s e
   pub formed : IsWellFormed (after s e)

@@ -18,6 +18,7 @@ use Rattle.share_graph.specs.declared.grants.Target.TheVariants as target
 use Rattle.share_graph.specs.declared.rows.App.{App}
 use Rattle.share_graph.specs.declared.rows.Saved.{Saved}
 use Rattle.share_graph.specs.declared.state.Tables.{Tables}
+use Rattle.share_graph.specs.Expiry.{IsExpiry}
 use Rattle.share_graph.specs.Rows.{IsAppOf, IsGrant}
 
 -- The manifest is within its limits, its permissions have names of the right form and of their own, its roles' sets fit, and one
@@ -71,10 +72,11 @@ TokenFits (target.Claim h) digest = (d : Digest) × (digest ≡ Some d)
 TokenFits (target.User a) digest = digest ≡ None
 TokenFits (target.Grain h) digest = digest ≡ None
 
--- the grant has a token where it has to, and at most eight needs
+-- the grant has a token where it has to, at most eight needs, and an expiry that a grant can have
 pub record SharesWell (grant : Grant) : Type 0 where
   pub token : TokenFits grant.target grant.digest
   pub few_needs : length grant.needs ≤ 8
+  pub ends : IsExpiry grant.expires
 
 -- the saved reference is to a grant that its holder claimed
 abbrev pub IsReference : Tables → Saved → Type 0

@@ -50,6 +50,7 @@ tables_after t (event.RunStopped r) = t
 tables_after t (event.SessionOpened session) = t
 tables_after t (event.SessionClosed n) = t
 tables_after t (event.HandleMade handle) = t
+tables_after t (event.Ticked m) = record t { moment = m }
 
 -- THE STEP of the machine: the state after an event
 abbrev pub after : State → Event → State
@@ -69,6 +70,7 @@ after s (event.RunStopped r) = record s { runs = change_row stopped s.runs r.0 }
 after s (event.SessionOpened session) = record s { sessions = opened s.sessions session }
 after s (event.SessionClosed n) = record s { sessions = change_row closed s.sessions n.0 }
 after s (event.HandleMade handle) = record s { handles = s.handles ++ handle ∷ [] }
+after s (event.Ticked m) = record s { tables = tables_after s.tables (event.Ticked m) }
 
 -- the state after a list of events
 abbrev pub replay : State → List Event → State
@@ -88,4 +90,5 @@ IsOfTables (event.RunStopped r) = ⊥
 IsOfTables (event.SessionOpened session) = ⊥
 IsOfTables (event.SessionClosed n) = ⊥
 IsOfTables (event.HandleMade handle) = ⊥
+IsOfTables (event.Ticked m) = ⊥
 IsOfTables _ = Unit {0}

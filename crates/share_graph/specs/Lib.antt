@@ -1,6 +1,7 @@
 pub mod Rows
 pub mod Nodes
 pub mod NodeOrder
+pub mod Expiry
 pub mod Derivation
 pub mod Trees
 pub mod Known

@@ -1,10 +1,10 @@
 -- The first step that is missing where a node holds no entry.
-use Rattle.std.specs.Prelude.{◌≡◌, ◌<◌, ℕ, List, Option, Some, None, Contains, slice_get, true}
+use Rattle.std.specs.Prelude.{◌≡◌, ◌<◌, ◌≤◌, ℕ, List, Option, Some, None, Contains, slice_get, true}
 use Rattle.host_base.specs.declared.ids.AccountId.{AccountId}
 use Rattle.host_base.specs.declared.ids.GrainId.{GrainId}
 use Rattle.host_base.specs.declared.ids.GrantId.{GrantId}
 use Rattle.host_base.specs.declared.verdict.Denial.{Denial}
-use Rattle.host_base.specs.declared.verdict.Denial.TheVariants.{GrainTrashed, AccountDisabled, Revoked, Unmet, SourceLost, NoShare}
+use Rattle.host_base.specs.declared.verdict.Denial.TheVariants.{GrainTrashed, AccountDisabled, Revoked, Expired, Unmet, SourceLost, NoShare}
 use Rattle.share_graph.specs.declared.facts.Fact.TheVariants.{Open}
 use Rattle.share_graph.specs.declared.facts.Node.{Node}
 use Rattle.share_graph.specs.declared.facts.Node.TheVariants as node
@@ -12,6 +12,7 @@ use Rattle.share_graph.specs.declared.grants.Grant.{Grant}
 use Rattle.share_graph.specs.declared.grants.Need.{Need}
 use Rattle.share_graph.specs.declared.state.Tables.{Tables}
 use Rattle.share_graph.specs.Derivation.{Holds, IsMet}
+use Rattle.share_graph.specs.Expiry.{Lasts}
 use Rattle.share_graph.specs.Forms.{answers, when◌then◌else◌, unless◌then◌else◌, must◌or◌then◌}
 use Rattle.share_graph.specs.Known.{HasAccount, HasGrain}
 use Rattle.share_graph.specs.Parents.{IsOwnNode}
@@ -37,6 +38,10 @@ pub record IsFirstUnmet (t : Tables) (needs : List Need) (i : ℕ) : Type 0 wher
 abbrev pub IsUnmet : Tables → GrantId → Grant → Option Denial → Type 0
 IsUnmet t g grant a = (i : ℕ) × (a ≡ Some (Unmet g i)) × IsFirstUnmet t grant.needs i
 
+-- the answer that the grant has ended, with its expiry
+abbrev pub HasEnded : Tables → GrantId → Grant → Option Denial → Type 0
+HasEnded t g grant a = (end : ℕ) × (a ≡ Some (Expired g end)) × (grant.expires ≡ Some end) × (end ≤ t.moment)
+
 -- for an account on a grain: the grain is in the trash, the account is disabled, or no derivation leads to it
 abbrev pub UserMissing : Tables → GrainId → AccountId → Option Denial → Type 0
 UserMissing t n a =
@@ -45,12 +50,13 @@ UserMissing t n a =
     unless IsEnabled t a then Some (AccountDisabled a) else
     answers (Some (NoShare n a))
 
--- for a grant: its grain is in the trash, it is revoked, a need of it is unmet, or what it was given from is lost
+-- for a grant: its grain is in the trash, it is revoked, it has ended, a need of it is unmet, or what it was given from is lost
 abbrev pub GrantMissing : Tables → GrantId → Grant → Option Denial → Type 0
 GrantMissing t g grant =
     when Holds t (node.Grant g) Open then None else
     unless IsKept t grant.grain then Some (GrainTrashed grant.grain) else
     when grant.revoked ≡ true then Some (Revoked g) else
+    must Lasts t.moment grant.expires or HasEnded t g grant then
     must AreMet t grant.needs or IsUnmet t g grant then
     answers (Some (SourceLost g))
 

@@ -1,5 +1,6 @@
 ghost use Rattle.std.specs.Prelude.{◌≡◌, ◌↔◌, IsTrue, MatchOption, true};
 ghost use Rattle.share_graph.specs.declared.rows.App.{App};
+ghost use Rattle.share_graph.specs.Expiry.{Lasts};
 ghost use Rattle.share_graph.specs.Keys.{IsBearer};
 ghost use Rattle.share_graph.specs.Missing.{IsNode};
 ghost use Rattle.share_graph.specs.Nodes.{MayReceive};
@@ -64,6 +65,16 @@ pub fn may_receive(tables: &Tables, target: Target) -> bool
         Target::Bearer { .. } => true,
         Target::Claim(_) => true,
         Target::Grain(_) => true,
+    }
+}
+
+/// Whether a grant with that expiry, if it has one, hasn't ended at a moment.
+pub fn lasts(moment: u64, expires: Option<u64>) -> bool
+    ensures { IsTrue result ↔ Lasts moment expires }
+{
+    match expires {
+        Some(end) => moment < end,
+        None => true,
     }
 }
 

@@ -24,4 +24,6 @@ pub enum Event {
     SessionOpened(Session),
     SessionClosed(SessionId),
     HandleMade(Handle),
+    /// The clock is at this moment, which is above the one before. Grants whose expiry isn't above it have ended.
+    Ticked(u64),
 }

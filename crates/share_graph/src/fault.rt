@@ -55,7 +55,7 @@ pub enum GraphFault {
     /// The row has a set, a role or a manifest that doesn't fit.
     #[error("a set, a role or a manifest doesn't fit")]
     BadSet(Kind, u32),
-    /// The row has a handle, a token, a reference or more needs than it can have.
-    #[error("a handle, a token, a reference or the needs don't fit")]
+    /// The row has a handle, a token, a reference, an expiry or more needs than it can have.
+    #[error("a handle, a token, a reference, an expiry or the needs don't fit")]
     BadShare(Kind, u32),
 }

@@ -45,6 +45,8 @@ pub struct Grant {
     pub needs: Needs,
     pub digest: Option<Digest>,
     pub revoked: bool,
+    /// The moment from which on it passes nothing on, in seconds, from 1 on. Without one it doesn't end by itself.
+    pub expires: Option<u64>,
 }
 
 // Written by hand, as those of the other rows are.
@@ -59,6 +61,7 @@ impl Drop for Grant {
             needs: _,
             digest: _,
             revoked: _,
+            expires: _,
         } = self;
     }
 }
@@ -78,6 +81,7 @@ impl Clone for Grant {
             needs: self.needs.clone()?,
             digest: self.digest,
             revoked: self.revoked,
+            expires: self.expires,
         })
     }
 }

@@ -23,7 +23,7 @@ mod setters;
 mod state;
 mod ways;
 
-pub use asking::{app_of, is_admin, is_bearer, is_enabled, is_kept, is_node, may_receive};
+pub use asking::{app_of, is_admin, is_bearer, is_enabled, is_kept, is_node, lasts, may_receive};
 pub use clashing::clash;
 pub use desk::{Caller, DeskFault, Made, Offer};
 pub use digests::Digested;

@@ -66,4 +66,7 @@ pub enum Refusal {
     /// The need at that index, from 0, can't be had.
     #[error("need {0} can't be had")]
     BadNeed(u16),
+    /// A grant would end at once: its expiry isn't above this moment, the last one.
+    #[error("the expiry isn't above {0}")]
+    PastMoment(u64),
 }

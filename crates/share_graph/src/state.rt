@@ -6,7 +6,8 @@ use crate::rows::{Account, App, Grain, Saved};
 use crate::sessions::{Handle, Run, Session};
 use host_base::Memory;
 
-/// What the server keeps over a restart. Each list is in the order of its rows' numbers, from 1.
+/// What the server keeps over a restart, each list in the order of its rows' numbers, from 1. And the moment of the last tick, in
+/// seconds, which is no row: a start of the server begins at 0.
 #[derive(Clone)]
 pub struct Tables {
     pub accounts: Rows<Account>,
@@ -14,6 +15,7 @@ pub struct Tables {
     pub grains: Rows<Grain>,
     pub grants: Rows<Grant>,
     pub saved: Rows<Saved>,
+    pub moment: u64,
 }
 
 /// The tables, and what lives between a start and a stop of the server. Handles are in the order in which they were made.
@@ -34,6 +36,7 @@ impl Drop for Tables {
             grains: _,
             grants: _,
             saved: _,
+            moment: _,
         } = self;
     }
 }

@@ -18,6 +18,19 @@ use Rattle.shared_hub.specs.Wanting.{AnswersOrder, faults_of}
 same_front : (xs ys zs ws : List Event) → xs ++ ys ≡ zs ++ ws → length xs ≡ length zs → xs ≡ zs
 same_front xs ys zs ws is long = sym (take_at xs ys (length zs) long) ∙ ap (take (length zs)) is ∙ take_at zs ws (length zs) refl
 
+module _ (old new more before added rest : List Event) (longer : new ≡ old ++ more) (placed : new ≡ (before ++ added) ++ rest) (place_is : length old ≡ length before) where
+  -- what was before the place at the end of a history is the history
+  pub front_is : old ≡ before
+  front_is = same_front old more before (added ++ rest) (sym longer ∙ placed ∙ append_assoc before added rest) place_is
+
+  -- and nothing is behind what was added there
+  pub adds_at : length new ≡ length old + length added → new ≡ old ++ added
+  adds_at accepted =
+      let long : length new ≡ (length before + length added) + length rest =
+      ap length placed ∙ length-append (before ++ added) rest ∙ ap (λ (n : ℕ). n + length rest) (length-append before added) in
+      let none : rest ≡ [] = nil_from_length rest (omega (arith, long, accepted, place_is)) in
+      rw (placed, none, append-nil, front_is) refl
+
 -- an order adds one entry at the most
 at_most_one : (law : Law) (s : State) (n : ℕ) (found : Option Bool) (order : Asked) (answer : Result Reply OrderFault) (drawn : List (List ℕ)) (added : List Event)
     → IsAnswer law s n found order answer drawn added → length added ≤ 1
@@ -29,7 +42,7 @@ at_most_one law s n found order (Err fault.Start) drawn added is = omega (arith,
 at_most_one law s n found order (Err fault.Store) drawn added is = omega (arith, ap length is.0)
 at_most_one law s n found order (Err fault.Memory) drawn added is = omega (arith, ap length is.0)
 
-count_is : (more : Bool) (added : List Event) → length added ≤ 1 → (more ≡ true → length added ≢ 0) → (more ≡ false → length added ≡ 0) → length added ≡ count more
+pub count_is : (more : Bool) (added : List Event) → length added ≤ 1 → (more ≡ true → length added ≢ 0) → (more ≡ false → length added ≡ 0) → length added ≡ count more
 count_is true added few some none = let not = some refl in omega (arith, few, not)
 count_is false added few some none = none refl
 
@@ -38,17 +51,13 @@ module _ {K : Type 0} (law : Law) (old new : Sharing K) (order : Asked) (answer 
   pub adds_to : (o : Ordered (book_of law old) (book_of law new) order (length old.history) answer) → new.history ≡ old.history ++ o.added
   adds_to o =
       let p = o.placed in
-      let same : old.history ≡ p.before = same_front old.history o.later.more p.before (o.added ++ p.rest) (sym o.later.seen ∙ p.seen ∙ append_assoc p.before o.added p.rest) p.place_is in
-      let long : length new.history ≡ (length p.before + length o.added) + length p.rest =
-      ap length p.seen ∙ length-append (p.before ++ o.added) p.rest ∙ ap (λ (n : ℕ). n + length p.rest) (length-append p.before o.added) in
-      let none : p.rest ≡ [] = nil_from_length p.rest (omega (arith, long, o.accepted, p.place_is)) in
-      rw (p.seen, none, append-nil, same) refl
+      adds_at old.history new.history o.later.more p.before o.added p.rest o.later.seen p.seen p.place_is o.accepted
 
   -- a run that it starts is of its grain's application in the state before
   pub apps_at : (o : Ordered (book_of law old) (book_of law new) order (length old.history) answer) → AreOfApp (replay old.start old.history) o.app o.added
   apps_at o =
       let p = o.placed in
-      let same : old.history ≡ p.before = same_front old.history o.later.more p.before (o.added ++ p.rest) (sym o.later.seen ∙ p.seen ∙ append_assoc p.before o.added p.rest) p.place_is in
+      let same : old.history ≡ p.before = front_is old.history new.history o.later.more p.before o.added p.rest o.later.seen p.seen p.place_is in
       rw (same, ← o.later.start) p.apps
 
   abbrev Answers : List Event → Type 0
@@ -59,7 +68,7 @@ module _ {K : Type 0} (law : Law) (old new : Sharing K) (order : Asked) (answer 
       → Ordered (book_of law old) (book_of law new) order (length old.history) answer → Acts old.history new.history more Answers
   acts_by more grew stood o =
       let p = o.placed in
-      let same : old.history ≡ p.before = same_front old.history o.later.more p.before (o.added ++ p.rest) (sym o.later.seen ∙ p.seen ∙ append_assoc p.before o.added p.rest) p.place_is in
+      let same : old.history ≡ p.before = front_is old.history new.history o.later.more p.before o.added p.rest o.later.seen p.seen p.place_is in
       let few : length o.added ≤ 1 = at_most_one law (replay new.start p.before) (length old.history) p.found order answer o.drawn o.added p.lawful in (
         o.added,
         adds_to o,

@@ -1,4 +1,5 @@
 pub mod BookOrders
+pub mod BookTicks
 pub mod Since
 pub mod Passing
 pub mod Manifests

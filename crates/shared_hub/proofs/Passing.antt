@@ -1,7 +1,8 @@
 -- What a desk tells of a call of its pass.
-use Rattle.std.proofs.Common.{◌≡◌, ◌<◌, ◌≤◌, ◌+◌, ◌++◌, ℕ, Bool, true, false, List, [], ◌∷◌, Option, Some, None, Result, Ok, Err, length, refl, sym, ◌∙◌, ap, subst, arith, append_assoc, append-nil, length-append}
+use Rattle.std.proofs.Common.{◌≡◌, ◌<◌, ◌≤◌, ◌+◌, ◌++◌, ℕ, Bool, true, false, List, [], ◌∷◌, Option, Some, None, Result, Ok, Err, length, refl, sym, ◌∙◌, ap, subst, arith, append_assoc, append-nil, length-append, take}
 use Rattle.std.specs.Prelude.{option_map, slice_get, nat_lt, if◌then◌else◌}
 use Rattle.std.proofs.lemmas.Bool.Decides.{nat_tests}
+use Rattle.std.proofs.lemmas.List.{take_at}
 use Rattle.lru.specs.LruCache.{LruCache}
 use mathlib.Core.List.{IsPrefix}
 use Rattle.host_base.specs.declared.key.Key.{Key}
@@ -18,7 +19,9 @@ use Rattle.desk_orders.specs.Secrets.{DrawsAll}
 use Rattle.desk_orders.specs.declared.reply.OrderFault.{OrderFault}
 use Rattle.desk_orders.specs.declared.reply.OrderFault.TheVariants as fault
 use Rattle.desk_orders.specs.declared.reply.Reply.{Reply}
-use Rattle.hub_core.specs.Book.{Book, Later, TakesNone, Judged, IsCounted, Ordered}
+use Rattle.host_base.specs.declared.bytes.Memory.{Memory}
+use Rattle.hub_core.specs.Book.{Book, GoesOn, Later, TakesNone, Judged, IsCounted, Ordered, Ticked}
+use Rattle.hub_core.specs.Ticking.{NeverBack, added_by}
 use Rattle.shared_hub.specs.Wanting.{AnswersWanted, ShowsVerdict, faults_of}
 use Rattle.shared_hub.specs.declared.history.Told.{Told}
 use Rattle.shared_hub.specs.declared.history.Told.TheVariants as told
@@ -106,6 +109,15 @@ module _ (law : Law) (start : State) (old new : Passing Event Verdict) where
     verdict_is = shown.1;
   }
 
+  -- up to a place of what is seen now
+  goes_on : (place : ℕ) (before added : List Event) → new.seen ≡ before ++ added → place ≡ length before → NeverBack start before → GoesOn (Here new) place
+  goes_on place before added seen place_is onward =
+      subst (λ (xs : List Event). NeverBack start xs) (sym (ap (λ (xs : List Event). take place xs) seen ∙ take_at before added place (sym place_is))) onward
+
+  -- and up to its end
+  pub goes_on_now : (n : ℕ) → n ≡ length new.seen → NeverBack start new.seen → GoesOn (Here new) n
+  goes_on_now n n_is onward = goes_on n new.seen [] (sym (append-nil new.seen)) n_is onward
+
   counted_by : (answer : Result Reply OrderFault) (faults : Faults) → faults ≡ faults_of answer → new.faults ≡ counts_after old.faults faults → IsCounted (Here old).holds (Here new).holds answer
   counted_by (Err fault.Store) faults is counts = λ less. subst (λ (c : FaultCounts). old.faults.store < c.store) (sym (counts ∙ ap (counts_after old.faults) is)) (rose_raised old.faults.store less)
   counted_by (Err fault.Secrets) faults is counts = λ less. subst (λ (c : FaultCounts). old.faults.secrets < c.secrets) (sym (counts ∙ ap (counts_after old.faults) is)) (rose_raised old.faults.secrets less)
@@ -119,7 +131,7 @@ module _ (law : Law) (start : State) (old new : Passing Event Verdict) where
 
   -- an order that was answered at a place
   pub ordered_at : (place : ℕ) (order : Asked) (answer : Result Reply OrderFault) → Given place (wanted.Order order) (told.Reply answer) → Ordered (Here old) (Here new) order place answer
-  ordered_at place order answer (faults, counts, (before, added, seen, begins, place_is, orders, lawful)) = record {
+  ordered_at place order answer (faults, counts, (before, added, seen, begins, place_is, orders, (lawful, onward))) = record {
     drawn = lawful.drawn;
     added = added;
     app = lawful.app;
@@ -146,6 +158,38 @@ module _ (law : Law) (start : State) (old new : Passing Event Verdict) where
   -- the same of what was told
   pub ordered_from : (place : ℕ) (order : Asked) (answer : Result Reply OrderFault) (told' : Told) → told' ≡ told.Reply answer → Given place (wanted.Order order) told' → Ordered (Here old) (Here new) order place answer
   ordered_from place order answer told' is given = ordered_at place order answer (subst (λ t. Given place (wanted.Order order) t) is given)
+
+  order_goes_on : (place : ℕ) (order : Asked) (answer : Result Reply OrderFault) → Given place (wanted.Order order) (told.Reply answer) → GoesOn (Here new) place
+  order_goes_on place order answer (faults, counts, (before, added, seen, begins, place_is, orders, (lawful, onward))) = goes_on place before added seen place_is onward
+
+  pub order_goes_from : (place : ℕ) (order : Asked) (answer : Result Reply OrderFault) (told' : Told) → told' ≡ told.Reply answer → Given place (wanted.Order order) told' → GoesOn (Here new) place
+  order_goes_from place order answer told' is given = order_goes_on place order answer (subst (λ t. Given place (wanted.Order order) t) is given)
+
+  -- a tick that was answered at a place
+  ticked_at : (place m : ℕ) (answer : Result Bool Memory) → Given place (wanted.Tick m) (told.Ticked answer) → Ticked (Here old) (Here new) m place answer
+  ticked_at place m answer (faults, counts, (before, added, seen, begins, place_is, orders, (lawful, onward))) = record {
+    before = before;
+    rest = [];
+    later = later_by (begins.0 ++ added) faults (seen ∙ ap (λ w. w ++ added) (sym begins.1) ∙ append_assoc old.seen begins.0 added) counts;
+    seen = seen ∙ ap (λ (xs : List Event). before ++ xs) lawful.added_is ∙ sym (append-nil (before ++ added_by m answer));
+    place_is = place_is;
+    low_is = omega (arith, place_is, prefix_length old.seen before begins);
+    formed = lawful.formed;
+    answered = lawful.answered;
+    accepted = orders ∙ ap (λ (xs : List Event). old.orders + length xs) lawful.added_is;
+    undrawn = refl;
+    untold = record { starts = refl; stops = refl };
+  }
+
+  tick_goes_on : (place m : ℕ) (answer : Result Bool Memory) → Given place (wanted.Tick m) (told.Ticked answer) → GoesOn (Here new) place
+  tick_goes_on place m answer (faults, counts, (before, added, seen, begins, place_is, orders, (lawful, onward))) = goes_on place before added seen place_is onward
+
+  -- the same of what was told
+  pub ticked_from : (place m : ℕ) (answer : Result Bool Memory) (told' : Told) → told' ≡ told.Ticked answer → Given place (wanted.Tick m) told' → Ticked (Here old) (Here new) m place answer
+  ticked_from place m answer told' is given = ticked_at place m answer (subst (λ t. Given place (wanted.Tick m) t) is given)
+
+  pub tick_goes_from : (place m : ℕ) (answer : Result Bool Memory) (told' : Told) → told' ≡ told.Ticked answer → Given place (wanted.Tick m) told' → GoesOn (Here new) place
+  tick_goes_from place m answer told' is given = tick_goes_on place m answer (subst (λ t. Given place (wanted.Tick m) t) is given)
 
   -- what a site gives, and that it takes no command
   pub given_at : (place tag item : ℕ) (answer : Result (List ℕ) SiteFault) → Given place (wanted.Site tag item) (told.Site answer) → TakesNone (Here old) (Here new) × GivesText law tag item answer

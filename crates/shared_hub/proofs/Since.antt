@@ -1,7 +1,8 @@
 -- What the objects beside a history were told since it began.
-use Rattle.std.proofs.Common.{◌≡◌, ℕ, ◌++◌, List, [], ◌∷◌, Option, Some, Result, length, refl, sym, ◌∙◌, ap, subst, arith, append_assoc, append-nil}
+use Rattle.std.proofs.Common.{◌≡◌, ℕ, ◌++◌, Bool, true, false, List, [], ◌∷◌, Option, Some, Result, Ok, Err, length, refl, sym, ◌∙◌, ap, subst, arith, append_assoc, append-nil}
 use Rattle.std.specs.List.{flat_map}
 use Rattle.host_base.specs.Drawing.{Coming}
+use Rattle.host_base.specs.declared.bytes.Memory.{Memory}
 use Rattle.desk_base.specs.Terms.{after, AppId, Event, replay, RunId, State}
 use Rattle.share_graph.specs.declared.event.Event.TheVariants as event
 use Rattle.grain_supervise.specs.Spawning.{Spawns}
@@ -11,11 +12,13 @@ use Rattle.desk_orders.specs.Secrets.{DrawsAll}
 use Rattle.desk_orders.specs.declared.reply.OrderFault.{OrderFault}
 use Rattle.desk_orders.specs.declared.reply.Reply.{Reply}
 use Rattle.site_caps.specs.Law.{Law}
-use Rattle.hub_core.specs.Book.{Backing, Ordered}
+use Rattle.hub_core.specs.Book.{Backing, Ordered, Ticked}
 use Rattle.hub_core.specs.Sharing.{Sharing, book_of}
 use Rattle.hub_core.specs.Spawning.{AreOfApp, HasToken, HaveToken, IsOfApp, Spawned, starts_by, starts_of, stops_by, stops_of, token_of}
+use Rattle.hub_core.specs.Ticking.{added_by}
 use Rattle.shared_hub.specs.Since.{AreStartsOf, HasKept, IsStartOf, SpawnedSince}
 use Rattle.shared_hub.proofs.BookOrders.{adds_to, apps_at}
+use Rattle.shared_hub.proofs.BookTicks.{tick_adds}
 
 drawn_both : (a b c : Option Coming) (xs ys : List (List ℕ)) → DrawsAll a b xs → DrawsAll b c ys → DrawsAll a c (xs ++ ys)
 drawn_both a b c [] ys same draws = subst (λ (x : Option Coming). DrawsAll x c ys) same draws
@@ -60,6 +63,31 @@ spawned_more s old mid new app token entries added since told has are = record {
       ∙ ap (λ (xs : List RunId). Some xs) (append_assoc before (stops_by entries) (stops_by added) ∙ ap (λ (xs : List RunId). before ++ xs) (sym (both_maps stops_of entries added)));
 }
 
+-- a tick starts nothing and stops nothing
+tick_starts : (s : State) (m : ℕ) (answer : Result Bool Memory) → AreStartsOf s (added_by m answer) []
+tick_starts s m (Ok true) = ([], [], refl, refl, refl)
+tick_starts s m (Ok false) = refl
+tick_starts s m (Err memory) = refl
+
+tick_stops : (m : ℕ) (answer : Result Bool Memory) → stops_by (added_by m answer) ≡ []
+tick_stops m (Ok true) = refl
+tick_stops m (Ok false) = refl
+tick_stops m (Err memory) = refl
+
+spawned_idle : (s : State) (old new : Spawns) (entries added : List Event) → SpawnedSince s old new entries → AreStartsOf (replay s entries) added [] → stops_by added ≡ []
+    → SpawnedSince s old new (entries ++ added)
+spawned_idle s old new entries added since none stops = record {
+  starts = λ before is.
+      (let (starts, now, first) = since.starts before is in (
+        starts ++ [],
+        now ∙ ap (λ (xs : List Start). Some (before ++ xs)) (sym (append-nil starts)),
+        starts_both s entries added starts [] first none,
+      ));
+  stops = λ before is.
+      since.stops before is
+      ∙ ap (λ (xs : List RunId). Some (before ++ xs)) (sym (append-nil (stops_by entries)) ∙ ap (λ (xs : List RunId). stops_by entries ++ xs) (sym stops) ∙ sym (both_maps stops_of entries added));
+}
+
 -- nothing yet
 pub kept_none : (start : State) (holds : Backing) → HasKept start holds holds []
 kept_none start holds = record {
@@ -88,3 +116,17 @@ kept_more law began old new order answer o kept = record {
       (spawned_more old.start began.spawns old.holds.spawns new.holds.spawns o.app (token_of order o.drawn) old.history o.added kept.spawned o.spawned o.tokens
       (apps_at law old new order answer o));
 }
+
+-- and once a tick was answered
+pub kept_ticked : {K : Type 0} (law : Law) (began : Backing) (old new : Sharing K) (m : ℕ) (answer : Result Bool Memory)
+    → Ticked (book_of law old) (book_of law new) m (length old.history) answer → new.holds ≡ old.holds → HasKept old.start began old.holds old.history
+    → HasKept old.start began new.holds new.history
+kept_ticked law began old new m answer t holds kept =
+    subst (λ (now : Backing). HasKept old.start began now new.history) (sym holds)
+    (subst (λ (history : List Event). HasKept old.start began old.holds history) (sym (tick_adds law old new m answer t)) (record {
+      counts = kept.counts;
+      drawn = kept.drawn;
+      draws = kept.draws;
+      spawned = spawned_idle old.start began.spawns old.holds.spawns old.history (added_by m answer) kept.spawned
+          (tick_starts (replay old.start old.history) m answer) (tick_stops m answer);
+    }))

@@ -4,7 +4,8 @@ ghost use Rattle.std.specs.Prelude.{◌≡◌, ◌≤◌, [], length};
 ghost use Rattle.desk_base.specs.Terms.{replay};
 ghost use Rattle.epoch_gate.specs.Books.{Acts};
 ghost use Rattle.shared_hub.specs.Since.{Begun, HasKept, begun_of};
-ghost use Rattle.shared_hub.specs.Wanting.{AnswersOrder, faults_of};
+ghost use Rattle.shared_hub.specs.Wanting.{AnswersOrder, AnswersTick, faults_of, no_faults as unfaulted};
+ghost use Rattle.hub_core.specs.Ticking.{NeverBack};
 
 use desk_orders::{Order, OrderFault, Reply};
 use epoch_gate::{Book, Faults};
@@ -16,10 +17,12 @@ use std::alloc::Global;
 use std::marker::Model;
 use std::snapshot::Snapshot;
 
-/// What is wanted of a history: that an order is answered, or what the site of a tag gives for an item.
+/// What is wanted of a history: that an order is answered, that the clock goes on to a moment in seconds, or what the site of a
+/// tag gives for an item.
 #[derive(Drop)]
 pub enum Wanted {
     Order(Order),
+    Tick(u64),
     Site { tag: u64, item: u32 },
 }
 
@@ -27,6 +30,7 @@ pub enum Wanted {
 #[derive(Drop)]
 pub enum Told {
     Reply(Result<Reply, OrderFault>),
+    Ticked(Result<bool, Memory>),
     Site(Result<SiteText, SiteFault>),
 }
 
@@ -38,6 +42,17 @@ fn faults_in(answer: &Result<Reply, OrderFault>) -> Faults
         store: matches!(answer, Err(OrderFault::Store)),
         secrets: matches!(answer, Err(OrderFault::Secrets)),
         starts: matches!(answer, Err(OrderFault::Start)),
+    }
+}
+
+// No faults.
+fn no_faults() -> Faults
+    ensures { result ≡ unfaulted }
+{
+    Faults {
+        store: false,
+        secrets: false,
+        starts: false,
     }
 }
 
@@ -54,11 +69,33 @@ fn answer<H: Holding, C: SiteDriver + Drop>(
         AnswersOrder C.Law.law (replay locked.old.start locked.old.history) (length locked.old.history)
         order result.1 added (faults_of result.1)) }
     ensures short { length locked.new.history ≤ 1000000 }
+    ensures onward { NeverBack locked.new.start locked.new.history }
     ensures kept { (began : Begun) → locked.old.start ≡ began.start
         → HasKept began.start began.holds locked.old.holds locked.old.history
         → HasKept began.start began.holds locked.new.holds locked.new.history }
 {
     let answer = locked.order(alloc, order);
+    (locked.entries() != before, answer)
+}
+
+// Lets the clock go on to a moment at the end of so many entries, and says whether that added one.
+fn tick<H: Holding, C: SiteDriver + Drop>(
+    locked: &mut Locked<H, C>,
+    alloc: Global,
+    before: u64,
+    moment: u64,
+) -> (bool, Result<bool, Memory>)
+    requires { before ≡ length locked.old.history }
+    ensures start { locked.new.start ≡ locked.old.start }
+    ensures acts { Acts locked.old.history locked.new.history result.0 (λ added.
+        AnswersTick (replay locked.old.start locked.old.history) moment result.1 added unfaulted) }
+    ensures short { length locked.new.history ≤ 1000000 }
+    ensures onward { NeverBack locked.new.start locked.new.history }
+    ensures kept { (began : Begun) → locked.old.start ≡ began.start
+        → HasKept began.start began.holds locked.old.holds locked.old.history
+        → HasKept began.start began.holds locked.new.holds locked.new.history }
+{
+    let answer = locked.tick(alloc, moment);
     (locked.entries() != before, answer)
 }
 
@@ -102,6 +139,7 @@ impl<H: Holding, C: SiteDriver> Model for SharedHistory<H, C> {
     ghost use Rattle.std.specs.Coded.{codes};
     ghost use Rattle.share_graph.specs.contracts.event.Event as event_type;
     ghost use Rattle.share_graph.specs.contracts.state.State as state_type;
+    ghost use Rattle.hub_core.specs.Ticking.{NeverBack};
     ghost use Rattle.shared_hub.specs.Since.{Common, HasKept};
 
     ghost Value = { Common };
@@ -110,7 +148,7 @@ impl<H: Holding, C: SiteDriver> Model for SharedHistory<H, C> {
 
     ghost view = { λ shared. record { began = shared.began; history = shared.locked.history; holds = shared.locked.holds } };
 
-    ghost invariant = { λ shared. (shared.locked.start ≡ shared.began.start) × HasKept shared.began.start shared.began.holds shared.locked.holds shared.locked.history };
+    ghost invariant = { λ shared. (shared.locked.start ≡ shared.began.start) × HasKept shared.began.start shared.began.holds shared.locked.holds shared.locked.history × NeverBack shared.began.start shared.locked.history };
 }
 
 impl<H: Holding, C: SiteDriver + Drop> SharedHistory<H, C> {
@@ -170,13 +208,13 @@ impl<H: Holding, C: SiteDriver + Drop> Book for SharedHistory<H, C> {
                 let (more, answer) = answer(&mut self.locked, alloc, before, order);
                 (more, faults_in(&answer), Told::Reply(answer))
             }
+            Wanted::Tick(moment) => {
+                let (more, answer) = tick(&mut self.locked, alloc, before, moment);
+                (more, no_faults(), Told::Ticked(answer))
+            }
             Wanted::Site { tag, item } => {
-                let none = Faults {
-                    store: false,
-                    secrets: false,
-                    starts: false,
-                };
-                (false, none, Told::Site(self.locked.site(alloc, tag, item)))
+                let answer = self.locked.site(alloc, tag, item);
+                (false, no_faults(), Told::Site(answer))
             }
         }
     }

@@ -2,7 +2,7 @@
 
 ghost use Rattle.std.specs.Prelude.{◌≡◌, ◌+◌, ◌≤◌, Some, length, IfOk};
 ghost use Rattle.std.specs.Map.{lookup};
-ghost use Rattle.hub_core.specs.Book.{TakesNone, Judged};
+ghost use Rattle.hub_core.specs.Book.{GoesOn, TakesNone, Judged};
 ghost use Rattle.shared_hub.specs.Wanting.{blank};
 ghost use Rattle.epoch_gate.specs.Books.{start_of};
 ghost use Rattle.epoch_gate.specs.Passes.{same_key};
@@ -109,6 +109,8 @@ impl<'a, H: Holding, C: SiteDriver + Drop, N: Named<Outset<H, C>>, L: Ledger, R:
             (book_by C.Law.law (start_of blank N.start).start self.new) }
         ensures judged { IfOk result (λ r. Judged (length self.old.seen)
             (book_by C.Law.law (start_of blank N.start).start self.new) key.now r.0 r.1) }
+        ensures onward { IfOk result (λ r.
+            GoesOn (book_by C.Law.law (start_of blank N.start).start self.new) r.0) }
         ensures load { self.new.loads ≡ self.old.loads + 1 }
         ensures low { IfOk result (λ r. self.new.last ≤ r.0) }
         ensures cached { (kept : _) → lookup (same_key key.now) self.old.cache.entries ≡ Some kept
@@ -126,6 +128,16 @@ impl<'a, H: Holding, C: SiteDriver + Drop, N: Named<Outset<H, C>>, L: Ledger, R:
             .hub
             .order(self.rt, alloc, &mut self.pass, Wanted::Order(order));
         let Told::Reply(answer) = told else {
+            unreachable!();
+        };
+        (place, answer)
+    }
+
+    fn tick(&mut self, alloc: Global, moment: u64) -> (u64, Result<bool, Memory>) {
+        let (place, told) = self
+            .hub
+            .order(self.rt, alloc, &mut self.pass, Wanted::Tick(moment));
+        let Told::Ticked(answer) = told else {
             unreachable!();
         };
         (place, answer)

@@ -93,7 +93,7 @@ first_fits =
             record { giver = tt; needs = All-nil (NeedIsEarlier 1) },
             inr (
               sets_fit first_share refl refl refl refl (omega arith),
-              inr (record { token = refl; few_needs = omega arith }, refl),
+              inr (record { token = refl; few_needs = omega arith; ends = tt }, refl),
             ),
           ),
         ),
@@ -112,7 +112,7 @@ second_fits =
             record { giver = tt; needs = All-nil (NeedIsEarlier 2) },
             inr (
               sets_fit second_share refl refl refl refl tt,
-              inr (record { token = refl; few_needs = omega arith }, refl),
+              inr (record { token = refl; few_needs = omega arith; ends = tt }, refl),
             ),
           ),
         ),

@@ -101,6 +101,7 @@ share_row num grain from user base = record {
   needs = [];
   digest = None;
   revoked = false;
+  expires = None;
 }
 
 -- ada shares the first grain with zoe as a writer
@@ -138,7 +139,7 @@ small_runs = run_row 1 1 (codes "ERERERERERERERERERERERERERERERERERERERERERE") â
 -- The small book: four accounts, two applications, a grain of each, two shares of the first grain, four sessions and two runs.
 abbrev pub small_book : State
 small_book = record {
-  tables = record { accounts = small_accounts; apps = small_apps; grains = small_grains; grants = small_grants; saved = [] };
+  tables = record { accounts = small_accounts; apps = small_apps; grains = small_grains; grants = small_grants; saved = []; moment = 0 };
   sessions = small_sessions;
   runs = small_runs;
   handles = [];

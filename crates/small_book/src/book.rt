@@ -22,6 +22,7 @@ pub fn small_book(alloc: Global) -> Result<State, Memory>
         grains: grains(alloc)?,
         grants: grants(alloc)?,
         saved: Rows::empty(alloc),
+        moment: 0,
     };
     Ok(State {
         tables,

@@ -46,6 +46,7 @@ fn share(alloc: Global, num: u32, grain: u32, giver: u32, user: u32, base: Base)
         needs: List::empty(alloc),
         digest: None,
         revoked: false,
+        expires: None,
     }
 }
 

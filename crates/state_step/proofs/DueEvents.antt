@@ -13,6 +13,7 @@ use Rattle.state_step.proofs.HandleLaws.{handle_made_fits, claimed_fits}
 use Rattle.state_step.proofs.RunLaws.{run_started_fits, run_stopped_fits}
 use Rattle.state_step.proofs.SavedLaws.{saved_added_fits, saved_dropped_fits}
 use Rattle.state_step.proofs.SessionLaws.{session_opened_fits, session_closed_fits}
+use Rattle.state_step.proofs.TickLaws.{ticked_fits}
 
 -- by the kind of the event
 fits_each : (s : State) (e : Event) → IsWellFormed s → IsDue s e → EventFits s e
@@ -32,6 +33,7 @@ fits_each s (event.RunStopped r) formed due = run_stopped_fits s formed r due
 fits_each s (event.SessionOpened session) formed due = session_opened_fits s formed session due
 fits_each s (event.SessionClosed n) formed due = session_closed_fits s formed n due
 fits_each s (event.HandleMade handle) formed due = handle_made_fits s formed handle due
+fits_each s (event.Ticked m) formed due = ticked_fits s formed m due
 
 -- the law
 pub due_fits : DueFits

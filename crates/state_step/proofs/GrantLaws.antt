@@ -145,7 +145,7 @@ revoked_sound t k grant sound =
       parent = record { giver = revoked_giver t grant.giver grant parent.giver; needs = parent.needs };
       earlier = record { giver = earlier.giver; needs = earlier.needs };
       sets = record { assignment = sets.assignment; needs = sets.needs };
-      shares = record { token = shares.token; few_needs = shares.few_needs };
+      shares = record { token = shares.token; few_needs = shares.few_needs; ends = shares.ends };
     }
 
 -- a grant that is there may be revoked

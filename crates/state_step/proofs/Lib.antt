@@ -14,4 +14,5 @@ pub mod SavedLaws
 pub mod SessionLaws
 pub mod RunLaws
 pub mod HandleLaws
+pub mod TickLaws
 pub mod DueEvents

@@ -23,3 +23,4 @@ changed_row (event.RunStopped r) = None
 changed_row (event.SessionOpened session) = None
 changed_row (event.SessionClosed n) = None
 changed_row (event.HandleMade handle) = None
+changed_row (event.Ticked m) = None

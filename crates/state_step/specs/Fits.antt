@@ -6,7 +6,8 @@ use Rattle.share_graph.specs.EventFits.{HasChanged, EventFits}
 use Rattle.share_graph.specs.WellFormed.{IsWellFormed}
 use Rattle.state_step.specs.NewRows.{IsNewAccount, IsNewApp, IsNewGrain, IsNewGrant, IsNewReference, IsNewSession, IsNewRun, IsNewHandle, IsNewClaim}
 
--- what is owed for an event: that its new row may be added, or that the row which it changes is there
+-- what is owed for an event: that its new row may be added, that the row which it changes is there, or that its moment is above
+-- the last one
 abbrev pub IsDue : State → Event → Type 0
 IsDue s (event.AccountAdded account) = IsNewAccount s account
 IsDue s (event.AppAdded app) = IsNewApp s app
@@ -24,6 +25,7 @@ IsDue s (event.RunStopped r) = HasChanged s (event.RunStopped r)
 IsDue s (event.SessionOpened session) = IsNewSession s session
 IsDue s (event.SessionClosed n) = HasChanged s (event.SessionClosed n)
 IsDue s (event.HandleMade handle) = IsNewHandle s handle
+IsDue s (event.Ticked m) = HasChanged s (event.Ticked m)
 
 -- WHAT IS OWED SUFFICES: each such event fits a well-formed state.
 abbrev pub DueFits : Type 0

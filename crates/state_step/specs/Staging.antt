@@ -23,6 +23,7 @@ event_of (staged.GrantRevoked g) = event.GrantRevoked g
 event_of (staged.SavedDropped v) = event.SavedDropped v
 event_of (staged.RunStopped r) = event.RunStopped r
 event_of (staged.SessionClosed n) = event.SessionClosed n
+event_of (staged.Ticked m) = event.Ticked m
 event_of (staged.Claimed grant room handle more) = event.Claimed grant handle
 
 -- the room is beside the rows of this state
@@ -42,4 +43,5 @@ HasRoomFor s (staged.GrantRevoked g) = Unit {0}
 HasRoomFor s (staged.SavedDropped v) = Unit {0}
 HasRoomFor s (staged.RunStopped r) = Unit {0}
 HasRoomFor s (staged.SessionClosed n) = Unit {0}
+HasRoomFor s (staged.Ticked m) = Unit {0}
 HasRoomFor s (staged.Claimed grant room handle more) = (room ≡ length s.tables.grants) × (more ≡ length s.handles)

@@ -30,5 +30,6 @@ pub fn prepare(state: &State, event: Event) -> Result<Staged, Memory>
         Event::SessionOpened(row) => Staged::SessionOpened(row, state.sessions.room()?),
         Event::SessionClosed(num) => Staged::SessionClosed(num),
         Event::HandleMade(handle) => Staged::HandleMade(handle, state.handles.room()?),
+        Event::Ticked(moment) => Staged::Ticked(moment),
     })
 }

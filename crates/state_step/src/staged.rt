@@ -26,6 +26,7 @@ pub enum Staged {
     SessionOpened(Session, Room<Session>),
     SessionClosed(SessionId),
     HandleMade(Handle, Room<Handle>),
+    Ticked(u64),
 }
 
 // Written by hand, as those of the rows are.
@@ -48,6 +49,7 @@ impl Drop for Staged {
             Staged::SessionOpened(_, _) => (),
             Staged::SessionClosed(_) => (),
             Staged::HandleMade(_, _) => (),
+            Staged::Ticked(_) => (),
         }
     }
 }
@@ -90,6 +92,7 @@ impl Staged {
             Staged::SessionOpened(session, room) => open(&mut state.sessions, session, room),
             Staged::SessionClosed(num) => state.sessions.close(num),
             Staged::HandleMade(handle, room) => state.handles.put(handle, room),
+            Staged::Ticked(moment) => state.tables.moment = moment,
         }
     }
 }

@@ -2,6 +2,7 @@ ghost use Rattle.std.specs.Prelude.{◌≡◌, ◌≤◌, ◌↔◌, IsTrue, All
 ghost use Rattle.app_manifest.specs.Checks.{double_name, second_that};
 ghost use Rattle.app_manifest.specs.Text.{is_permission_name};
 ghost use Rattle.perm_roles.specs.PermSet.{IsWithin};
+ghost use Rattle.share_graph.specs.Expiry.{IsExpiry};
 ghost use Rattle.share_graph.specs.Fitting.{IsSoundManifest, SetFits, IsAssignmentFor, AssignmentFits, HolderSetFits, NeedSetFits, SetsFit, TokenFits, SharesWell, IsReference};
 
 use app_manifest::{Manifest, PermissionDef, double_name, is_permission_name, second_default};
@@ -127,11 +128,22 @@ fn token_fits(target: Target, digest: &Option<Digest>) -> bool
     }
 }
 
-/// Whether a grant has a token where it has to, and at most eight needs.
+fn is_expiry(expires: Option<u64>) -> bool
+    ensures { IsTrue result ↔ IsExpiry expires }
+{
+    match expires {
+        Some(end) => end > 0,
+        None => true,
+    }
+}
+
+/// Whether a grant has a token where it has to, at most eight needs, and an expiry that a grant can have.
 pub(crate) fn shares_well(grant: &Grant) -> bool
     ensures { IsTrue result ↔ SharesWell grant.now }
 {
-    token_fits(grant.target, &grant.digest) && grant.needs.as_slice().len() <= 8
+    token_fits(grant.target, &grant.digest)
+        && grant.needs.as_slice().len() <= 8
+        && is_expiry(grant.expires)
 }
 
 fn is_claimed_by(grant: &Grant, holder: GrainId) -> bool

@@ -70,6 +70,7 @@ pub fn share_with_ben(alloc: Global, assignment: Assignment) -> Order {
             to: BEN,
             assignment,
             needs: List::empty(alloc),
+            expires: None,
         },
     )
 }

@@ -8,7 +8,7 @@ use Rattle.least_access.proofs.missing.grant_lacks.Goals as goal
 
 pub overflow_cast-result : goal.overflow_cast-result
 overflow_cast-result c =
-    let within : c.in-Some.index < length c.as_slice.result.now = slice_get_within c.as_slice.result.now c.in-Some.index c.in-Some.ensures.need c.in-Some.ensures.there in
+    let within : c.in-Some-first_unmet.index < length c.as_slice.result.now = slice_get_within c.as_slice.result.now c.in-Some-first_unmet.index c.in-Some-first_unmet.ensures.need c.in-Some-first_unmet.ensures.there in
     let same : length c.as_slice.result.now ≡ length c.args.grant.now.needs = ap length c.as_slice.ensures in
     let few = ((coherent c.args.tables.now c.requires.checked).grants c.args.num c.args.grant.now c.requires.row).shares.few_needs in
     omega arith
@@ -25,7 +25,7 @@ returns-in-None c =
         c.is_kept.ensures.0 c.if-not-is_kept.false,
         inr (
           λ gone. false≢true (sym c.if-grant.false ∙ gone),
-          inr (rw c.as_slice.ensures at c.in-None.ensures, refl),
+          inr (c.in_default.ensures, inr (rw c.as_slice.ensures at c.in-None.ensures, refl)),
         ),
       ),
     )

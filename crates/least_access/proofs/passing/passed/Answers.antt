@@ -2,9 +2,18 @@ use Rattle.std.proofs.Common.{List, All, sym, ◌∙◌, subst}
 use Rattle.std.proofs.lemmas.Bool.{false≢true}
 use Rattle.share_graph.specs.declared.grants.Need.{Need}
 use Rattle.share_graph.specs.Derivation.{IsMetBy}
+use Rattle.share_graph.specs.Nodes.{node_of}
 use Rattle.least_access.specs.Solved.{HeldAt}
-use Rattle.least_access.proofs.Following.{all_from_members, from_site}
+use Rattle.least_access.proofs.Following.{all_from_members, follows_live, from_site}
 use Rattle.least_access.proofs.passing.passed.Goals as goal
+
+pub returns-then-not-is_live : goal.returns-then-not-is_live
+returns-then-not-is_live c fact = (
+  λ h. absurd (c.none.ensures fact h),
+  λ f.
+      let live = follows_live c.args.tables.now (HeldAt c.args.table.now.entries) c.args.num c.args.grant.now (node_of c.args.num c.args.grant.now) fact f in
+      absurd (false≢true (sym c.if-not-is_live.true ∙ c.is_live.ensures.1 (live.live, live.lasts))),
+)
 
 pub returns-then-not-are_met : goal.returns-then-not-are_met
 returns-then-not-are_met c fact = (

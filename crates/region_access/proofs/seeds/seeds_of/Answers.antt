@@ -15,3 +15,6 @@ returns-in-AdminSet c = subst (λ (e : Event). IfOk c.seeds_of_admin.result (λ 
 
 pub returns-in-EnabledSet : goal.returns-in-EnabledSet
 returns-in-EnabledSet c = subst (λ (e : Event). IfOk c.seeds_of_account.result (λ nodes. (at : Node) → Contains nodes.items at ↔ IsSeedOf c.args.tables.now e at)) (sym c.in-EnabledSet.is) c.seeds_of_account.ensures
+
+pub returns-in-Ticked : goal.returns-in-Ticked
+returns-in-Ticked c = subst (λ (e : Event). IfOk c.seeds_of_tick.result (λ nodes. (at : Node) → Contains nodes.items at ↔ IsSeedOf c.args.tables.now e at)) (sym c.in-Ticked.is) c.seeds_of_tick.ensures

@@ -9,8 +9,8 @@ use Rattle.share_desk.proofs.tokens.child.Goals as goal
 
 pub returns-in_err-from-clause-row : goal.returns-in_err-from-clause-row
 returns-in_err-from-clause-row c =
-    let Rest = λ (x : Grant). Gives c.args.state.now x.grain (giver.Grant x.num) (target.Bearer c.args.for_sharing) c.args.assignment.now c.args.needs.now in
-    refused (Child c.args.state.now c.args.caller.now c.args.for_sharing c.args.assignment.now c.args.needs.now) c.from_residual.result c.in_err-from.field-0.0 c.from_residual.ensures.1
+    let Rest = λ (x : Grant). Gives c.args.state.now x.grain (giver.Grant x.num) (target.Bearer c.args.for_sharing) c.args.assignment.now c.args.needs.now c.args.expires in
+    refused (Child c.args.state.now c.args.caller.now c.args.for_sharing c.args.assignment.now c.args.needs.now c.args.expires) c.from_residual.result c.in_err-from.field-0.0 c.from_residual.ensures.1
     (bearer_fails c.args.state.now c.args.caller.now Rest c.in_err-from.field-0.0 c.in_err-from.ensures)
 
 pub give-requires-clause-there : goal.give-requires-clause-there
@@ -19,6 +19,6 @@ give-requires-clause-there c = caller_grain c.args.state.now c.requires.formed c
 pub returns-clause-row : goal.returns-clause-row
 returns-clause-row c =
     let from = c.in_ok-from.from.now in
-    let Rest = λ (x : Grant). Gives c.args.state.now x.grain (giver.Grant x.num) (target.Bearer c.args.for_sharing) c.args.assignment.now c.args.needs.now in
-    carried_more (Rest from) (Child c.args.state.now c.args.caller.now c.args.for_sharing c.args.assignment.now c.args.needs.now)
+    let Rest = λ (x : Grant). Gives c.args.state.now x.grain (giver.Grant x.num) (target.Bearer c.args.for_sharing) c.args.assignment.now c.args.needs.now c.args.expires in
+    carried_more (Rest from) (Child c.args.state.now c.args.caller.now c.args.for_sharing c.args.assignment.now c.args.needs.now c.args.expires)
     (λ step. bearer_passes c.args.state.now c.args.caller.now Rest from step c.in_ok-from.ensures) c.give.result c.give.ensures

@@ -1,6 +1,6 @@
 use Rattle.std.proofs.Common.{◌++◌, [], ◌∷◌, ◌∙◌, ap, append-nil, List, Ok, Err, refl, sym}
 use Rattle.desk_base.specs.Terms.{Event}
-use Rattle.hub_core.proofs.Adding.{keeps_added, stored_told}
+use Rattle.hub_core.proofs.Adding.{keeps_added, room_for_commands, stored_told}
 use Rattle.hub_core.proofs.Stopping.{told_outlasts, untouched}
 use Rattle.hub_core.proofs.history.History.add.Goals as goal
 
@@ -9,7 +9,7 @@ invariant_of-self-in-Ok g c =
     let old = c.self.inside in
     keeps_added old.start old.state old.entries.items old.solution c.self.invariant c.happen.new.state
     c.happen.new.entries.items c.happen.new.solution c.args.event
-    (rw c.self.invariant.replayed (rw (← c.self.view_is) at c.requires.fits)) (rw (← c.self.view_is) at c.requires.room)
+    (rw c.self.invariant.replayed (rw (← c.self.view_is) at c.requires.fits)) (room_for_commands c.happen.new.state.tables _ (rw (← c.self.view_is) at c.requires.room))
     c.happen.ensures.state
     (c.happen.ensures.entry ∙ ap (λ (xs : List Event). xs ++ c.args.event ∷ []) c.make_room.ensures.same) c.happen.ensures.solved
 
