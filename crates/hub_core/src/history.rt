@@ -175,12 +175,7 @@ fn happen<L: Ledger>(
 }
 
 // Whether some grant ends as the clock goes on to a moment.
-fn ends_some(
-    alloc: Global,
-    state: &State,
-    solution: &Solution,
-    moment: u64,
-) -> Result<bool, Memory>
+fn ends_some(alloc: Global, state: &State, solution: &Solution, moment: u64) -> Result<bool, Memory>
     requires formed { IsWellFormed state.now }
     requires solved { IsSolvedFor state.now.tables solution.now }
     ensures { IfOk result (λ ends. IsTrue ends ↔ EndsSome state.now.tables moment) }

@@ -5,6 +5,7 @@ use Rattle.std.proofs.lemmas.Bool.Decides.{nat_tests}
 use Rattle.std.proofs.lemmas.List.{take_at}
 use Rattle.lru.specs.LruCache.{LruCache}
 use mathlib.Core.List.{IsPrefix}
+use Rattle.host_base.specs.declared.bytes.Memory.{Memory}
 use Rattle.host_base.specs.declared.key.Key.{Key}
 use Rattle.host_base.specs.declared.verdict.Verdict.{Verdict}
 use Rattle.share_graph.specs.declared.event.Event.{Event}
@@ -19,7 +20,6 @@ use Rattle.desk_orders.specs.Secrets.{DrawsAll}
 use Rattle.desk_orders.specs.declared.reply.OrderFault.{OrderFault}
 use Rattle.desk_orders.specs.declared.reply.OrderFault.TheVariants as fault
 use Rattle.desk_orders.specs.declared.reply.Reply.{Reply}
-use Rattle.host_base.specs.declared.bytes.Memory.{Memory}
 use Rattle.hub_core.specs.Book.{Book, GoesOn, Later, TakesNone, Judged, IsCounted, Ordered, Ticked}
 use Rattle.hub_core.specs.Ticking.{NeverBack, added_by}
 use Rattle.shared_hub.specs.Wanting.{AnswersWanted, ShowsVerdict, faults_of}

@@ -1,6 +1,7 @@
 -- What is wanted of a history that many threads share, and what is told of it.
 use Rattle.std.specs.Prelude.{◌≡◌, Bool, true, false, ℕ, List, [], Option, None, Result, Err, length}
 use Rattle.desk_base.specs.Terms.{AppId, Event, IsWellFormed, Key, replay, State, Verdict}
+use Rattle.host_base.specs.declared.bytes.Memory.{Memory}
 use Rattle.session_table.specs.Verdict.{IsVerdict}
 use Rattle.site_caps.specs.Answering.{GivesText}
 use Rattle.site_caps.specs.Law.{Law}
@@ -10,7 +11,6 @@ use Rattle.desk_orders.specs.declared.reply.OrderFault.{OrderFault}
 use Rattle.desk_orders.specs.declared.reply.OrderFault.TheVariants as fault
 use Rattle.desk_orders.specs.declared.reply.Reply.{Reply}
 use Rattle.epoch_gate.specs.declared.book.Faults.{Faults}
-use Rattle.host_base.specs.declared.bytes.Memory.{Memory}
 use Rattle.hub_core.specs.Book.{IsFoundFor}
 use Rattle.hub_core.specs.Spawning.{AreOfApp, HaveToken, token_of}
 use Rattle.hub_core.specs.Ticking.{IsTick, NeverBack, added_by}

@@ -3,9 +3,9 @@
 ghost use Rattle.std.specs.Prelude.{◌≡◌, ◌≤◌, [], length};
 ghost use Rattle.desk_base.specs.Terms.{replay};
 ghost use Rattle.epoch_gate.specs.Books.{Acts};
-ghost use Rattle.shared_hub.specs.Since.{Begun, HasKept, begun_of};
-ghost use Rattle.shared_hub.specs.Wanting.{AnswersOrder, AnswersTick, faults_of, no_faults as unfaulted};
 ghost use Rattle.hub_core.specs.Ticking.{NeverBack};
+ghost use Rattle.shared_hub.specs.Since.{Begun, HasKept, begun_of};
+ghost use Rattle.shared_hub.specs.Wanting.{AnswersOrder, AnswersTick, faults_of, no_faults};
 
 use desk_orders::{Order, OrderFault, Reply};
 use epoch_gate::{Book, Faults};
@@ -17,8 +17,8 @@ use std::alloc::Global;
 use std::marker::Model;
 use std::snapshot::Snapshot;
 
-/// What is wanted of a history: that an order is answered, that the clock goes on to a moment in seconds, or what the site of a
-/// tag gives for an item.
+/// What is wanted of a history: that an order is answered, that the clock goes on to a moment in seconds, or what the
+/// site of a tag gives for an item.
 #[derive(Drop)]
 pub enum Wanted {
     Order(Order),
@@ -45,9 +45,9 @@ fn faults_in(answer: &Result<Reply, OrderFault>) -> Faults
     }
 }
 
-// No faults.
-fn no_faults() -> Faults
-    ensures { result ≡ unfaulted }
+// That no fault was met.
+fn none_met() -> Faults
+    ensures { result ≡ no_faults }
 {
     Faults {
         store: false,
@@ -88,7 +88,7 @@ fn tick<H: Holding, C: SiteDriver + Drop>(
     requires { before ≡ length locked.old.history }
     ensures start { locked.new.start ≡ locked.old.start }
     ensures acts { Acts locked.old.history locked.new.history result.0 (λ added.
-        AnswersTick (replay locked.old.start locked.old.history) moment result.1 added unfaulted) }
+        AnswersTick (replay locked.old.start locked.old.history) moment result.1 added no_faults) }
     ensures short { length locked.new.history ≤ 1000000 }
     ensures onward { NeverBack locked.new.start locked.new.history }
     ensures kept { (began : Begun) → locked.old.start ≡ began.start
@@ -117,8 +117,8 @@ impl<H: Holding, C: SiteDriver> Model for Outset<H, C> {
     ghost view = { λ outset. begun_of outset.locked.value };
 }
 
-/// A history that many threads share, with what it was when they began to: since then its objects were told what its entries
-/// want, and nothing else.
+/// A history that many threads share, with what it was when they began to: since then its objects were told what its
+/// entries want, and nothing else, and the clock never went back.
 pub struct SharedHistory<H: Holding, C: SiteDriver> {
     locked: Locked<H, C>,
     began: Outset<H, C>,
@@ -148,7 +148,9 @@ impl<H: Holding, C: SiteDriver> Model for SharedHistory<H, C> {
 
     ghost view = { λ shared. record { began = shared.began; history = shared.locked.history; holds = shared.locked.holds } };
 
-    ghost invariant = { λ shared. (shared.locked.start ≡ shared.began.start) × HasKept shared.began.start shared.began.holds shared.locked.holds shared.locked.history × NeverBack shared.began.start shared.locked.history };
+    ghost invariant = { λ shared. (shared.locked.start ≡ shared.began.start)
+        × HasKept shared.began.start shared.began.holds shared.locked.holds shared.locked.history
+        × NeverBack shared.began.start shared.locked.history };
 }
 
 impl<H: Holding, C: SiteDriver + Drop> SharedHistory<H, C> {
@@ -210,11 +212,11 @@ impl<H: Holding, C: SiteDriver + Drop> Book for SharedHistory<H, C> {
             }
             Wanted::Tick(moment) => {
                 let (more, answer) = tick(&mut self.locked, alloc, before, moment);
-                (more, no_faults(), Told::Ticked(answer))
+                (more, none_met(), Told::Ticked(answer))
             }
             Wanted::Site { tag, item } => {
                 let answer = self.locked.site(alloc, tag, item);
-                (false, no_faults(), Told::Site(answer))
+                (false, none_met(), Told::Site(answer))
             }
         }
     }

@@ -7,8 +7,7 @@ use Rattle.hub_core.proofs.locked.Locked.tick.Goals as goal
 
 pub invariant_of-self : goal.invariant_of-self
 invariant_of-self g c =
-    let old = c.self.inside in
-    (
+    let old = c.self.inside in (
       subst (λ (start : State). IsStored old.held.tell.keeping (replay start c.tick.new.self.entries).tables) (sym c.tick.ensures.start)
           (stored_ticked old.held.tell.keeping old.history.start old.history.entries c.tick.new.self.entries c.args.moment c.tick.result c.tick.ensures.entries c.self.invariant.0),
       c.self.invariant.1,

@@ -1,0 +1,2 @@
+pub mod OnTime
+pub mod Through
