@@ -12,7 +12,7 @@ use admin_run::{LinkOf, Setting, World, book_keeper, run, world_of};
 use cloud_keeper::Keeper;
 use grain_supervise::{EchoLink, FakeSpawner, Spawner};
 use host_base::{Fails, Memory, Secrets, SeqSecrets, StdSink, StdSource};
-use host_clock::StillClock;
+use host_clock::{Clock, StillClock};
 use serve_door::Door;
 use site_caps::SiteDriver;
 use std::alloc::Global;
@@ -33,6 +33,7 @@ where
     W::Keeper: Send,
     W::Secrets: Send,
     W::Spawner: Send,
+    W::Clock: Send,
     W::Door: Send,
     <W::Door as Door>::Input: Send,
     <W::Door as Door>::Output: Send,
@@ -98,12 +99,13 @@ where
     }
 }
 
-// Serves connections at a door from the rows of a keeper, with these objects and standard output.
+// Serves connections at a door from the rows of a keeper, with these objects, a clock and standard output.
 pub(crate) fn serve_with<
     R: Threads + Wait + Sync,
     K: Keeper + Drop + Send,
     S: Secrets + Drop + Send,
     P: Spawner + Drop + Send,
+    T: Clock + Drop + Send,
     E: Door + Drop + Send,
     C: SiteDriver + Drop + Send,
 >(
@@ -112,6 +114,7 @@ pub(crate) fn serve_with<
     words: &[String],
     link: E::Link,
     held: (K, S, P),
+    clock: T,
     door: E,
     sites: Vec<C>,
 ) -> u8
@@ -127,7 +130,6 @@ where
     let (keeper, secrets, spawner) = held;
     let input = StdSource::new(rt.reader());
     let out = StdSink::new(io::writer(rt));
-    let clock = StillClock::new(0);
     let world = world_of(input, out, link, keeper, secrets, spawner, clock, door);
     status_in(wait, rt.alloc(), words, world, sites)
 }

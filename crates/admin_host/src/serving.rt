@@ -16,8 +16,8 @@ use std::sync::{Arc, Wait};
 use std::thread::Threads;
 use std::time::Clock;
 use system_edges::{
-    Output, Places, ProcSpawner, RngSecrets, SharedActivity, SharedClient, Starting, TcpDoor,
-    UnixLink,
+    Output, Places, ProcSpawner, RngSecrets, SharedActivity, SharedClient, Starting, SystemClock,
+    TcpDoor, UnixLink,
 };
 
 // The keeper over a file of rows, whatever the file holds at first. (What takes it is generic over its store: the check of a call that
@@ -106,7 +106,8 @@ where
         UnixLink::new(rt, sockets, asked),
         (keeper, secrets, spawner),
     );
-    serve_with(rt, wait, words, link, held, door, sites)
+    let clock = SystemClock::new(wait);
+    serve_with(rt, wait, words, link, held, clock, door, sites)
 }
 
 // Serves the clients of an acceptor from a file of rows.

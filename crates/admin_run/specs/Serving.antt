@@ -68,7 +68,7 @@ pub record ServesHistory (law : Law) (start : State) (count : ℕ) (may_leave : 
 -- THE HEADLINE of `serve`. A history begins with the tables of the rows that the keeper told, or of the first account, whose login's token is printed; connections
 -- are served on it; and the keeper has the tables at its end, in which the accounts still have their logins. The secrets that were
 -- drawn are the login's, where there is a first account, and then those of the orders. The spawner was told the starts and stops of its
--- entries, and no count fell. Neither the input, the link nor the clock is asked. What a stop may leave at its end is the rows of these tables, or those after one event more.
+-- entries, and no count fell. Neither the input nor the link is asked, and the clock stands where it stood. What a stop may leave at its end is the rows of these tables, or those after one event more.
 pub record ServesFrom (law : Law) (count : ℕ) (may_leave : List Row → Type 0) (old new : Outside) (status : ℕ)
     : Type 0 where
   pub tables : Tables

@@ -103,6 +103,7 @@ fn serve_history<R: Threads + Wait + Sync, W: Setting + Send, C: SiteDriver + Dr
     locked: Locked<W, C>,
     out: &mut W::Output,
     link: &LinkOf<W>,
+    clock: &W::Clock,
     door: W::Door,
     count: u32,
 ) -> Served<W>
@@ -110,6 +111,7 @@ where
     W::Keeper: Send,
     W::Secrets: Send,
     W::Spawner: Send,
+    W::Clock: Send,
     W::Door: Send,
     <W::Door as Door>::Input: Send,
     <W::Door as Door>::Output: Send,
@@ -145,7 +147,7 @@ where
         locked,
         jobs,
         outcome,
-    } = do_at_once(rt, alloc, locked, room, workers);
+    } = do_at_once(rt, alloc, locked, room, clock, workers);
     let held = locked.into_held();
     let (door, stopped) = dismiss(jobs);
     if outcome.is_err() {
@@ -172,6 +174,7 @@ where
     W::Keeper: Send,
     W::Secrets: Send,
     W::Spawner: Send,
+    W::Clock: Send,
     W::Door: Send,
     <W::Door as Door>::Input: Send,
     <W::Door as Door>::Output: Send,
@@ -211,7 +214,7 @@ where
         }
     };
     let Served { status, held, door } = serve_history(
-        rt, alloc, locked, &mut out, &link, door, count,
+        rt, alloc, locked, &mut out, &link, &clock, door, count,
     );
     let world = joined(Wire { input, out, link }, held, clock, door);
     Ran { status, world }
@@ -230,6 +233,7 @@ where
     W::Keeper: Send,
     W::Secrets: Send,
     W::Spawner: Send,
+    W::Clock: Send,
     W::Door: Send,
     <W::Door as Door>::Input: Send,
     <W::Door as Door>::Output: Send,

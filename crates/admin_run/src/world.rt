@@ -17,7 +17,7 @@ pub trait Setting: Holding {
     type Input: Source + Drop;
     /// What answers and lines are written to.
     type Output: Sink + Drop;
-    /// What tells the moment. Nothing reads it yet.
+    /// What tells the moment, of which each desk of `serve` has one that goes on from it.
     type Clock: Clock + Drop;
     /// Where connections come in, and the link to the grains.
     type Door: Door + Drop;

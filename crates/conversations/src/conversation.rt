@@ -47,6 +47,8 @@ pub struct Round {
     pub own: Stream,
     /// The connections that come in at the door, one after another.
     pub streams: Vec<Stream>,
+    /// The moments that its clock gives, and then the last one again; none are the moment 0.
+    pub clock: Vec<u64>,
     /// The status, and the line that says so.
     pub status: (usize, u8),
 }
@@ -57,6 +59,7 @@ impl Drop for Round {
             words: _,
             own: _,
             streams: _,
+            clock: _,
             status: _,
         } = self;
     }
@@ -69,6 +72,7 @@ impl Round {
             words,
             own: Stream::new(alloc, line),
             streams: Vec::new(alloc),
+            clock: Vec::new(alloc),
             status: (line, 0),
         }
     }

@@ -15,7 +15,7 @@ use club_site::{ClubLaw, PlainClub, plain_sites};
 use command_line::{Line, line_of};
 use grain_supervise::FakeSpawner;
 use host_base::{MemSink, MemSource};
-use host_clock::StillClock;
+use host_clock::{ListClock, Moments};
 use hub_core::Held;
 use plain_data::List;
 use serve_door::MemDoor;
@@ -97,7 +97,7 @@ type Kinds = Of<
     MemKeeper,
     AnySecrets,
     FakeSpawner,
-    StillClock,
+    ListClock,
     MemDoor<AnyLink>,
 >;
 
@@ -106,8 +106,19 @@ type Kinds = Of<
 struct Given {
     input: MemSource,
     out: MemSink,
+    clock: ListClock,
     door: MemDoor<AnyLink>,
     sites: Vec<PlainClub>,
+}
+
+// The clock of a run.
+fn clock_of(alloc: Global, round: &Round) -> Result<ListClock, Fault> {
+    let mut moments = round.clock.clone()?;
+    if moments.is_empty() {
+        moments.push(0)?;
+    }
+    let moments = Moments::new(moments).ok_or(Fault::Unreadable)?;
+    Ok(ListClock::new(moments))
 }
 
 // What a run of a conversation is given.
@@ -126,6 +137,7 @@ fn given_to(
     Ok(Given {
         input: source(alloc, &part.sent, &failing.source, conversation.gives)?,
         out: MemSink::new(alloc, fails),
+        clock: clock_of(alloc, round)?,
         door: door_of(alloc, round.streams.as_slice())?,
         sites: plain_sites(alloc)?,
     })
@@ -152,7 +164,7 @@ fn run_given<R: Threads + Wait + Sync>(
         objects.keeper,
         objects.secrets,
         objects.spawner,
-        StillClock::new(0),
+        given.clock,
         given.door,
     );
     run(rt, alloc, words, world, given.sites)

@@ -120,6 +120,7 @@ pub fn read_setting(
     match name {
         "words" => open(conversation)?.words = words(alloc, value)?,
         "reopen" => reopen(alloc, conversation, line, value)?,
+        "clock" => open(conversation)?.clock = numbers(alloc, value)?,
         "status" => open(conversation)?.status = (line, byte(value)?),
         "rows" => conversation.kept.count = Some((line, size(value)?)),
         "row" => put_last(alloc, conversation, line, value)?,

@@ -49,7 +49,7 @@ Event-send =
                                 (session.the_send, tt),
                                 (
                                   (session_id.the_send, tt),
-                                  ((handle.the_send, tt), tt),
+                                  ((handle.the_send, tt), ((search sendable depth 5, tt), tt)),
                                 ),
                               ),
                             ),

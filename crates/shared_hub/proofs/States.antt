@@ -1,5 +1,5 @@
 -- The tables and the state may cross threads, as each of their rows may.
-use denote.Param.Send.{IsSend}
+use denote.Param.Send.{IsSend, sendable}
 use denote.Param.SendFields.{declared_send}
 use Rattle.share_graph.specs.contracts.state.State as State
 use Rattle.share_graph.specs.contracts.state.Tables as Tables
@@ -17,7 +17,7 @@ tables_send : IsSend Tables.the_row
 tables_send =
     declared_send Tables.the_type (
       rows.the_send _ _ account.the_send,
-      (rows.the_send _ _ App-send, (rows.the_send _ _ grain.the_send, (rows.the_send _ _ grant.the_send, (rows.the_send _ _ saved.the_send, tt)))),
+      (rows.the_send _ _ App-send, (rows.the_send _ _ grain.the_send, (rows.the_send _ _ grant.the_send, (rows.the_send _ _ saved.the_send, (search sendable depth 5, tt))))),
     )
 
 pub State-send : IsSend State.the_row

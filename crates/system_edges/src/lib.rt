@@ -1,6 +1,6 @@
 //! The edges to the system, which tell nothing of what passes through them: the acceptor of a port of this machine, the doors at
-//! it, and the door on a Unix socket; what starts and stops the programs of grains, and the link to them; and secrets from the
-//! system's randomness. A run's program listens at a socket `run-N.sock`, N its number, in one folder, and what it prints is logged.
+//! it, and the door on a Unix socket; what starts and stops the programs of grains, and the link to them; secrets from the
+//! system's randomness; and its clock. A run's program listens at a socket `run-N.sock`, N its number, in one folder, and what it prints is logged.
 //! What waits has a time limit (`limits`).
 #![tactic(auto)]
 
@@ -19,6 +19,7 @@ mod plan;
 mod proc_spawner;
 mod rng_secrets;
 mod socket;
+mod system_clock;
 mod tcp_door;
 mod unix_door;
 mod unix_link;
@@ -33,6 +34,7 @@ pub use logs::{Logs, Output};
 pub use places::Places;
 pub use proc_spawner::{ProcSpawner, Starting};
 pub use rng_secrets::RngSecrets;
+pub use system_clock::SystemClock;
 pub use tcp_door::TcpDoor;
 pub use unix_door::UnixDoor;
 pub use unix_link::UnixLink;

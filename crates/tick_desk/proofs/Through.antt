@@ -1,8 +1,11 @@
 -- A tick, and then an answer of the desk beneath: what the desk with the clock tells.
-use Rattle.std.proofs.Common.{◌≡◌, ◌∙◌, ◌⊎◌, ◌<◌, ◌≤◌, ◌-◌, ◌+◌, ◌++◌, ◌∷◌, [], ℕ, zero, suc, Bool, true, false, List, Option, Some, None, Result, Ok, Err, length, slice_get, refl, sym, ap, subst, arith, append_assoc, append-nil, length-append, inl, inr}
+use Rattle.std.proofs.Common.{◌≡◌, ◌∙◌, ◌⊎◌, ◌<◌, ◌≤◌, ◌-◌, ◌+◌, ◌++◌, ◌∷◌, [], ℕ, zero, suc, Bool, true, false, List, Option, Some, None, Result, Ok, Err, length, slice_get, take, All, refl, sym, ap, subst, arith, append_assoc, length-append, inl, inr}
 use Rattle.std.specs.Prelude.{IfOk}
+use Rattle.std.proofs.Math.Seq.{take-append-add, take-append_seam}
+use Rattle.std.proofs.lemmas.List.Elements.{All-cons, All-nil}
+use Rattle.std.proofs.lemmas.List.Sums.{sum_by-append, sum_by-le}
 use Rattle.host_base.specs.declared.bytes.Memory.{Memory}
-use Rattle.desk_base.specs.Terms.{AppId, Event, IsWellFormed, Key, replay, Rose, State, Verdict}
+use Rattle.desk_base.specs.Terms.{Event, Key, replay, Rose, State, Verdict}
 use Rattle.desk_orders.specs.Commands.{Asked}
 use Rattle.desk_orders.specs.Secrets.{DrawsAll}
 use Rattle.desk_orders.specs.declared.reply.OrderFault.{OrderFault}
@@ -14,7 +17,7 @@ use Rattle.hub_core.proofs.Adding.{told_nothing}
 use Rattle.hub_core.specs.Book.{Backing, Book, CountsOn, GoesOn, IsCounted, Judged, Later, Ordered, TakesNone, Ticked}
 use Rattle.hub_core.specs.Ticking.{IsTick, added_by}
 use Rattle.tick_desk.specs.declared.tick_desk.LastTick.{LastTick}
-use Rattle.tick_desk.specs.Clocked.{without, WasTicked, KnowsLast, last_after, HasTicked, StaysTicked, CountsTicks, IsOnTime, UnlessMemory}
+use Rattle.tick_desk.specs.Clocked.{without, tick_of, ticks_in, WasTicked, KnowsLast, last_after, HasTicked, StaysTicked, CountsTicks, IsOnTime, UnlessMemory}
 use Rattle.tick_desk.proofs.OnTime.{on_time}
 
 -- ---- seeing further
@@ -66,20 +69,48 @@ known_after old new m place (Ok changed) last t known =
     record { before = t.before; rest = t.rest; answer = changed; seen = t.seen; place_is = t.place_is; answered = t.answered }
 known_after old new m place (Err memory) last t known = still_known old new last t.later known
 
--- so many entries were seen as a tick added, behind those that were seen before
-seen_more : (old new : Book) (m place : ℕ) (answer : Result Bool Memory) → Ticked old new m place answer → length old.seen + length (added_by m answer) ≤ length new.seen
-seen_more old new m place answer t =
+-- ---- how many of the entries are ticks
+
+one_few : (e : Event) → tick_of e ≤ 1
+one_few (event.Ticked m) = omega arith
+one_few _ = omega arith
+
+all_few : (entries : List Event) → All (λ (e : Event). tick_of e ≤ 1) entries
+all_few [] = All-nil (λ (e : Event). tick_of e ≤ 1)
+all_few (e ∷ entries) = All-cons (λ (x : Event). tick_of x ≤ 1) e entries (one_few e) (all_few entries)
+
+pub ticks_few : (entries : List Event) → ticks_in entries ≤ length entries
+ticks_few entries = let few = sum_by-le tick_of 1 entries (all_few entries) in omega (arith, few)
+
+-- what a tick added is a tick
+ticks_added : (m : ℕ) (answer : Result Bool Memory) → ticks_in (added_by m answer) ≡ length (added_by m answer)
+ticks_added m (Ok true) = refl
+ticks_added m (Ok false) = refl
+ticks_added m (Err memory) = refl
+
+-- what stood before a tick begins with what was seen before
+begins : (old new : Book) (m place : ℕ) (answer : Result Bool Memory) (t : Ticked old new m place answer)
+    → t.before ≡ old.seen ++ take (length t.before - length old.seen) t.later.more
+begins old new m place answer t =
+    let split : length old.seen + (length t.before - length old.seen) ≡ length t.before = omega (arith, t.low_is, t.place_is) in
+    sym (take-append_seam t.before (added_by m answer ++ t.rest))
+    ∙ ap (take (length t.before)) (sym (append_assoc t.before (added_by m answer) t.rest) ∙ sym t.seen ∙ t.later.seen)
+    ∙ ap (λ (n : ℕ). take n (old.seen ++ t.later.more)) (sym split)
+    ∙ take-append-add old.seen t.later.more (length t.before - length old.seen)
+
+pub within_after : (old new : Book) (m place k : ℕ) (answer : Result Bool Memory) → Ticked old new m place answer → k ≤ ticks_in old.seen
+    → k + length (added_by m answer) ≤ ticks_in new.seen
+within_after old new m place k answer t le =
     omega (
       arith,
-      ap length t.seen,
-      length-append (t.before ++ added_by m answer) t.rest,
-      length-append t.before (added_by m answer),
-      t.place_is,
-      t.low_is,
+      le,
+      ap ticks_in t.seen,
+      sum_by-append tick_of (t.before ++ added_by m answer) t.rest,
+      sum_by-append tick_of t.before (added_by m answer),
+      ap ticks_in (begins old new m place answer t),
+      sum_by-append tick_of old.seen (take (length t.before - length old.seen) t.later.more),
+      ticks_added m answer,
     )
-
-pub within_after : (old new : Book) (m place k : ℕ) (answer : Result Bool Memory) → Ticked old new m place answer → k ≤ length old.seen → k + length (added_by m answer) ≤ length new.seen
-within_after old new m place k answer t le = let more = seen_more old new m place answer t in omega (arith, le, more)
 
 pub counted_after : (old new : Book) (m place k : ℕ) (answer : Result Bool Memory) → Ticked old new m place answer → k ≤ old.accepted → k + length (added_by m answer) ≤ new.accepted
 counted_after old new m place k answer t le = omega (arith, t.accepted, le)
@@ -292,10 +323,9 @@ counts_failed m k n last seen same = record { most = omega (arith, same); entry 
 -- ---- what the type keeps
 
 pub stays : (old new : Book) (k : ℕ) (last : Option LastTick) → Later old new → old.accepted ≤ new.accepted
-    → (k ≤ old.accepted) × (k ≤ length old.seen) × KnowsLast old last → (k ≤ new.accepted) × (k ≤ length new.seen) × KnowsLast new last
+    → (k ≤ old.accepted) × (k ≤ ticks_in old.seen) × KnowsLast old last → (k ≤ new.accepted) × (k ≤ ticks_in new.seen) × KnowsLast new last
 stays old new k last l le (counted, within, known) =
-    let more = longer old new l in
-    (omega (arith, le, counted), omega (arith, more, within), still_known old new last l known)
+    (omega (arith, le, counted), omega (arith, within, ap ticks_in l.seen, sum_by-append tick_of old.seen l.more), still_known old new last l known)
 
 pub unless_memory : (P : Type 0) (given : Result Reply OrderFault) → P → UnlessMemory given P
 unless_memory P (Ok r) p = p

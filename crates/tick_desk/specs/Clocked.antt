@@ -1,5 +1,5 @@
 -- A desk with a clock: what it tells, and what its ticks are for.
-use Rattle.std.specs.Prelude.{◌≡◌, ◌≤◌, ◌+◌, ◌-◌, ℕ, Bool, ◌++◌, List, Option, Some, None, Result, Ok, Err, length, slice_get, take}
+use Rattle.std.specs.Prelude.{◌≡◌, ◌≤◌, ◌+◌, ◌-◌, ℕ, Bool, ◌++◌, List, Option, Some, None, Result, Ok, Err, length, slice_get, sum_by, take}
 use Rattle.desk_orders.specs.declared.reply.OrderFault.{OrderFault}
 use Rattle.desk_orders.specs.declared.reply.OrderFault.TheVariants as fault
 use Rattle.desk_orders.specs.declared.reply.Reply.{Reply}
@@ -25,6 +25,14 @@ pub record Clocked (D C : Type 0) : Type 0 where
 -- What it tells is what the desk beneath tells, but that its own ticks are none of the commands that it accepted.
 abbrev pub without : ℕ → Book → Book
 without ticks book = record book { accepted = book.accepted - ticks }
+
+-- how many of the entries are ticks
+abbrev pub tick_of : Event → ℕ
+tick_of (event.Ticked m) = 1
+tick_of _ = 0
+
+abbrev pub ticks_in : List Event → ℕ
+ticks_in entries = sum_by tick_of entries
 
 -- The tick was answered at its place, by the state there.
 pub record WasTicked (book : Book) (tick : LastTick) : Type 0 where

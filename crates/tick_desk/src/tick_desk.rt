@@ -42,14 +42,14 @@ impl<D: Desk + Drop, C: Clock + Drop> Drop for TickDesk<D, C> {
 }
 
 impl<D: Desk, C: Clock> Model for TickDesk<D, C> {
-    ghost use Rattle.std.specs.Prelude.{◌≤◌, length};
-    ghost use Rattle.tick_desk.specs.Clocked.{Clocked, KnowsLast};
+    ghost use Rattle.std.specs.Prelude.{◌≤◌};
+    ghost use Rattle.tick_desk.specs.Clocked.{Clocked, KnowsLast, ticks_in};
 
     ghost Value = { Clocked D C };
 
     ghost view = { λ desk. record { desk = desk.desk; clock = desk.clock; ticks = desk.ticks; last = desk.last } };
 
-    ghost invariant = { λ desk. (desk.ticks ≤ (D.book desk.desk).accepted) × (desk.ticks ≤ length (D.book desk.desk).seen) × KnowsLast (D.book desk.desk) desk.last };
+    ghost invariant = { λ desk. (desk.ticks ≤ (D.book desk.desk).accepted) × (desk.ticks ≤ ticks_in (D.book desk.desk).seen) × KnowsLast (D.book desk.desk) desk.last };
 }
 
 // Whether a verdict at a moment wants a tick before it.

@@ -1,4 +1,4 @@
-use Rattle.std.proofs.Common.{◌≡◌, ◌+◌, Bool, Option, Result, Ok, Err, length, refl, subst, arith}
+use Rattle.std.proofs.Common.{◌≡◌, ◌+◌, Bool, Result, Ok, Err, length, subst, arith}
 use Rattle.host_base.specs.declared.bytes.Memory.{Memory}
 use Rattle.hub_core.specs.Book.{Ticked}
 use Rattle.hub_core.specs.Ticking.{added_by}
