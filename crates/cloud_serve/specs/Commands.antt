@@ -45,11 +45,11 @@ module _ (who : Digest) (body : List ℕ) where
   asked_at (route.GrainTrash n) = asks login (plain_body body) λ _. command.Trash (record { 0 = n })
   asked_at (route.GrainUntrash n) = asks login (plain_body body) λ _. command.Untrash (record { 0 = n })
   asked_at (route.GrainShare n) =
-      asks login (share_body body) λ f. command.Share (record { 0 = n }) f.to f.assignment f.needs None
+      asks login (share_body body) λ f. command.Share (record { 0 = n }) f.to f.assignment f.needs f.expires
   asked_at (route.GrainLink n) =
-      asks login (token_body body) λ f. command.MakeToken (record { 0 = n }) true f.assignment f.needs None
+      asks login (token_body body) λ f. command.MakeToken (record { 0 = n }) true f.assignment f.needs f.expires
   asked_at (route.GrainToken n) =
-      asks login (token_body body) λ f. command.MakeToken (record { 0 = n }) false f.assignment f.needs None
+      asks login (token_body body) λ f. command.MakeToken (record { 0 = n }) false f.assignment f.needs f.expires
   asked_at (route.GrainOpen n) = Some (stating (opens login (Some (record { 0 = n }))) (tab_body body))
   asked_at (route.GrainWake n) = asks login (plain_body body) λ _. command.StartRun (Some (record { 0 = n }))
   asked_at (route.GrainStop n) = asks login (plain_body body) λ _. command.StopRun (record { 0 = n })
@@ -58,7 +58,7 @@ module _ (who : Digest) (body : List ℕ) where
   asked_at (route.SessionClose n) =
       asks (caller.Either who) (plain_body body) λ _. command.CloseSession (record { 0 = n })
   asked_at route.Child =
-      asks (caller.Bearer who) (child_body body) λ f. command.Child f.for_sharing f.assignment f.needs None
+      asks (caller.Bearer who) (child_body body) λ f. command.Child f.for_sharing f.assignment f.needs f.expires
   asked_at route.Open = Some (stating (opens (caller.Bearer who) None) (tab_body body))
   asked_at route.Wake = asks (caller.Bearer who) (plain_body body) λ _. command.StartRun None
   asked_at (route.GrainQuery n) = asks login (query_body body) (command.Options (record { 0 = n }))

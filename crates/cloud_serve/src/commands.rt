@@ -1,5 +1,4 @@
 //! The commands that the bodies of the desk's routes state.
-ghost use Rattle.std.specs.Prelude.{None};
 ghost use Rattle.desk_bodies.specs.Answers.{Answers};
 ghost use Rattle.desk_bodies.specs.Bodies.{account_body, child_body, grain_body, manifest_body, mark_body, plain_body, redeem_body, share_body, tab_body, token_body};
 ghost use Rattle.desk_orders.specs.Commands.{IsStated};
@@ -96,13 +95,14 @@ pub fn new_share(
 ) -> Result<Showing, BodyFault>
     ensures { Answers (stating
         (λ fields.
-        wants (caller.Login who) (command.Share grain fields.to fields.assignment fields.needs None))
+        wants (caller.Login who) (command.Share grain fields.to fields.assignment fields.needs fields.expires))
         (share_body body.now)) result }
 {
     let ShareFields {
         to,
         assignment,
         needs,
+        expires,
     } = share_fields(alloc, body)?;
     Ok(Showing::Wants(Order::new(
         Caller::Login(who),
@@ -111,7 +111,7 @@ pub fn new_share(
             to,
             assignment,
             needs,
-            expires: None,
+            expires,
         },
     )))
 }
@@ -126,10 +126,14 @@ pub fn new_token(
 ) -> Result<Showing, BodyFault>
     ensures { Answers (stating
         (λ fields.
-        wants (caller.Login who) (command.MakeToken grain for_sharing fields.assignment fields.needs None))
+        wants (caller.Login who) (command.MakeToken grain for_sharing fields.assignment fields.needs fields.expires))
         (token_body body.now)) result }
 {
-    let TokenFields { assignment, needs } = token_fields(alloc, body)?;
+    let TokenFields {
+        assignment,
+        needs,
+        expires,
+    } = token_fields(alloc, body)?;
     Ok(Showing::Wants(Order::new(
         Caller::Login(who),
         Command::MakeToken {
@@ -137,7 +141,7 @@ pub fn new_token(
             for_sharing,
             assignment,
             needs,
-            expires: None,
+            expires,
         },
     )))
 }
@@ -146,13 +150,14 @@ pub fn new_token(
 pub fn new_child(alloc: Global, who: Digest, body: &[u8]) -> Result<Showing, BodyFault>
     ensures { Answers (stating
         (λ fields.
-        wants (caller.Bearer who) (command.Child fields.for_sharing fields.assignment fields.needs None))
+        wants (caller.Bearer who) (command.Child fields.for_sharing fields.assignment fields.needs fields.expires))
         (child_body body.now)) result }
 {
     let ChildFields {
         for_sharing,
         assignment,
         needs,
+        expires,
     } = child_fields(alloc, body)?;
     Ok(Showing::Wants(Order::new(
         Caller::Bearer(who),
@@ -160,7 +165,7 @@ pub fn new_child(alloc: Global, who: Digest, body: &[u8]) -> Result<Showing, Bod
             for_sharing,
             assignment,
             needs,
-            expires: None,
+            expires,
         },
     )))
 }

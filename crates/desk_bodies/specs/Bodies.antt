@@ -20,7 +20,7 @@ use Rattle.desk_bodies.specs.declared.bodies.TokenFields.{TokenFields}
 use Rattle.desk_bodies.specs.declared.fault.BodyFault.{BodyFault}
 use Rattle.desk_bodies.specs.declared.fault.BodyFault.TheVariants.{Manifest}
 use Rattle.desk_bodies.specs.Answers.{field}
-use Rattle.desk_bodies.specs.Fields.{name_of, handle_of, mark_of, token_of, tab_of, number_of, account_of, app_of, permissions_of}
+use Rattle.desk_bodies.specs.Fields.{name_of, handle_of, mark_of, token_of, tab_of, expiry_of, number_of, account_of, app_of, permissions_of}
 use Rattle.desk_bodies.specs.Fields.{assignment_of, needs_of, query_of, offer_of}
 
 -- the text that a body is read as: an empty body counts as `{}`
@@ -55,28 +55,31 @@ grain_body body = in_object body λ object.
 abbrev pub plain_body : List ℕ → Result ⊤ BodyFault
 plain_body body = in_object body λ object. Ok tt
 
--- /grains/{n}/share: 1 to, 2 assignment?, 3 needs?
+-- /grains/{n}/share: 1 to, 2 assignment?, 3 needs?, 4 expires?
 abbrev pub share_body : List ℕ → Result ShareFields BodyFault
 share_body body = in_object body λ object.
     field 1 (account_of (get (codes "to") object)) λ to.
     field 2 (assignment_of (get (codes "assignment") object)) λ assignment.
     field 3 (needs_of (get (codes "needs") object)) λ needs.
-    Ok (record { to = to; assignment = assignment; needs = needs })
+    field 4 (expiry_of (get (codes "expires") object)) λ expires.
+    Ok (record { to = to; assignment = assignment; needs = needs; expires = expires })
 
--- /grains/{n}/link and /grains/{n}/token: 1 assignment?, 2 needs?
+-- /grains/{n}/link and /grains/{n}/token: 1 assignment?, 2 needs?, 3 expires?
 abbrev pub token_body : List ℕ → Result TokenFields BodyFault
 token_body body = in_object body λ object.
     field 1 (assignment_of (get (codes "assignment") object)) λ assignment.
     field 2 (needs_of (get (codes "needs") object)) λ needs.
-    Ok (record { assignment = assignment; needs = needs })
+    field 3 (expiry_of (get (codes "expires") object)) λ expires.
+    Ok (record { assignment = assignment; needs = needs; expires = expires })
 
--- /child: 1 for_sharing, 2 assignment?, 3 needs?
+-- /child: 1 for_sharing, 2 assignment?, 3 needs?, 4 expires?
 abbrev pub child_body : List ℕ → Result ChildFields BodyFault
 child_body body = in_object body λ object.
     field 1 (mark_of (get (codes "for_sharing") object)) λ for_sharing.
     field 2 (assignment_of (get (codes "assignment") object)) λ assignment.
     field 3 (needs_of (get (codes "needs") object)) λ needs.
-    Ok (record { for_sharing = for_sharing; assignment = assignment; needs = needs })
+    field 4 (expiry_of (get (codes "expires") object)) λ expires.
+    Ok (record { for_sharing = for_sharing; assignment = assignment; needs = needs; expires = expires })
 
 -- /redeem, /restore and /drop: 1 token
 abbrev pub redeem_body : List ℕ → Result Digest BodyFault

@@ -52,6 +52,13 @@ abbrev pub tab_of : Option Data → Option (Option ℕ)
 tab_of None = Some None
 tab_of (Some d) = option_map Some (as_number d >>= as_u64)
 
+-- an expiry, which may be missing: what is written as an integer from 1 to 2^64 - 1, a moment in seconds
+abbrev pub expiry_of : Option Data → Option (Option ℕ)
+expiry_of None = Some None
+expiry_of (Some d) = do
+  end ← as_number d >>= as_u64
+  if nat_lt 0 end then Some (Some end) else None
+
 -- a number of 32 bits: what is written as an integer, and is below 2^32
 abbrev pub number_of : Option Data → Option ℕ
 number_of found = do

@@ -8,8 +8,8 @@ ghost use Rattle.desk_bodies.specs.Bodies as bodies;
 
 use crate::fault::BodyFault;
 use crate::fields::{
-    assignment_from, handle_from, mark_from, name_from, needs_from, number_from, offer_from,
-    permissions_from, query_from, tab_from, token_from,
+    assignment_from, expiry_from, handle_from, mark_from, name_from, needs_from, number_from,
+    offer_from, permissions_from, query_from, tab_from, token_from,
 };
 use crate::object::{field, object_from, text_of};
 use app_manifest::{Manifest, ManifestError, manifest_from};
@@ -40,6 +40,8 @@ pub struct ShareFields {
     pub to: AccountId,
     pub assignment: Assignment,
     pub needs: Needs,
+    /// The moment at which it ends, in seconds from 1 on, or none where it doesn't end by itself.
+    pub expires: Option<u64>,
 }
 
 /// The fields of a new link or token.
@@ -47,6 +49,8 @@ pub struct ShareFields {
 pub struct TokenFields {
     pub assignment: Assignment,
     pub needs: Needs,
+    /// The moment at which it ends, in seconds from 1 on, or none where it doesn't end by itself.
+    pub expires: Option<u64>,
 }
 
 /// The fields of a new token that a bearer hands on.
@@ -55,6 +59,8 @@ pub struct ChildFields {
     pub for_sharing: bool,
     pub assignment: Assignment,
     pub needs: Needs,
+    /// The moment at which it ends, in seconds from 1 on, or none where it doesn't end by itself.
+    pub expires: Option<u64>,
 }
 
 /// The fields of a choice.
@@ -136,7 +142,8 @@ pub fn manifest_field(alloc: Global, body: &[u8]) -> Result<Manifest, BodyFault>
     }
 }
 
-/// The account to share with, what it is given, and under which needs. A missing assignment gives no role, and missing needs are none.
+/// The account to share with, what it is given, under which needs, and when that ends. A missing assignment gives no
+/// role, missing needs are none, and without an expiry it doesn't end by itself.
 pub fn share_fields(alloc: Global, body: &[u8]) -> Result<ShareFields, BodyFault>
     ensures stated { Answers (bodies.share_body body.now) result }
 {
@@ -144,25 +151,33 @@ pub fn share_fields(alloc: Global, body: &[u8]) -> Result<ShareFields, BodyFault
     let to = field(1, number_from(object.get("to")).map(AccountId))?;
     let assignment = field(2, assignment_from(alloc, object.get("assignment"))?)?;
     let needs = field(3, needs_from(alloc, object.get("needs"))?)?;
+    let expires = field(4, expiry_from(object.get("expires")))?;
     Ok(ShareFields {
         to,
         assignment,
         needs,
+        expires,
     })
 }
 
-/// What a new link or token gives, and under which needs. A missing assignment gives no role, and missing needs are none.
+/// What a new link or token gives, under which needs, and when it ends. A missing assignment gives no role, missing
+/// needs are none, and without an expiry it doesn't end by itself.
 pub fn token_fields(alloc: Global, body: &[u8]) -> Result<TokenFields, BodyFault>
     ensures stated { Answers (bodies.token_body body.now) result }
 {
     let object = field(0, object_from(alloc, text_of(body))?)?;
     let assignment = field(1, assignment_from(alloc, object.get("assignment"))?)?;
     let needs = field(2, needs_from(alloc, object.get("needs"))?)?;
-    Ok(TokenFields { assignment, needs })
+    let expires = field(3, expiry_from(object.get("expires")))?;
+    Ok(TokenFields {
+        assignment,
+        needs,
+        expires,
+    })
 }
 
-/// Whether a new token is for sharing, what it gives, and under which needs. A missing assignment gives no role, and missing needs are
-/// none.
+/// Whether a new token is for sharing, what it gives, under which needs, and when it ends. A missing assignment gives
+/// no role, missing needs are none, and without an expiry it doesn't end by itself.
 pub fn child_fields(alloc: Global, body: &[u8]) -> Result<ChildFields, BodyFault>
     ensures stated { Answers (bodies.child_body body.now) result }
 {
@@ -170,10 +185,12 @@ pub fn child_fields(alloc: Global, body: &[u8]) -> Result<ChildFields, BodyFault
     let for_sharing = field(1, mark_from(object.get("for_sharing")))?;
     let assignment = field(2, assignment_from(alloc, object.get("assignment"))?)?;
     let needs = field(3, needs_from(alloc, object.get("needs"))?)?;
+    let expires = field(4, expiry_from(object.get("expires")))?;
     Ok(ChildFields {
         for_sharing,
         assignment,
         needs,
+        expires,
     })
 }
 

@@ -62,6 +62,20 @@ pub(crate) fn tab_from(value: Option<&Value>) -> Option<Option<u64>>
     }
 }
 
+/// The expiry that a field states, in seconds from 1 on, or that isn't set where it is missing, or none where it is
+/// not of the shape.
+pub(crate) fn expiry_from(value: Option<&Value>) -> Option<Option<u64>>
+    ensures { result ≡ fields.expiry_of (option_map (λ v. view v.now) value.entry) }
+{
+    let Some(value) = value else {
+        return Some(None);
+    };
+    match value.as_u64()? {
+        0 => None,
+        end => Some(Some(end)),
+    }
+}
+
 /// The number of 32 bits that a field states, or none where it is missing or not of the shape.
 pub(crate) fn number_from(value: Option<&Value>) -> Option<u32>
     ensures { result ≡ fields.number_of (option_map (λ v. view v.now) value.entry) }
