@@ -1,5 +1,5 @@
 -- Jobs that were done by passes.
-use Rattle.std.proofs.Common.{◌≡◌, ◌+◌, ◌++◌, suc, All, List, [], ◌∷◌, length, map, refl, sym, ◌∙◌, ap, subst, arith}
+use Rattle.std.proofs.Common.{◌≡◌, ℕ, ◌+◌, ◌++◌, suc, All, List, [], ◌∷◌, length, map, false, is_err, Result, Ok, Err, IfOk, refl, sym, ◌∙◌, ap, subst, arith}
 use Rattle.std.specs.List.{sum_by}
 use Rattle.std.proofs.lemmas.List.Sums.{sum_by-cons}
 use Rattle.std.proofs.lemmas.List.Elements.{All-cons, All-head, All-nil, All-tail}
@@ -13,6 +13,7 @@ use Rattle.hub_core.specs.Book.{Book}
 use Rattle.hub_jobs.specs.Inner.{DoneBy, Each}
 use Rattle.hub_jobs.specs.Jobs.{AreDone, DoneAtOnce, Shift}
 use Rattle.shared_hub.specs.Passing.{book_by}
+use Rattle.tick_desk.specs.Clocked.{without}
 
 each_first : {A : Type 0} (related : A → A → Type 0) (x y : A) (xs ys : List A) → Each related (x ∷ xs) (y ∷ ys) → related x y
 each_first related x y xs ys (long, each) = each 0 x (omega arith)
@@ -20,15 +21,19 @@ each_first related x y xs ys (long, each) = each 0 x (omega arith)
 each_others : {A : Type 0} (related : A → A → Type 0) (x y : A) (xs ys : List A) → Each related (x ∷ xs) (y ∷ ys) → Each related xs ys
 each_others related x y xs ys (long, each) = (omega (arith, long), λ i d near. each (suc i) d (omega (arith, near)))
 
-module _ {W J : Type 0} (desk : W → Passing Event Verdict) (job : W → J) (does : Book → Book → J → J → Type 0) (law : Law) (start : State) where
+module _ {W J : Type 0} (desk : W → Passing Event Verdict) (ticks : W → ℕ) (job : W → J) (does : Book → Book → J → J → Type 0) (law : Law) (start : State) where
   abbrev Works : W → W → Type 0
-  Works old new = does (book_by law start (desk old)) (book_by law start (desk new)) (job old) (job new)
+  Works old new =
+      does (without (ticks old) (book_by law start (desk old))) (without (ticks new) (book_by law start (desk new))) (job old) (job new)
 
   abbrev IsUnusedBy : W → Type 0
   IsUnusedBy w = (desk w).orders ≡ 0
 
+  abbrev IsUnticked : W → Type 0
+  IsUnticked w = ticks w ≡ 0
+
   abbrev shifts_of : List W → List W → List Shift
-  shifts_of (x ∷ xs) (y ∷ ys) = record { from = desk x; to = desk y } ∷ shifts_of xs ys
+  shifts_of (x ∷ xs) (y ∷ ys) = record { from = desk x; to = desk y; ticks = ticks y } ∷ shifts_of xs ys
   shifts_of _ _ = []
 
   passes_are : (xs ys : List W) → length ys ≡ length xs → map (λ (shift : Shift). shift.to) (shifts_of xs ys) ≡ map desk ys
@@ -37,23 +42,27 @@ module _ {W J : Type 0} (desk : W → Passing Event Verdict) (job : W → J) (do
   passes_are (x ∷ xs) [] long = absurd (omega (arith, long))
   passes_are (x ∷ xs) (y ∷ ys) long = ap (λ more. desk y ∷ more) (passes_are xs ys (omega (arith, long)))
 
-  are_done : (xs ys : List W) → Each Works xs ys → All IsUnusedBy xs → AreDone does law start (shifts_of xs ys) (map job xs) (map job ys)
-  are_done [] [] each unused = tt
-  are_done [] (y ∷ ys) (long, each) unused = absurd (omega (arith, long))
-  are_done (x ∷ xs) [] (long, each) unused = absurd (omega (arith, long))
-  are_done (x ∷ xs) (y ∷ ys) each unused = (
-    record { unused = All-head IsUnusedBy x xs unused; did = each_first Works x y xs ys each },
-    are_done xs ys (each_others Works x y xs ys each) (All-tail IsUnusedBy x xs unused),
+  are_done : (xs ys : List W) → Each Works xs ys → All IsUnusedBy xs → All IsUnticked xs → AreDone does law start (shifts_of xs ys) (map job xs) (map job ys)
+  are_done [] [] each unused unticked = tt
+  are_done [] (y ∷ ys) (long, each) unused unticked = absurd (omega (arith, long))
+  are_done (x ∷ xs) [] (long, each) unused unticked = absurd (omega (arith, long))
+  are_done (x ∷ xs) (y ∷ ys) each unused unticked = (
+    record {
+      unused = All-head IsUnusedBy x xs unused;
+      did = subst (λ (n : ℕ). does (without n (book_by law start (desk x))) (without (ticks y) (book_by law start (desk y))) (job x) (job y))
+          (All-head IsUnticked x xs unticked) (each_first Works x y xs ys each);
+    },
+    are_done xs ys (each_others Works x y xs ys each) (All-tail IsUnusedBy x xs unused) (All-tail IsUnticked x xs unticked),
   )
 
   -- workers' jobs were done by their passes
-  pub done_by : (xs ys : List W) (passes : List (Passing Event Verdict)) (old new : List J) → Each Works xs ys → All IsUnusedBy xs → map job xs ≡ old → passes ≡ map desk ys → new ≡ map job ys
+  pub done_by : (xs ys : List W) (passes : List (Passing Event Verdict)) (old new : List J) → Each Works xs ys → All IsUnusedBy xs → All IsUnticked xs → map job xs ≡ old → passes ≡ map desk ys → new ≡ map job ys
       → DoneBy does law start passes old new
-  done_by xs ys passes old new each unused before passes_is after = (
+  done_by xs ys passes old new each unused unticked before passes_is after = (
     shifts_of xs ys,
     passes_are xs ys each.0 ∙ sym passes_is,
     subst (λ (list : List J). AreDone does law start (shifts_of xs ys) old list) (sym after)
-        (subst (λ (list : List J). AreDone does law start (shifts_of xs ys) list (map job ys)) before (are_done xs ys each unused)),
+        (subst (λ (list : List J). AreDone does law start (shifts_of xs ys) list (map job ys)) before (are_done xs ys each unused unticked)),
   )
 
 sums : (shifts : List Shift) → accepted (map (λ (shift : Shift). shift.to) shifts) ≡ sum_by (λ (shift : Shift). shift.to.orders) shifts
@@ -100,3 +109,8 @@ none_accepted (pass ∷ passes) all =
     let rest = none_accepted passes (All-tail (λ (p : Passing Event Verdict). p.orders ≡ 0) pass passes all) in
     let sum = sum_by-cons (λ (p : Passing Event Verdict). p.orders) pass passes in
     omega (arith, first, rest, sum)
+
+-- what is known of a result where it is no error
+pub ok_is : {X Y P : Type 0} (r : Result X Y) → is_err r ≡ false → IfOk r (λ _. P) → P
+ok_is (Ok x) is known = known
+ok_is (Err e) is known = absurd (cc is)

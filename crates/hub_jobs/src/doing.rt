@@ -8,10 +8,11 @@ ghost use Rattle.shared_hub.specs.Since.{HasKept, begun_of};
 ghost use Rattle.shared_hub.specs.Wanting.{blank};
 
 use crate::at_once::run_all;
-use crate::staff::{dismiss, hire, make_passes};
+use crate::staff::{dismiss, hire, make_clocks, make_passes};
 use crate::worker::{Job, Worker};
 use epoch_gate::{Hub, Maker, Named, PARTS, Pass, Unnamed};
 use host_base::Memory;
+use host_clock::Clock;
 use hub_core::{Holding, Locked};
 use share_graph::Event;
 use shared_hub::{Outset, SharedHistory};
@@ -26,24 +27,43 @@ use std::thread::Threads;
 /// How many jobs are done at once at the most: as many as a hub has passes.
 pub const MOST_JOBS: usize = 65536;
 
-// Room for so many workers, and for what they leave.
+// A clock for each of so many workers, and room for the workers and for what they leave.
 #[derive(Drop)]
-struct Rooms<'a, H: Holding, C: SiteDriver + Drop, N: Named<Outset<H, C>>, L: Ledger, R, J: Drop> {
-    workers: Vec<Worker<'a, H, C, N, L, R, J>>,
+struct Rooms<
+    'a,
+    H: Holding,
+    C: SiteDriver + Drop,
+    N: Named<Outset<H, C>>,
+    L: Ledger,
+    R: Wait,
+    T: Clock + Drop,
+    J: Drop,
+> {
+    clocks: Vec<T>,
+    workers: Vec<Worker<'a, H, C, N, L, R, T, J>>,
     passes: Vec<Pass<SharedHistory<H, C>, N, L>>,
     jobs: Vec<J>,
 }
 
-fn make_rooms<'a, H: Holding, C: SiteDriver + Drop, N: Named<Outset<H, C>>, L: Ledger, R, J: Drop>(
-    alloc: Global,
-    count: usize,
-) -> Result<Rooms<'a, H, C, N, L, R, J>, Memory>
+fn make_rooms<
+    'a,
+    H: Holding,
+    C: SiteDriver + Drop,
+    N: Named<Outset<H, C>>,
+    L: Ledger,
+    R: Wait,
+    T: Clock + Drop,
+    J: Drop,
+>(alloc: Global, clock: &T, count: usize) -> Result<Rooms<'a, H, C, N, L, R, T, J>, Memory>
+    ensures clocks { IfOk result (λ rooms. vec_len rooms.clocks ≡ count) }
     ensures none { IfOk result (λ rooms. (vec_len rooms.workers ≡ 0) × (vec_len rooms.passes ≡ 0)
         × (vec_len rooms.jobs ≡ 0)) }
     ensures room { IfOk result (λ rooms. (count ≤ vec_capacity rooms.workers) × (count ≤ vec_capacity rooms.passes)
         × (count ≤ vec_capacity rooms.jobs)) }
 {
+    let clocks = make_clocks(alloc, clock, count)?;
     Ok(Rooms {
+        clocks,
         workers: Vec::with_capacity(alloc, count)?,
         passes: Vec::with_capacity(alloc, count)?,
         jobs: Vec::with_capacity(alloc, count)?,
@@ -65,6 +85,7 @@ fn do_by<
     N: Named<Outset<H, C>> + Send + Sync,
     L: Ledger + Send + Sync,
     R: Threads + Wait + Sync,
+    T: Clock + Drop + Send,
     J: Job + Drop + Send,
 >(
     rt: &R,
@@ -72,6 +93,7 @@ fn do_by<
     hub: &Hub<SharedHistory<H, C>, N, L>,
     maker: &mut Maker<SharedHistory<H, C>, N, L>,
     room: NonZeroUsize,
+    clock: &T,
     jobs: Vec<J>,
 ) -> Left<H, C, N, L, J>
 where
@@ -87,7 +109,7 @@ where
     ensures none { OnErr result.outcome ((result.jobs ≡ jobs) × All (λ pass. pass.orders ≡ 0) result.passes.items) }
 {
     let count = jobs.len();
-    let Ok(rooms) = make_rooms(alloc, count) else {
+    let Ok(rooms) = make_rooms(alloc, clock, count) else {
         return Left {
             passes: Vec::new(alloc),
             jobs,
@@ -95,6 +117,7 @@ where
         };
     };
     let Rooms {
+        mut clocks,
         mut workers,
         mut passes,
         jobs: mut back,
@@ -106,7 +129,7 @@ where
             outcome: Err(Memory),
         };
     }
-    hire(rt, alloc, hub, jobs, &mut passes, &mut workers);
+    hire(rt, alloc, hub, jobs, &mut passes, &mut clocks, &mut workers);
     run_all(rt, workers.as_mut_slice());
     dismiss(workers, &mut passes, &mut back);
     Left {
@@ -131,6 +154,7 @@ fn do_under<
     N: Named<Outset<H, C>> + Send + Sync,
     L: Ledger + Send + Sync,
     R: Threads + Wait + Sync,
+    T: Clock + Drop + Send,
     J: Job + Drop + Send,
 >(
     rt: &R,
@@ -139,6 +163,7 @@ fn do_under<
     unopened: Blank,
     locked: Locked<H, C>,
     room: NonZeroUsize,
+    clock: &T,
     jobs: Vec<J>,
 ) -> Done<H, C, J>
 where
@@ -164,7 +189,7 @@ where
         passes,
         jobs,
         outcome,
-    } = do_by(rt, alloc, &hub, &mut maker, room, jobs);
+    } = do_by(rt, alloc, &hub, &mut maker, room, clock, jobs);
     match hub.close(maker, passes) {
         Ok(history) => Done {
             locked: history.into_locked(),
@@ -175,14 +200,23 @@ where
     }
 }
 
-/// Does jobs, `MOST_JOBS` at the most, at once on one history, which has no entry yet: each on a thread of its own, by a desk of its
-/// own, whose cache has so much room. Where memory runs out first, none is begun.
+/// Does jobs, `MOST_JOBS` at the most, at once on one history, which has no entry yet: each on a thread of its own, by a
+/// desk of its own, whose cache has so much room, and which lets a clock of its own go on: another of this one. Where
+/// memory runs out first, none is begun.
 pub fn do_at_once<
     H: Holding + Send,
     C: SiteDriver + Drop + Send,
     R: Threads + Wait + Sync,
+    T: Clock + Drop + Send,
     J: Job + Drop + Send,
->(rt: &R, alloc: Global, locked: Locked<H, C>, room: NonZeroUsize, jobs: Vec<J>) -> Done<H, C, J>
+>(
+    rt: &R,
+    alloc: Global,
+    locked: Locked<H, C>,
+    room: NonZeroUsize,
+    clock: &T,
+    jobs: Vec<J>,
+) -> Done<H, C, J>
 where
     H::Keeper: Send,
     H::Secrets: Send,
@@ -204,5 +238,14 @@ where
             outcome: Err(Memory),
         };
     };
-    do_under::<H, C, Brand, Brand, R, J>(rt, alloc, unnamed, Blank::new(PARTS), locked, room, jobs)
+    do_under::<H, C, Brand, Brand, R, T, J>(
+        rt,
+        alloc,
+        unnamed,
+        Blank::new(PARTS),
+        locked,
+        room,
+        clock,
+        jobs,
+    )
 }

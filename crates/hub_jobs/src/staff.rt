@@ -5,6 +5,7 @@ ghost use Rattle.std.specs.Prelude.{◌≡◌, ◌+◌, ◌≤◌, All, map, vec
 use crate::worker::Worker;
 use epoch_gate::{Hub, Maker, Named, Pass};
 use host_base::Memory;
+use host_clock::Clock;
 use hub_core::Holding;
 use shared_hub::{Outset, PassDesk, SharedHistory};
 use site_caps::SiteDriver;
@@ -12,6 +13,7 @@ use std::alloc::Global;
 use std::num::NonZeroUsize;
 use std::sync::Wait;
 use std::sync::ledger::Ledger;
+use tick_desk::TickDesk;
 
 /// Makes so many passes, whose caches have so much room.
 pub fn make_passes<H: Holding, C: SiteDriver + Drop, N: Named<Outset<H, C>>, L: Ledger, R: Wait>(
@@ -38,21 +40,49 @@ pub fn make_passes<H: Holding, C: SiteDriver + Drop, N: Named<Outset<H, C>>, L: 
     Ok(())
 }
 
-/// A worker for each job, with a desk of one of the passes.
-pub fn hire<'a, H: Holding, C: SiteDriver + Drop, N: Named<Outset<H, C>>, L: Ledger, R, J: Drop>(
+/// Makes so many clocks, which go on from where this one stands.
+pub fn make_clocks<T: Clock + Drop>(
+    alloc: Global,
+    clock: &T,
+    count: usize,
+) -> Result<Vec<T>, Memory>
+    ensures all { IfOk result (λ clocks. vec_len clocks ≡ count) }
+{
+    let mut clocks = Vec::with_capacity(alloc, count)?;
+    'clocks: for _made in 0..count {
+        let another = clock.another(alloc)?;
+        clocks.push_reserved(another);
+    }
+    Ok(clocks)
+}
+
+/// A worker for each job, with a desk of one of the passes and one of the clocks.
+pub fn hire<
+    'a,
+    H: Holding,
+    C: SiteDriver + Drop,
+    N: Named<Outset<H, C>>,
+    L: Ledger,
+    R: Wait,
+    T: Clock + Drop,
+    J: Drop,
+>(
     rt: &'a R,
     alloc: Global,
     hub: &'a Hub<SharedHistory<H, C>, N, L>,
     jobs: Vec<J>,
     passes: &mut Vec<Pass<SharedHistory<H, C>, N, L>>,
-    workers: &mut Vec<Worker<'a, H, C, N, L, R, J>>,
+    clocks: &mut Vec<T>,
+    workers: &mut Vec<Worker<'a, H, C, N, L, R, T, J>>,
 )
     requires none { vec_len workers.old ≡ 0 }
     requires room { vec_len jobs ≤ vec_capacity workers.old }
     requires passes { vec_len passes.old ≡ vec_len jobs }
+    requires clocks { vec_len clocks.old ≡ vec_len jobs }
     requires unused { All (λ pass. pass.orders ≡ 0) passes.old.items }
     ensures jobs { map (λ worker. worker.job) workers.new.items ≡ jobs.items }
-    ensures unused { All (λ worker. worker.desk.orders ≡ 0) workers.new.items }
+    ensures unused { All (λ worker. worker.desk.desk.orders ≡ 0) workers.new.items }
+    ensures unticked { All (λ worker. worker.desk.ticks ≡ 0) workers.new.items }
     ensures none { vec_len passes.new ≡ 0 }
     ensures capacity { vec_capacity passes.new ≡ vec_capacity passes.old }
 {
@@ -60,20 +90,33 @@ pub fn hire<'a, H: Holding, C: SiteDriver + Drop, N: Named<Outset<H, C>>, L: Led
         let Some(pass) = passes.pop() else {
             unreachable!();
         };
-        let desk = PassDesk::new(rt, hub, pass);
+        let Some(clock) = clocks.pop() else {
+            unreachable!();
+        };
+        let beneath = PassDesk::new(rt, hub, pass);
+        let desk = TickDesk::new(beneath, clock);
         workers.push_reserved(Worker { alloc, desk, job });
     }
 }
 
-/// Takes workers apart: their passes, and their jobs.
-pub fn dismiss<'a, H: Holding, C: SiteDriver + Drop, N: Named<Outset<H, C>>, L: Ledger, R, J: Drop>(
-    workers: Vec<Worker<'a, H, C, N, L, R, J>>,
+/// Takes workers apart: their passes, and their jobs. Their clocks are let go.
+pub fn dismiss<
+    'a,
+    H: Holding,
+    C: SiteDriver + Drop,
+    N: Named<Outset<H, C>>,
+    L: Ledger,
+    R: Wait,
+    T: Clock + Drop,
+    J: Drop,
+>(
+    workers: Vec<Worker<'a, H, C, N, L, R, T, J>>,
     passes: &mut Vec<Pass<SharedHistory<H, C>, N, L>>,
     jobs: &mut Vec<J>,
 )
     requires none { (vec_len passes.old ≡ 0) × (vec_len jobs.old ≡ 0) }
     requires room { (vec_len workers ≤ vec_capacity passes.old) × (vec_len workers ≤ vec_capacity jobs.old) }
-    ensures passes { passes.new.items ≡ map (λ worker. worker.desk) workers.entry.items }
+    ensures passes { passes.new.items ≡ map (λ worker. worker.desk.desk) workers.entry.items }
     ensures jobs { jobs.new.items ≡ map (λ worker. worker.job) workers.entry.items }
 {
     'workers: for worker in workers {
@@ -82,7 +125,8 @@ pub fn dismiss<'a, H: Holding, C: SiteDriver + Drop, N: Named<Outset<H, C>>, L: 
             desk,
             job,
         } = worker;
-        passes.push_reserved(desk.into_pass());
+        let (beneath, _clock) = desk.into_parts();
+        passes.push_reserved(beneath.into_pass());
         jobs.push_reserved(job);
     }
 }

@@ -4,15 +4,18 @@ ghost use Rattle.epoch_gate.specs.Books.{start_of};
 ghost use Rattle.hub_core.specs.Book.{Book};
 ghost use Rattle.shared_hub.specs.Passing.{book_by};
 ghost use Rattle.shared_hub.specs.Wanting.{blank};
+ghost use Rattle.tick_desk.specs.Clocked.{without};
 
 use crate::at_once::Task;
 use epoch_gate::Named;
+use host_clock::Clock;
 use hub_core::{Desk, Holding};
 use shared_hub::{Outset, PassDesk};
 use site_caps::SiteDriver;
 use std::alloc::Global;
 use std::sync::Wait;
 use std::sync::ledger::Ledger;
+use tick_desk::TickDesk;
 
 /// What one thread does with a desk whose history others share.
 pub trait Job {
@@ -26,7 +29,7 @@ pub trait Job {
         ensures { does (D.book desk.old) (D.book desk.new) self.old self.new };
 }
 
-/// A job, with the desk that it is done by.
+/// A job, with the desk that it is done by, which has a clock of its own.
 #[derive(Drop)]
 pub struct Worker<
     'a,
@@ -34,11 +37,12 @@ pub struct Worker<
     C: SiteDriver + Drop,
     N: Named<Outset<H, C>>,
     L: Ledger,
-    R,
+    R: Wait,
+    T: Clock + Drop,
     J: Drop,
 > {
     pub alloc: Global,
-    pub desk: PassDesk<'a, H, C, N, L, R>,
+    pub desk: TickDesk<PassDesk<'a, H, C, N, L, R>, T>,
     pub job: J,
 }
 
@@ -49,12 +53,15 @@ impl<
     N: Named<Outset<H, C>>,
     L: Ledger,
     R: Wait,
+    T: Clock + Drop,
     J: Job + Drop,
-> Task for Worker<'a, H, C, N, L, R, J> {
+> Task for Worker<'a, H, C, N, L, R, T, J> {
     ghost ready = { λ worker. J.ready worker.job };
 
-    ghost does = { λ old new. J.does (book_by C.Law.law (start_of blank N.start).start old.desk)
-        (book_by C.Law.law (start_of blank N.start).start new.desk) old.job new.job };
+    ghost does = { λ old new. J.does
+        (without old.desk.ticks (book_by C.Law.law (start_of blank N.start).start old.desk.desk))
+        (without new.desk.ticks (book_by C.Law.law (start_of blank N.start).start new.desk.desk))
+        old.job new.job };
 
     fn run(&mut self) {
         self.job.work(self.alloc, &mut self.desk);

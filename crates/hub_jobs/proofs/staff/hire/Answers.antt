@@ -17,11 +17,14 @@ jobs-preserved g c =
       jobs = rw c.push_reserved.ensures.items
           (map-append (λ worker. worker.job) c.jobs.workers.items _ ∙ ap (λ jobs. jobs ++ c.in-Some.job ∷ []) so_far.jobs);
       unused = rw c.push_reserved.ensures.items
-          (All-push (λ worker. worker.desk.orders ≡ 0) c.jobs.workers.items _ so_far.unused
-          (ap (λ (p : Passing Event Verdict). p.orders) c.new-desk.ensures ∙ last_is (λ p. p.orders ≡ 0) c.pop.new.self.items pass all));
+          (All-push (λ worker. worker.desk.desk.orders ≡ 0) c.jobs.workers.items _ so_far.unused
+          (ap (λ desk. desk.desk.orders) c.new-desk.ensures ∙ (ap (λ (p : Passing Event Verdict). p.orders) c.new-beneath.ensures ∙ last_is (λ p. p.orders ≡ 0) c.pop.new.self.items pass all)));
+      unticked = rw c.push_reserved.ensures.items
+          (All-push (λ worker. worker.desk.ticks ≡ 0) c.jobs.workers.items _ so_far.unticked (ap (λ desk. desk.ticks) c.new-desk.ensures));
       many = omega (arith, so_far.many, c.push_reserved.ensures.len, more);
       room = c.push_reserved.ensures.capacity ∙ so_far.room;
       passes = omega (arith, so_far.passes, c.in-Some-pop.ensures.cases, more);
+      clocks = omega (arith, so_far.clocks, c.in-Some-pop-2.ensures.cases, more);
       capacity = c.in-Some-pop.ensures.capacity ∙ so_far.capacity;
       unused_passes = front_is (λ p. p.orders ≡ 0) c.pop.new.self.items pass all;
     }
