@@ -2,6 +2,7 @@
 
 ghost use Rattle.std.specs.Prelude.{◌≡◌, [], All};
 
+use host_clock::StillClock;
 use hub_core::{Holding, Locked};
 use hub_jobs::{Done, Job, MOST_JOBS, do_at_once};
 use site_caps::SiteDriver;
@@ -40,7 +41,7 @@ where
         locked,
         jobs,
         outcome,
-    } = do_at_once(rt, alloc, locked, room, jobs);
+    } = do_at_once(rt, alloc, locked, room, &StillClock::new(0), jobs);
     outcome?;
     Ok((locked, jobs))
 }
