@@ -1,11 +1,12 @@
 -- The changes of each command fit.
 use Rattle.std.proofs.Common.{◌≡◌, ℕ, Bool, true, false, List, refl}
+use Rattle.app_manifest.proofs.Kept.{fits_without_fault}
 use Rattle.desk_base.specs.Terms.{Account, AccountId, AppId, Caller, Event, EventFits, GrainId, HasAccount, is_handle}
 use Rattle.desk_base.specs.Terms.{IsSoundManifest, IsWellFormed, Manifest, State}
-use Rattle.share_graph.specs.declared.event.Event.TheVariants.{AccountAdded, AppAdded, GrainAdded, AdminSet, EnabledSet, TrashedSet}
+use Rattle.share_graph.specs.declared.event.Event.TheVariants.{AccountAdded, AppAdded, AppUpgraded, GrainAdded, AdminSet, EnabledSet, TrashedSet}
 use Rattle.share_graph.specs.declared.fault.Kind.TheVariants as kind
 use Rattle.state_step.proofs.AccountLaws.{account_added_fits, admin_set_fits, enabled_set_fits}
-use Rattle.state_step.proofs.AppLaws.{app_added_fits}
+use Rattle.state_step.proofs.AppLaws.{app_added_fits, app_upgraded_fits}
 use Rattle.state_step.proofs.GrainLaws.{grain_added_fits, trashed_set_fits}
 use Rattle.desk_base.specs.Fitting.{RowFits, StartsNoRun}
 use Rattle.desk_base.specs.Made.{nothing_made, made_account, made_app, made_grain}
@@ -14,7 +15,7 @@ use Rattle.desk_base.specs.Wording.{by_admin}
 use Rattle.desk_base.proofs.FitForms.{when_fits, unless_fits, must_fits, found_fits, some_fits, adds_fits, plain_adds}
 use Rattle.desk_base.proofs.Room.{room_of}
 use Rattle.desk_base.proofs.Words.{listed_account}
-use Rattle.account_desk.specs.Commands.{AddAccount, SetMark, SetAdmin, SetEnabled, AddApp, NewGrain, Trash}
+use Rattle.account_desk.specs.Commands.{AddAccount, SetMark, SetAdmin, SetEnabled, AddApp, UpgradeApp, NewGrain, Trash}
 use Rattle.account_desk.specs.Rows.{new_account, new_app, new_grain}
 
 module _ (s : State) (formed : IsWellFormed s) (who : Caller) where
@@ -49,6 +50,15 @@ module _ (s : State) (formed : IsWellFormed s) (who : Caller) where
       admin_fits λ admin.
       plain_adds s (AppAdded (new_app s.tables manifest)) tt (made_app s.tables) λ room.
       app_added_fits s formed (new_app s.tables manifest) (record { num = refl; room = room_of kind.App 256 _ room; sound = sound })
+
+  pub upgrade_app_fits : (p : AppId) (manifest : Manifest) → IsSoundManifest manifest → RowFits s false (UpgradeApp s who p manifest)
+  upgrade_app_fits p manifest sound =
+      admin_fits λ admin.
+      found_fits s tt λ app there.
+      must_fits s λ no_fault.
+      when_fits s tt λ differs.
+      plain_adds s (AppUpgraded p manifest) tt nothing_made λ room.
+      app_upgraded_fits s formed p manifest (record { sound = sound; changed = (app, there, fits_without_fault app.manifest manifest no_fault) })
 
   pub new_grain_fits : (app : AppId) (title : List ℕ) → RowFits s false (NewGrain s who app title)
   new_grain_fits app title =

@@ -1,3 +1,4 @@
 pub mod AdminsLeft
 pub mod OneRows
 pub mod FitRows
+pub mod UpgradeRow

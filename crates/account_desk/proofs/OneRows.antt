@@ -1,8 +1,11 @@
 -- Of each command the machine makes one thing at the most. A proof goes along the row, check by check.
-use Rattle.std.proofs.Common.{◌≡◌, ◌+◌, ◌∙◌, ℕ, Bool, List, sym, ap}
+use Rattle.std.proofs.Common.{◌≡◌, ◌+◌, ◌∙◌, ℕ, Bool, List, Some, None, sym, ap}
+use Rattle.std.proofs.lemmas.Option.{same_Some}
+use Rattle.app_manifest.specs.declared.fault.ManifestFault.{ManifestFault}
 use Rattle.desk_base.specs.Terms.{Account, AccountId, AppId, Caller, Event, GrainId, HasHandle, IsOne, IsOneOf}
 use Rattle.desk_base.specs.Terms.{IsWellFormed, Manifest, State}
 use Rattle.share_graph.specs.declared.event.Event.TheVariants.{AdminSet, EnabledSet}
+use Rattle.share_graph.specs.declared.refusal.Refusal.TheVariants as refusal
 use Rattle.share_graph.specs.declared.refusal.Refusal.TheVariants.{HandleTaken}
 use Rattle.share_graph.proofs.Contained.{place_of, single}
 use Rattle.share_graph.proofs.OneAnswer.{when_one, unless_one, must_one}
@@ -10,8 +13,8 @@ use Rattle.state_step.proofs.Sound.{sound_of}
 use Rattle.desk_base.specs.Steps.{refusing}
 use Rattle.desk_base.proofs.GivenRoles.{refusing_one}
 use Rattle.desk_base.proofs.OneWord.{by_account_one, by_admin_one, known_account_one, known_app_one, known_grain_one, adds_one}
-use Rattle.account_desk.specs.Commands.{AddAccount, SetMark, SetAdmin, SetEnabled, AddApp, NewGrain, Trash}
-use Rattle.account_desk.specs.Rows.{IsTaken}
+use Rattle.account_desk.specs.Commands.{AddAccount, SetMark, SetAdmin, SetEnabled, AddApp, UpgradeApp, NewGrain, Trash}
+use Rattle.account_desk.specs.Rows.{HasUpgradeFault, IsTaken}
 
 module _ (s : State) (formed : IsWellFormed s) where
   -- a handle is one account's
@@ -47,6 +50,21 @@ module _ (s : State) (formed : IsWellFormed s) (who : Caller) where
 
   pub add_app_one : (manifest : Manifest) → IsOne (AddApp s who manifest)
   add_app_one manifest = by_admin_one s formed who λ admin. adds_one s _
+
+  -- an upgrade has one first fault
+  fault_one : (old new : Manifest) → IsOne (refusing (HasUpgradeFault old new))
+  fault_one old new = refusing_one (HasUpgradeFault old new) λ r q (x, e, one) (y, f, other).
+      let same : x ≡ y = same_Some x y (sym one ∙ other) in
+      e ∙ ap (λ z. refusal.Manifest z) same ∙ sym f
+
+  pub upgrade_app_one : (p : AppId) (manifest : Manifest) → IsOne (UpgradeApp s who p manifest)
+  upgrade_app_one p manifest =
+      by_admin_one s formed who λ admin.
+      known_app_one s p λ app.
+      must_one (λ step none (r, is, (fault, e, some)). no_fault fault (sym none ∙ some)) (fault_one app.manifest manifest) (when_one (adds_one s _))
+    where
+      no_fault : (fault : ManifestFault) → None ≡ Some fault → ⊥
+      no_fault fault e = cc e
 
   pub new_grain_one : (app : AppId) (title : List ℕ) → IsOne (NewGrain s who app title)
   new_grain_one app title = by_account_one s formed who λ owner. known_app_one s app λ row. adds_one s _

@@ -1,14 +1,15 @@
 -- THE COMMANDS on accounts, applications and grains. Each definition reads like its row of the table of commands.
-use Rattle.std.specs.Prelude.{◌≡◌, ℕ, Bool, List}
+use Rattle.std.specs.Prelude.{◌≡◌, ℕ, Bool, List, None}
+use Rattle.app_manifest.specs.Upgrade.{upgrade_fault}
 use Rattle.desk_base.specs.Terms.{Account, AccountId, AppId, Caller, Event, GrainId, HasHandle, IsNoneOf, Manifest}
 use Rattle.desk_base.specs.Terms.{must◌or◌then◌, State, Tables, unless◌then◌else◌, when◌then◌else◌}
-use Rattle.share_graph.specs.declared.event.Event.TheVariants.{AccountAdded, AppAdded, GrainAdded, AdminSet, EnabledSet, TrashedSet}
+use Rattle.share_graph.specs.declared.event.Event.TheVariants.{AccountAdded, AppAdded, AppUpgraded, GrainAdded, AdminSet, EnabledSet, TrashedSet}
 use Rattle.share_graph.specs.declared.refusal.Refusal.TheVariants.{LastAdmin, NotOwner}
 use Rattle.desk_base.specs.Limits.{adds}
 use Rattle.desk_base.specs.Made.{nothing_made, made_account, made_app, made_grain}
 use Rattle.desk_base.specs.Steps.{Step, Refuses, Keeps, Makes, Plain, Drawn, refusing}
 use Rattle.desk_base.specs.Wording.{by_account, by_admin, known_account, known_app, known_grain}
-use Rattle.account_desk.specs.Rows.{new_account, new_app, new_grain, IsTaken, LeavesNoAdmin}
+use Rattle.account_desk.specs.Rows.{new_account, new_app, new_grain, HasUpgradeFault, IsTaken, LeavesNoAdmin}
 
 -- what is added, and what the reply shows
 abbrev pub account_step : Tables → List ℕ → List ℕ → Step
@@ -47,6 +48,16 @@ abbrev pub AddApp : State → Caller → Manifest → Step → Type 0
 AddApp s who manifest =
     by_admin s who λ admin.
     adds s (app_step s.tables manifest)
+
+-- upgrade_app: Unknown(2, p); Manifest(7, i) or Manifest(8, k) where the manifest may not take the old one's place; same where it is
+-- the old one
+abbrev pub UpgradeApp : State → Caller → AppId → Manifest → Step → Type 0
+UpgradeApp s who p manifest =
+    by_admin s who λ admin.
+    known_app s p λ app.
+    must upgrade_fault app.manifest manifest ≡ None or refusing (HasUpgradeFault app.manifest manifest) then
+    when app.manifest ≡ manifest then (Keeps nothing_made) else
+    adds s (Makes (Plain (AppUpgraded p manifest)) nothing_made)
 
 -- new_grain: Unknown(2, app)
 abbrev pub NewGrain : State → Caller → AppId → List ℕ → Step → Type 0

@@ -1,8 +1,11 @@
 -- The rows that the commands add, the marks that they set, and the tests of this desk alone.
-use Rattle.std.specs.Prelude.{◌≡◌, ℕ, Bool, List, true, false}
+use Rattle.std.specs.Prelude.{◌≡◌, ℕ, Bool, List, Some, true, false}
+use Rattle.app_manifest.specs.Upgrade.{upgrade_fault}
+use Rattle.app_manifest.specs.declared.fault.ManifestFault.{ManifestFault}
 use Rattle.desk_base.specs.Terms.{Account, AccountId, App, AppId, Digest, Event, Grain, HasHandle, IsNoneOf, IsOneOf}
 use Rattle.desk_base.specs.Terms.{Manifest, Refusal, Tables, tables_after}
 use Rattle.share_graph.specs.declared.event.Event.TheVariants.{AdminSet, EnabledSet}
+use Rattle.share_graph.specs.declared.refusal.Refusal.TheVariants as refusal
 use Rattle.share_graph.specs.declared.refusal.Refusal.TheVariants.{HandleTaken}
 use Rattle.desk_base.specs.Made.{next}
 use Rattle.account_desk.specs.declared.admins.Mark.{Mark}
@@ -17,6 +20,10 @@ new_app t manifest = record { num = record { 0 = next t.apps }; manifest = manif
 
 abbrev pub new_grain : Tables → AppId → AccountId → List ℕ → Grain
 new_grain t app owner title = record { num = record { 0 = next t.grains }; app = app; owner = owner; title = title; trashed = false }
+
+-- the refusal by the first fault of an upgrade
+abbrev pub HasUpgradeFault : Manifest → Manifest → Refusal → Type 0
+HasUpgradeFault old new r = (fault : ManifestFault) × (r ≡ refusal.Manifest fault) × (upgrade_fault old new ≡ Some fault)
 
 -- the refusal that names the account which has the handle
 abbrev pub IsTaken : Tables → List ℕ → Refusal → Type 0

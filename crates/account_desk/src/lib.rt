@@ -5,8 +5,10 @@ mod accounts;
 mod admins;
 mod apps;
 mod grains;
+mod upgrades;
 
 pub use accounts::add_account;
 pub use admins::{set_admin, set_enabled};
 pub use apps::add_app;
 pub use grains::{new_grain, trash, untrash};
+pub use upgrades::upgrade_app;

@@ -39,6 +39,7 @@ stay_after s (event.AccountAdded account) = (account.login ∷ [], map-append lo
 stay_after s (event.AdminSet a on) = still s (after s (event.AdminSet a on)) (row_keeps (with_admin on) (λ account. refl) s.tables.accounts a.0)
 stay_after s (event.EnabledSet a on) = still s (after s (event.EnabledSet a on)) (row_keeps (with_enabled on) (λ account. refl) s.tables.accounts a.0)
 stay_after s (event.AppAdded app) = still s (after s (event.AppAdded app)) refl
+stay_after s (event.AppUpgraded p manifest) = still s (after s (event.AppUpgraded p manifest)) refl
 stay_after s (event.GrainAdded grain) = still s (after s (event.GrainAdded grain)) refl
 stay_after s (event.GrantAdded grant) = still s (after s (event.GrantAdded grant)) refl
 stay_after s (event.SavedAdded saved) = still s (after s (event.SavedAdded saved)) refl

@@ -1,13 +1,16 @@
 -- What an upgrade without a fault keeps.
-use Rattle.std.proofs.Common.{◌≡◌, ℕ, zero, suc, ◌+◌, ◌<◌, ◌≤◌, Bool, true, false, not, List, [], ◌∷◌, Option, Some, None, length, slice_get, inl, inr, refl, sym, ap, ◌∙◌, arith}
-use Rattle.std.specs.Option.{option_map_or}
+use Rattle.std.proofs.Common.{◌≡◌, ℕ, zero, suc, ◌+◌, ◌<◌, ◌≤◌, Bool, true, false, not, nat_lt, if◌then◌else◌, List, [], ◌∷◌, Option, Some, None, option_map, length, slice_get, inl, inr, refl, sym, ap, subst, ◌∙◌, arith}
+use Rattle.std.specs.Option.{option_map_or, option_or}
 use Rattle.std.specs.Str.{bytes_eq}
 use Rattle.std.proofs.lemmas.Option.{slice_get_within, slice_get_cases, same_Some}
+use Rattle.std.proofs.lemmas.Bool.Decides.{nat_tests}
 use Rattle.std.proofs.lemmas.Slice.Eq.{bytes_eq-Decides}
 use Rattle.app_manifest.specs.declared.manifest.Manifest.{Manifest}
 use Rattle.app_manifest.specs.declared.manifest.PermissionDef.{PermissionDef}
 use Rattle.app_manifest.specs.Places.{first_from}
-use Rattle.app_manifest.specs.Upgrade.{has_name_at, lost_name, StillFits}
+use Rattle.app_manifest.specs.declared.fault.ManifestFault.{ManifestFault}
+use Rattle.app_manifest.specs.declared.fault.ManifestFault.TheVariants.{LostName, LostRole}
+use Rattle.app_manifest.specs.Upgrade.{has_name_at, lost_name, upgrade_fault, StillFits}
 use Rattle.app_manifest.proofs.FirstPlace.{not_here}
 
 -- where no element passes, the one at a place doesn't
@@ -54,3 +57,38 @@ still_fits old new none more = record {
       let k = kept old.permissions new.permissions p none below in
       rw (k.2, k.3, k.4);
 }
+
+none_of_two : (o : Option ℕ) (rest : Option ManifestFault) → option_or (option_map LostName o) rest ≡ None → (o ≡ None) × (rest ≡ None)
+none_of_two None rest is = (refl, is)
+none_of_two (Some p) rest is = cc is
+
+none_lost : (n : ℕ) (b : Bool) → (if b then Some (LostRole n) else None) ≡ None → b ≡ false
+none_lost n false is = refl
+none_lost n true is = cc is
+
+-- so where an upgrade has no fault, what fitted fits
+pub fits_without_fault : (old new : Manifest) → upgrade_fault old new ≡ None → StillFits old new
+fits_without_fault old new none =
+    let both = none_of_two (lost_name old.permissions new.permissions) _ none in
+    let enough : nat_lt (length new.roles) (length old.roles) ≡ false = none_lost (length new.roles) _ both.1 in
+    still_fits old new both.0 (grind (arith, nat_tests))
+
+-- where no element passes at its place, none is found
+none_from : {A : Type 0} (test : ℕ → A → Bool) (n : ℕ) (xs : List A) → ((i : ℕ) (x : A) → slice_get xs i ≡ Some x → test (n + i) x ≡ false) → first_from test n xs ≡ None
+none_from test n [] passed = refl
+none_from {A} test n (x ∷ xs) passed =
+    let same : n + 0 ≡ n = omega arith in
+    let here : test n x ≡ false = subst (λ (k : ℕ). test k x ≡ false) same (passed 0 x refl) in
+    rw here (none_from test (suc n) xs (λ i (y : A) is. (let next : n + suc i ≡ suc n + i = omega arith in subst (λ (k : ℕ). test k y ≡ false) next (passed (suc i) y is))))
+
+named_so : (permissions : List PermissionDef) (i : ℕ) (x : PermissionDef) → slice_get permissions i ≡ Some x → not (has_name_at permissions i x.name) ≡ false
+named_so permissions i x is = rw (is, (bytes_eq-Decides x.name x.name).1 refl) refl
+
+-- and a manifest may take its own place
+pub no_fault_of_same : (manifest : Manifest) → upgrade_fault manifest manifest ≡ None
+no_fault_of_same manifest =
+    let names : lost_name manifest.permissions manifest.permissions ≡ None =
+    none_from (λ place permission. not (has_name_at manifest.permissions place permission.name)) 0 manifest.permissions
+    (λ i x is. (let same : 0 + i ≡ i = omega arith in rw same (named_so manifest.permissions i x is))) in
+    let roles : nat_lt (length manifest.roles) (length manifest.roles) ≡ false = grind (arith, nat_tests) in
+    rw (names, roles) refl

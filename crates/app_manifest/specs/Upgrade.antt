@@ -1,9 +1,11 @@
 -- When a manifest may take the place of another.
-use Rattle.std.specs.Prelude.{◌≡◌, ℕ, ◌<◌, nat_lt, Bool, not, false, List, length, slice_get, Option, Some, None, option_map, if◌then◌else◌}
+use Rattle.std.specs.Prelude.{◌≡◌, ℕ, ◌<◌, ◌≤◌, nat_lt, IsSomeAnd, Bool, not, false, List, length, slice_get, Option, Some, None, option_map, if◌then◌else◌}
 use Rattle.std.specs.Option.{option_or, option_map_or}
 use Rattle.std.specs.Str.{bytes_eq}
-use Rattle.perm_roles.specs.PermSet.{IsWithin}
+use Rattle.perm_roles.specs.PermSet.{Has, IsWithin}
+use Rattle.perm_roles.specs.Roles.{IsInDefault}
 use Rattle.perm_roles.specs.declared.perm_set.PermSet.{PermSet}
+use Rattle.perm_roles.specs.declared.roles.Role.{Role}
 use Rattle.app_manifest.specs.declared.fault.ManifestFault.{ManifestFault}
 use Rattle.app_manifest.specs.declared.fault.ManifestFault.TheVariants.{LostName, LostRole}
 use Rattle.app_manifest.specs.declared.manifest.Manifest.{Manifest}
@@ -29,3 +31,14 @@ pub record StillFits (old new : Manifest) : Type 0 where
   pub sets : (set : PermSet) → IsWithin set (length old.permissions) → IsWithin set (length new.permissions)
   pub roles : (n : ℕ) → n < length old.roles → n < length new.roles
   pub names : (p : ℕ) → p < length old.permissions → option_map (λ permission. permission.name) (slice_get new.permissions p) ≡ option_map (λ permission. permission.name) (slice_get old.permissions p)
+
+-- the role at the number has the position
+abbrev pub IsInRole : List Role → ℕ → ℕ → Type 0
+IsInRole roles n p = IsSomeAnd (slice_get roles n) (λ role. Has role.perms p)
+
+-- The new manifest gives no less than the old one: there are as many permissions, the default role has what it had, and so has
+-- each role at its number. So whatever an assignment starts from has by the new one what it had.
+pub record GivesNoLess (old new : Manifest) : Type 0 where
+  pub all : length old.permissions ≤ length new.permissions
+  pub default : (p : ℕ) → IsInDefault old.roles p → IsInDefault new.roles p
+  pub roles : (n p : ℕ) → IsInRole old.roles n p → IsInRole new.roles n p

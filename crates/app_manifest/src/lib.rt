@@ -10,6 +10,7 @@ mod manifest;
 mod read;
 mod reading;
 mod roles;
+mod sameness;
 mod upgrading;
 
 pub use checks::{double_name, second_default};
@@ -18,4 +19,4 @@ pub use fields::{flag_from, flags_from, text_from, title_from};
 pub use forms::{is_permission_name, is_title};
 pub use manifest::{Descriptors, Manifest, PermissionDef, Permissions, Roles};
 pub use reading::manifest_from;
-pub use upgrading::upgrade;
+pub use upgrading::{gives_no_less, upgrade};

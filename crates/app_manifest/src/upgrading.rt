@@ -1,10 +1,12 @@
 //! When a manifest may take the place of another.
 
-ghost use Rattle.std.specs.Prelude.{◌≡◌, Some, None, IfOk, IfErr};
-ghost use Rattle.app_manifest.specs.Upgrade.{has_name_at, lost_name, upgrade_fault, StillFits};
+ghost use Rattle.std.specs.Prelude.{◌≡◌, ◌↔◌, ℕ, Some, None, IfOk, IfErr, IsTrue};
+ghost use Rattle.perm_roles.specs.PermSet.{Has};
+ghost use Rattle.app_manifest.specs.Upgrade.{has_name_at, lost_name, upgrade_fault, GivesNoLess, IsInRole, StillFits};
 
 use crate::fault::ManifestFault;
 use crate::manifest::{Manifest, PermissionDef};
+use perm_roles::{PermSet, Role, default_set};
 
 /// The new manifest, where it may take the place of the old one: each old permission's name stands
 /// at its position, and there are no fewer roles.
@@ -45,4 +47,36 @@ fn has_name_at(permissions: &[PermissionDef], place: usize, name: &str) -> bool
         Some(permission) => name == permission.name.as_str(),
         None => false,
     }
+}
+
+// Whether the role at a place has every position of a set.
+fn has_at(roles: &[Role], place: usize, set: &PermSet) -> bool
+    ensures { IsTrue result ↔ ((p : ℕ) → Has set.now p → IsInRole roles.now place p) }
+{
+    match roles.get(place) {
+        Some(role) => role.perms.contains(set),
+        None => set.is_empty(),
+    }
+}
+
+// Whether each role has at its place what it had.
+fn keeps_roles(old: &[Role], new: &[Role]) -> bool
+    ensures { IsTrue result ↔ ((n p : ℕ) → IsInRole old.now n p → IsInRole new.now n p) }
+{
+    for (place, role) in old.iter().enumerate() {
+        if !has_at(new, place, &role.perms) {
+            return false;
+        }
+    }
+    true
+}
+
+/// Whether every assignment gives by the new manifest what it gave by the old one.
+pub fn gives_no_less(old: &Manifest, new: &Manifest) -> bool
+    ensures { IsTrue result ↔ GivesNoLess old.now new.now }
+{
+    let (before, after) = (old.roles.as_slice(), new.roles.as_slice());
+    old.permissions.as_slice().len() <= new.permissions.as_slice().len()
+        && default_set(after).contains(&default_set(before))
+        && keeps_roles(before, after)
 }

@@ -7,14 +7,14 @@ ghost use Rattle.cloud_serve.specs.Routes.{IsAsked};
 ghost use Rattle.cloud_serve.specs.declared.showing.Showing.{Showing};
 
 use crate::commands::{
-    admin_mark, enabled_mark, new_account, new_app, new_child, new_grain, new_share, new_token,
-    opening, plain, redemption,
+    admin_mark, enabled_mark, new_account, new_app, new_child, new_grain, new_manifest, new_share,
+    new_token, opening, plain, redemption,
 };
 use crate::powerbox::{choice, claim, drop_reference, options, reference, restoration};
 use crate::showing::Showing;
 use desk_bodies::BodyFault;
 use front_http::Route;
-use host_base::{AccountId, Digest, GrainId, GrantId, Memory, SessionId};
+use host_base::{AccountId, AppId, Digest, GrainId, GrantId, Memory, SessionId};
 use hub_core::Command;
 use share_graph::Caller;
 use std::alloc::Global;
@@ -36,6 +36,7 @@ fn stated(
         Route::AccountAdmin(num) => Some(admin_mark(alloc, who, AccountId(num), body)),
         Route::AccountEnabled(num) => Some(enabled_mark(alloc, who, AccountId(num), body)),
         Route::Apps => Some(new_app(alloc, who, body)),
+        Route::AppUpgrade(num) => Some(new_manifest(alloc, who, AppId(num), body)),
         Route::Grains => Some(new_grain(alloc, who, body)),
         Route::GrainTrash(num) => Some(plain(alloc, login, Command::Trash(GrainId(num)), body)),
         Route::GrainUntrash(num) => Some(plain(alloc, login, Command::Untrash(GrainId(num)), body)),

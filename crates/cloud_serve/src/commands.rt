@@ -12,7 +12,7 @@ use desk_bodies::{
     child_fields, grain_fields, manifest_field, mark_field, no_fields, share_fields, tab_field,
     token_field, token_fields,
 };
-use host_base::{AccountId, Digest, GrainId};
+use host_base::{AccountId, AppId, Digest, GrainId};
 use hub_core::{Command, Order};
 use share_graph::Caller;
 use std::alloc::Global;
@@ -65,6 +65,21 @@ pub fn new_app(alloc: Global, who: Digest, body: &[u8]) -> Result<Showing, BodyF
 {
     let manifest = manifest_field(alloc, body)?;
     Ok(Showing::Wants(Order::new(Caller::Login(who), Command::AddApp(manifest))))
+}
+
+/// An application gets another manifest.
+pub fn new_manifest(
+    alloc: Global,
+    who: Digest,
+    app: AppId,
+    body: &[u8],
+) -> Result<Showing, BodyFault>
+    ensures { Answers (stating
+        (λ manifest. wants (caller.Login who) (command.UpgradeApp app manifest))
+        (manifest_body body.now)) result }
+{
+    let manifest = manifest_field(alloc, body)?;
+    Ok(Showing::Wants(Order::new(Caller::Login(who), Command::UpgradeApp(app, manifest))))
 }
 
 /// A new grain.

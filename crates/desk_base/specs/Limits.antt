@@ -49,6 +49,7 @@ limit_of s (event.Claimed grant handle) = first_of (too_many kind.Grant (length 
 limit_of s (event.HandleMade handle) = too_many kind.Handle (handles_of s.handles handle)
 limit_of s (event.SessionOpened session) =
     if nat_lt (count_by (is_open_of session.root) s.sessions) 32 then too_many kind.Session (count_by is_open s.sessions) else None
+limit_of s (event.AppUpgraded p manifest) = None
 limit_of s (event.AdminSet a on) = None
 limit_of s (event.EnabledSet a on) = None
 limit_of s (event.TrashedSet n on) = None

@@ -34,6 +34,7 @@ lists _ = false
 abbrev pub IsStated : Caller → Command → Type 0
 IsStated who (command.AddAccount handle name) = ByLogin who × (is_handle handle ≡ true)
 IsStated who (command.AddApp manifest) = ByLogin who × IsSoundManifest manifest
+IsStated who (command.UpgradeApp p manifest) = ByLogin who × IsSoundManifest manifest
 IsStated who (command.Child for_sharing assignment needs expires) = ByBearer who
 IsStated who (command.StartRun n) = NamesGrain who n
 IsStated who (command.OpenSession n tab) = NamesGrain who n

@@ -1,6 +1,6 @@
 -- What the machine makes of an order: by the row of its command. Nothing above this definition speaks of a command.
 use Rattle.std.specs.Prelude.{Bool, true, false, Option}
-use Rattle.desk_orders.specs.Terms.{AddAccount, AddApp, Caller, Child, Choose, Claim, CloseSession, Command, DropSaved, MakeToken, NewGrain, OpenSession, Options, Redeem, Restore, Revoke, Save, SetAdmin, SetEnabled, Share, StartRun, State, Step, StopRun, Trash}
+use Rattle.desk_orders.specs.Terms.{AddAccount, AddApp, Caller, Child, Choose, Claim, CloseSession, Command, DropSaved, MakeToken, NewGrain, OpenSession, Options, Redeem, Restore, Revoke, Save, SetAdmin, SetEnabled, Share, StartRun, State, Step, StopRun, Trash, UpgradeApp}
 use Rattle.desk_orders.specs.declared.order.Command.TheVariants as command
 use Rattle.desk_orders.specs.Commands.{Asked}
 
@@ -10,6 +10,7 @@ RowBy s found who (command.AddAccount handle name) = AddAccount s who handle nam
 RowBy s found who (command.SetAdmin a on) = SetAdmin s who a on
 RowBy s found who (command.SetEnabled a on) = SetEnabled s who a on
 RowBy s found who (command.AddApp manifest) = AddApp s who manifest
+RowBy s found who (command.UpgradeApp p manifest) = UpgradeApp s who p manifest
 RowBy s found who (command.NewGrain app title) = NewGrain s who app title
 RowBy s found who (command.Trash n) = Trash s who n true
 RowBy s found who (command.Untrash n) = Trash s who n false

@@ -9,7 +9,9 @@ ghost use Rattle.desk_orders.specs.Deciding.{Decides, IsDraft, FitsIfDecided};
 ghost use Rattle.desk_orders.specs.Orders.{RowBy, RowOf};
 
 use crate::order::{Command, Order};
-use account_desk::{add_account, add_app, new_grain, set_admin, set_enabled, trash, untrash};
+use account_desk::{
+    add_account, add_app, new_grain, set_admin, set_enabled, trash, untrash, upgrade_app,
+};
 use desk_base::{Answer, Draft, Outcome, Stop, has_room};
 use least_access::Solved;
 use saved_refs::{choose, claim, drop_saved, restore, save};
@@ -96,6 +98,7 @@ fn carry(
         Command::SetAdmin(account, on) => set_admin(state, caller, *account, *on),
         Command::SetEnabled(account, on) => set_enabled(state, caller, *account, *on),
         Command::AddApp(manifest) => add_app(state, caller, manifest),
+        Command::UpgradeApp(app, manifest) => upgrade_app(state, caller, *app, manifest),
         Command::NewGrain(app, title) => new_grain(state, caller, *app, title),
         Command::Trash(grain) => trash(state, caller, *grain),
         Command::Untrash(grain) => untrash(state, caller, *grain),

@@ -22,6 +22,8 @@ pub enum Command {
     SetEnabled(AccountId, bool),
     /// A new application.
     AddApp(Manifest),
+    /// An application gets another manifest.
+    UpgradeApp(AppId, Manifest),
     /// A new grain of an application, with a title.
     NewGrain(AppId, Name),
     /// A grain goes into the trash.

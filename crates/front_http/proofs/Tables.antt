@@ -18,6 +18,7 @@ desk_table =
     (codes "/accounts/" ++ (256 ∷ codes "/admin"), route.AccountAdmin 0)
     ∷ (codes "/accounts/" ++ (256 ∷ codes "/enabled"), route.AccountEnabled 0)
     ∷ (codes "/accounts", route.Accounts)
+    ∷ (codes "/apps/" ++ (256 ∷ codes "/upgrade"), route.AppUpgrade 0)
     ∷ (codes "/apps", route.Apps)
     ∷ (codes "/child", route.Child)
     ∷ (codes "/grains/" ++ (256 ∷ codes "/choose"), route.GrainChoose 0)
@@ -80,6 +81,7 @@ desk_path route.Accounts path is = desk_fixed (codes "/accounts") path route.Acc
 desk_path (route.AccountAdmin n) path is = desk_numbered (codes "/accounts/") (codes "admin") path n (route.AccountAdmin 0) refl refl (omega arith) refl is
 desk_path (route.AccountEnabled n) path is = desk_numbered (codes "/accounts/") (codes "enabled") path n (route.AccountEnabled 0) refl refl (omega arith) refl is
 desk_path route.Apps path is = desk_fixed (codes "/apps") path route.Apps refl is
+desk_path (route.AppUpgrade n) path is = desk_numbered (codes "/apps/") (codes "upgrade") path n (route.AppUpgrade 0) refl refl (omega arith) refl is
 desk_path route.Grains path is = desk_fixed (codes "/grains") path route.Grains refl is
 desk_path (route.GrainTrash n) path is = desk_numbered (codes "/grains/") (codes "trash") path n (route.GrainTrash 0) refl refl (omega arith) refl is
 desk_path (route.GrainUntrash n) path is = desk_numbered (codes "/grains/") (codes "untrash") path n (route.GrainUntrash 0) refl refl (omega arith) refl is

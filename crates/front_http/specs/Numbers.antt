@@ -17,6 +17,7 @@ with_number (route.AccountAdmin m) n = route.AccountAdmin n
 with_number (route.AccountEnabled m) n = route.AccountEnabled n
 with_number (route.GrainTrash m) n = route.GrainTrash n
 with_number (route.GrainUntrash m) n = route.GrainUntrash n
+with_number (route.AppUpgrade m) n = route.AppUpgrade n
 with_number (route.GrainShare m) n = route.GrainShare n
 with_number (route.GrainLink m) n = route.GrainLink n
 with_number (route.GrainToken m) n = route.GrainToken n

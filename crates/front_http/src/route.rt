@@ -19,6 +19,8 @@ pub enum Route {
     AccountEnabled(u32),
     /// `/apps`
     Apps,
+    /// `/apps/{n}/upgrade`
+    AppUpgrade(u32),
     /// `/grains`
     Grains,
     /// `/grains/{n}/trash`

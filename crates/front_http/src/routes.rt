@@ -23,11 +23,12 @@ pub enum Texts {
 }
 
 // The desk's paths and those of a running grain, as the router reads them.
-const DESK_PATHS: [(&str, Route); 21] = [
+const DESK_PATHS: [(&str, Route); 22] = [
     ("/accounts", Route::Accounts),
     ("/accounts/{n}/admin", Route::AccountAdmin(0)),
     ("/accounts/{n}/enabled", Route::AccountEnabled(0)),
     ("/apps", Route::Apps),
+    ("/apps/{n}/upgrade", Route::AppUpgrade(0)),
     ("/grains", Route::Grains),
     ("/grains/{n}/trash", Route::GrainTrash(0)),
     ("/grains/{n}/untrash", Route::GrainUntrash(0)),
@@ -63,6 +64,7 @@ fn desk_texts(route: Route) -> Texts
         Route::AccountAdmin(_) => Texts::Numbered("/accounts/", "/admin"),
         Route::AccountEnabled(_) => Texts::Numbered("/accounts/", "/enabled"),
         Route::Apps => Texts::Fixed("/apps"),
+        Route::AppUpgrade(_) => Texts::Numbered("/apps/", "/upgrade"),
         Route::Grains => Texts::Fixed("/grains"),
         Route::GrainTrash(_) => Texts::Numbered("/grains/", "/trash"),
         Route::GrainUntrash(_) => Texts::Numbered("/grains/", "/untrash"),
@@ -105,6 +107,7 @@ fn with_number(route: Route, number: u32) -> Route
     match route {
         Route::AccountAdmin(_) => Route::AccountAdmin(number),
         Route::AccountEnabled(_) => Route::AccountEnabled(number),
+        Route::AppUpgrade(_) => Route::AppUpgrade(number),
         Route::GrainTrash(_) => Route::GrainTrash(number),
         Route::GrainUntrash(_) => Route::GrainUntrash(number),
         Route::GrainShare(_) => Route::GrainShare(number),

@@ -1,5 +1,5 @@
 -- Jobs that were done by passes.
-use Rattle.std.proofs.Common.{◌≡◌, ℕ, ◌+◌, ◌++◌, suc, All, List, [], ◌∷◌, length, map, false, is_err, Result, Ok, Err, IfOk, refl, sym, ◌∙◌, ap, subst, arith}
+use Rattle.std.proofs.Common.{◌≡◌, ◌≤◌, ℕ, ◌+◌, ◌++◌, suc, All, List, [], ◌∷◌, length, map, false, is_err, Result, Ok, Err, IfOk, refl, sym, ◌∙◌, ap, subst, arith}
 use Rattle.std.specs.List.{sum_by}
 use Rattle.std.proofs.lemmas.List.Sums.{sum_by-cons}
 use Rattle.std.proofs.lemmas.List.Elements.{All-cons, All-head, All-nil, All-tail}
@@ -13,7 +13,7 @@ use Rattle.hub_core.specs.Book.{Book}
 use Rattle.hub_jobs.specs.Inner.{DoneBy, Each}
 use Rattle.hub_jobs.specs.Jobs.{AreDone, DoneAtOnce, Shift}
 use Rattle.shared_hub.specs.Passing.{book_by}
-use Rattle.tick_desk.specs.Clocked.{without}
+use Rattle.tick_desk.specs.Clocked.{ticks_in, without}
 
 each_first : {A : Type 0} (related : A → A → Type 0) (x y : A) (xs ys : List A) → Each related (x ∷ xs) (y ∷ ys) → related x y
 each_first related x y xs ys (long, each) = each 0 x (omega arith)
@@ -24,7 +24,7 @@ each_others related x y xs ys (long, each) = (omega (arith, long), λ i d near. 
 module _ {W J : Type 0} (desk : W → Passing Event Verdict) (ticks : W → ℕ) (job : W → J) (does : Book → Book → J → J → Type 0) (law : Law) (start : State) where
   abbrev Works : W → W → Type 0
   Works old new =
-      does (without (ticks old) (book_by law start (desk old))) (without (ticks new) (book_by law start (desk new))) (job old) (job new)
+      does (without (ticks old) (book_by law start (desk old))) (without (ticks new) (book_by law start (desk new))) (job old) (job new) × (ticks new ≤ ticks_in (desk new).seen)
 
   abbrev IsUnusedBy : W → Type 0
   IsUnusedBy w = (desk w).orders ≡ 0
@@ -49,8 +49,9 @@ module _ {W J : Type 0} (desk : W → Passing Event Verdict) (ticks : W → ℕ)
   are_done (x ∷ xs) (y ∷ ys) each unused unticked = (
     record {
       unused = All-head IsUnusedBy x xs unused;
+      ticked = (each_first Works x y xs ys each).1;
       did = subst (λ (n : ℕ). does (without n (book_by law start (desk x))) (without (ticks y) (book_by law start (desk y))) (job x) (job y))
-          (All-head IsUnticked x xs unticked) (each_first Works x y xs ys each);
+          (All-head IsUnticked x xs unticked) (each_first Works x y xs ys each).0;
     },
     are_done xs ys (each_others Works x y xs ys each) (All-tail IsUnusedBy x xs unused) (All-tail IsUnticked x xs unticked),
   )

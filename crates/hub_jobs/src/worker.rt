@@ -1,10 +1,11 @@
 //! A job, and the worker that does it.
 
+ghost use Rattle.std.specs.Prelude.{◌≤◌};
 ghost use Rattle.epoch_gate.specs.Books.{start_of};
 ghost use Rattle.hub_core.specs.Book.{Book};
 ghost use Rattle.shared_hub.specs.Passing.{book_by};
 ghost use Rattle.shared_hub.specs.Wanting.{blank};
-ghost use Rattle.tick_desk.specs.Clocked.{without};
+ghost use Rattle.tick_desk.specs.Clocked.{ticks_in, without};
 
 use crate::at_once::Task;
 use epoch_gate::Named;
@@ -61,9 +62,11 @@ impl<
     ghost does = { λ old new. J.does
         (without old.desk.ticks (book_by C.Law.law (start_of blank N.start).start old.desk.desk))
         (without new.desk.ticks (book_by C.Law.law (start_of blank N.start).start new.desk.desk))
-        old.job new.job };
+        old.job new.job × (new.desk.ticks ≤ ticks_in new.desk.desk.seen) };
 
     fn run(&mut self) {
         self.job.work(self.alloc, &mut self.desk);
+        // What the desk knows of its own ticks.
+        let _ticks = self.desk.ticks();
     }
 }

@@ -23,17 +23,19 @@ use Rattle.share_graph.specs.History.{after}
 use Rattle.share_graph.specs.Nodes.{node_of, Gives}
 use Rattle.share_graph.specs.Region.{GivesOutside}
 use Rattle.share_graph.specs.Rows.{row, IsGrain, IsKept, IsEnabled, IsAdmin}
-use Rattle.share_graph.specs.Setting.{with_admin, with_enabled, with_trashed}
+use Rattle.share_graph.specs.Setting.{with_admin, with_enabled, with_manifest, with_trashed}
 use Rattle.share_graph.specs.WellFormed.{IsWellFormed}
 use Rattle.share_graph.proofs.Coherence.{coherent}
-use Rattle.share_graph.proofs.Marked.{change_row_other}
+use Rattle.share_graph.proofs.Marked.{change_row_other, row_changed, same_number}
 use Rattle.state_step.proofs.Each.{push_old_row}
 use Rattle.region_access.specs.Seeds.{IsSeedOf}
 use Rattle.region_access.proofs.ManyAccounts.{with_accounts, gives_by_accounts}
 use Rattle.region_access.proofs.ManyGrains.{with_grains}
-use Rattle.region_access.proofs.Trashed.{row_changed, same_number, trash_back}
-use Rattle.live_access.specs.Adding.{may_take}
+use Rattle.region_access.proofs.Trashed.{trash_back}
+use Rattle.region_access.proofs.Upgraded.{upgrade_back}
+use Rattle.live_access.specs.Adding.{OnlyAdds}
 use Rattle.live_access.proofs.Pushed.{next_number}
+use Rattle.live_access.proofs.Raised.{app_raised, nodes_of_app}
 use Rattle.live_access.proofs.Touched.{account_id, grant_added_there, grant_added_back, grain_added_there, grain_added_back, account_set_back}
 use Rattle.live_access.proofs.Widened.{Widens, there, back}
 
@@ -112,7 +114,7 @@ module _ (t : Tables) (n : GrainId) where
 
   grain_untrashed : GivesOutside (Contains []) t untrashed
   grain_untrashed = record {
-    owned = λ m grain app out o. record { is_row = kept_row m grain o.is_row o.kept; of_app = o.of_app; kept = o.kept; enabled = o.enabled };
+    owned = λ m grain fact out (app, o, has). (app, record { is_row = kept_row m grain o.is_row o.kept; of_app = o.of_app; kept = o.kept; enabled = o.enabled }, has);
     passed = λ g grant fact out p. record { is_live = record { is_row = p.is_live.is_row; live = p.is_live.live; lasts = p.is_live.lasts }; received = p.received; gives = still_gives grant fact p.gives };
     asked = λ g grant q out is c now. now;
     asked_of_site = λ g grant q out is none c now. now;
@@ -140,59 +142,64 @@ module _ (s : State) (seeds : List Node) (formed : IsWellFormed s) where
   untouched : (u : Tables) → t.accounts ≡ u.accounts → t.apps ≡ u.apps → t.grains ≡ u.grains → t.grants ≡ u.grants → u.moment ≡ t.moment → Adds t u seeds
   untouched u accounts apps grains grants moment = widened t u (same_rows t u accounts apps grains grants moment) whole seeds
 
-  pub event_only_adds : (e : Event) → EventFits s e → ((at : Node) → Contains seeds at ↔ IsSeedOf t e at) → may_take e ≡ false → Adds t (after s e).tables seeds
-  event_only_adds (event.AccountAdded account) fits exact takes =
+  pub event_only_adds : (e : Event) → EventFits s e → ((at : Node) → Contains seeds at ↔ IsSeedOf t e at) → OnlyAdds t e → Adds t (after s e).tables seeds
+  event_only_adds (event.AccountAdded account) fits exact only =
       widened t (after s (event.AccountAdded account)).tables
       (record { accounts = λ a x is. push_old_row t.accounts (account ∷ []) a.0 x is; apps = λ p x is. is; grains = λ n. refl; grants = λ g. refl; moment = refl }) whole seeds
-  event_only_adds (event.AppAdded app) fits exact takes =
+  event_only_adds (event.AppAdded app) fits exact only =
       widened t (after s (event.AppAdded app)).tables
       (record { accounts = λ a x is. is; apps = λ p x is. push_old_row t.apps (app ∷ []) p.0 x is; grains = λ n. refl; grants = λ g. refl; moment = refl }) whole seeds
-  event_only_adds (event.GrainAdded grain) fits exact takes =
+  event_only_adds (event.AppUpgraded p manifest) fits exact only =
+      record {
+        all = app_raised t p manifest only;
+        only = upgrade_back t seeds p (with_manifest manifest) (nodes_of_app t seeds p (λ at is. (exact at).1 is));
+      }
+  event_only_adds (event.GrainAdded grain) fits exact only =
       let next = next_number (λ (x : Grain). x.num.0) t.grains grain fits.formed.numbered.grains in
       record {
         all = grain_added_there t grain next whole;
         only = grain_added_back t grain next whole seeds (coherent (after s (event.GrainAdded grain)).tables fits.formed.tables) ((exact (node.User grain.num grain.owner)).1 refl);
       }
-  event_only_adds (event.GrantAdded grant) fits exact takes =
+  event_only_adds (event.GrantAdded grant) fits exact only =
       let next = next_number (λ (x : Grant). x.num.0) t.grants grant fits.formed.numbered.grants in
       record {
         all = grant_added_there t grant next whole;
         only = grant_added_back t grant next seeds (coherent (after s (event.GrantAdded grant)).tables fits.formed.tables) ((exact (node_of grant.num grant)).1 refl);
       }
-  event_only_adds (event.Claimed grant handle) fits exact takes =
+  event_only_adds (event.Claimed grant handle) fits exact only =
       let next = next_number (λ (x : Grant). x.num.0) t.grants grant fits.formed.numbered.grants in
       record {
         all = grant_added_there t grant next whole;
         only = grant_added_back t grant next seeds (coherent (after s (event.Claimed grant handle)).tables fits.formed.tables) ((exact (node_of grant.num grant)).1 refl);
       }
-  event_only_adds (event.GrantRevoked g) fits exact takes = cc takes
-  event_only_adds (event.TrashedSet n true) fits exact takes = cc takes
-  event_only_adds (event.TrashedSet n false) fits exact takes =
+  event_only_adds (event.GrantRevoked g) fits exact only = absurd only
+  event_only_adds (event.TrashedSet n true) fits exact only = cc only
+  event_only_adds (event.TrashedSet n false) fits exact only =
       record {
         all = grain_untrashed t n;
         only = trash_back t n false seeds (λ grain is. (exact (node.User n grain.owner)).1 (inl (grain, is, refl))) (λ g grant is same. (exact (node_of g grant)).1 (inr (g, grant, is, same, refl)))
             (coherent (after s (event.TrashedSet n false)).tables fits.formed.tables);
       }
-  event_only_adds (event.AdminSet a false) fits exact takes = cc takes
-  event_only_adds (event.AdminSet a true) fits exact takes =
+  event_only_adds (event.AdminSet a false) fits exact only = cc only
+  event_only_adds (event.AdminSet a true) fits exact only =
       record {
         all = account_raised t a (with_admin true) whole (λ account on. on) (λ account admin. refl);
         only = account_set_back t a (with_admin true) seeds (inl (λ account. refl)) (λ g grant is c. (exact (node_of g grant)).1 (g, grant, is, c, refl))
             (coherent (after s (event.AdminSet a true)).tables fits.formed.tables);
       }
-  event_only_adds (event.EnabledSet a false) fits exact takes = cc takes
-  event_only_adds (event.EnabledSet a true) fits exact takes =
+  event_only_adds (event.EnabledSet a false) fits exact only = cc only
+  event_only_adds (event.EnabledSet a true) fits exact only =
       record {
         all = account_raised t a (with_enabled true) whole (λ account on. refl) (λ account admin. admin);
         only = account_set_back t a (with_enabled true) seeds (inr (λ n grain is. (exact (node.User n a)).1 (inr (n, grain, is, refl))))
             (λ g grant is c. (exact (node_of g grant)).1 (inl (g, grant, is, c, refl)))
             (coherent (after s (event.EnabledSet a true)).tables fits.formed.tables);
       }
-  event_only_adds (event.SavedAdded saved) fits exact takes = untouched (after s (event.SavedAdded saved)).tables refl refl refl refl refl
-  event_only_adds (event.SavedDropped v) fits exact takes = untouched (after s (event.SavedDropped v)).tables refl refl refl refl refl
-  event_only_adds (event.RunStarted run) fits exact takes = untouched t refl refl refl refl refl
-  event_only_adds (event.RunStopped r) fits exact takes = untouched t refl refl refl refl refl
-  event_only_adds (event.SessionOpened session) fits exact takes = untouched t refl refl refl refl refl
-  event_only_adds (event.SessionClosed n) fits exact takes = untouched t refl refl refl refl refl
-  event_only_adds (event.HandleMade handle) fits exact takes = untouched t refl refl refl refl refl
-  event_only_adds (event.Ticked m) fits exact takes = cc takes
+  event_only_adds (event.SavedAdded saved) fits exact only = untouched (after s (event.SavedAdded saved)).tables refl refl refl refl refl
+  event_only_adds (event.SavedDropped v) fits exact only = untouched (after s (event.SavedDropped v)).tables refl refl refl refl refl
+  event_only_adds (event.RunStarted run) fits exact only = untouched t refl refl refl refl refl
+  event_only_adds (event.RunStopped r) fits exact only = untouched t refl refl refl refl refl
+  event_only_adds (event.SessionOpened session) fits exact only = untouched t refl refl refl refl refl
+  event_only_adds (event.SessionClosed n) fits exact only = untouched t refl refl refl refl refl
+  event_only_adds (event.HandleMade handle) fits exact only = untouched t refl refl refl refl refl
+  event_only_adds (event.Ticked m) fits exact only = absurd only

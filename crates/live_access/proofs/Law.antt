@@ -13,7 +13,7 @@ use Rattle.share_graph.specs.EventFits.{HasChanged, EventFits}
 use Rattle.share_graph.specs.History.{after}
 use Rattle.share_graph.specs.Nodes.{node_of}
 use Rattle.share_graph.specs.Region.{seed}
-use Rattle.share_graph.specs.Setting.{with_admin, with_enabled}
+use Rattle.share_graph.specs.Setting.{with_admin, with_enabled, with_manifest}
 use Rattle.share_graph.specs.WellFormed.{IsNumbered, IsWellFormed}
 use Rattle.share_graph.proofs.Coherence.{coherent}
 use Rattle.state_step.proofs.Each.{push_old_row}
@@ -25,9 +25,11 @@ use Rattle.region_access.specs.Seeds.{IsSeedOf}
 use Rattle.region_access.proofs.Roomy.{region_closed}
 use Rattle.region_access.proofs.Ticked.{tick_touches}
 use Rattle.region_access.proofs.Trashed.{trash_touches}
+use Rattle.region_access.proofs.Upgraded.{upgrade_touches}
 use Rattle.live_access.specs.Adding.{grant_added, IsNewOf}
 use Rattle.live_access.proofs.NewRow.{adds_none, adds_none_revoked, adds_one, adds_nothing, no_row_of_one, no_row_of_none}
 use Rattle.live_access.proofs.Pushed.{next_number}
+use Rattle.live_access.proofs.Raised.{nodes_of_app}
 use Rattle.live_access.proofs.Touched.{grant_added_touches, grant_revoked_touches, grain_added_touches, account_set_touches}
 use Rattle.live_access.proofs.Widened.{Widens, touches_by_widening}
 
@@ -67,6 +69,7 @@ touched s (event.AccountAdded account) nodes set =
 touched s (event.AppAdded app) nodes set =
     touches_by_widening s.tables (after s (event.AppAdded app)).tables
     (record { accounts = λ a x is. is; apps = λ p x is. push_old_row s.tables.apps (app ∷ []) p.0 x is; grains = λ n. refl; grants = λ g. refl; moment = refl }) set.whole nodes set.closed
+touched s (event.AppUpgraded p manifest) nodes set = upgrade_touches s.tables nodes p (with_manifest manifest) (nodes_of_app s.tables nodes p set.inside) set.whole set.closed
 touched s (event.GrainAdded grain) nodes set =
     grain_added_touches s.tables grain (next_number (λ (x : Grain). x.num.0) s.tables.grains grain set.numbered.grains) set.whole nodes set.whole_after (set.inside (node.User grain.num grain.owner) refl) set.closed
 touched s (event.GrantAdded grant) nodes set =
@@ -104,6 +107,7 @@ event_adds s (event.Claimed grant handle) added fits is = adds_one s.tables gran
 event_adds s (event.GrantRevoked g) added fits is = adds_nothing s.tables _ added is (adds_none_revoked s.tables g)
 event_adds s (event.AccountAdded account) added fits is = adds_nothing s.tables (after s (event.AccountAdded account)).tables added is (adds_none s.tables _ (λ g. refl))
 event_adds s (event.AppAdded app) added fits is = adds_nothing s.tables (after s (event.AppAdded app)).tables added is (adds_none s.tables _ (λ g. refl))
+event_adds s (event.AppUpgraded p manifest) added fits is = adds_nothing s.tables (after s (event.AppUpgraded p manifest)).tables added is (adds_none s.tables _ (λ g. refl))
 event_adds s (event.GrainAdded grain) added fits is = adds_nothing s.tables (after s (event.GrainAdded grain)).tables added is (adds_none s.tables _ (λ g. refl))
 event_adds s (event.SavedAdded saved) added fits is = adds_nothing s.tables (after s (event.SavedAdded saved)).tables added is (adds_none s.tables _ (λ g. refl))
 event_adds s (event.AdminSet a on) added fits is = adds_nothing s.tables (after s (event.AdminSet a on)).tables added is (adds_none s.tables _ (λ g. refl))
@@ -124,6 +128,7 @@ event_is_new s (event.Claimed grant handle) added fits is = no_row_of_one s.tabl
 event_is_new s (event.GrantRevoked g) added fits is = no_row_of_none s.tables added is
 event_is_new s (event.AccountAdded account) added fits is = no_row_of_none s.tables added is
 event_is_new s (event.AppAdded app) added fits is = no_row_of_none s.tables added is
+event_is_new s (event.AppUpgraded p manifest) added fits is = no_row_of_none s.tables added is
 event_is_new s (event.GrainAdded grain) added fits is = no_row_of_none s.tables added is
 event_is_new s (event.SavedAdded saved) added fits is = no_row_of_none s.tables added is
 event_is_new s (event.AdminSet a on) added fits is = no_row_of_none s.tables added is

@@ -6,3 +6,4 @@ pub mod Law
 pub mod Grows
 pub mod Settled
 pub mod Stays
+pub mod Raised

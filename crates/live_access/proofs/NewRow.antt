@@ -12,7 +12,7 @@ use Rattle.least_access.proofs.Turns.{grant_id}
 use Rattle.state_step.proofs.Each.{push_old_row}
 use Rattle.region_access.specs.declared.fed_grant.NewGrant.{NewGrant}
 use Rattle.region_access.specs.NewEdges.{HasNoRow, IsRowOf, IsAlike, AddsGrant}
-use Rattle.region_access.proofs.Trashed.{row_changed, row_changed_back, same_number}
+use Rattle.share_graph.proofs.Marked.{row_changed, row_changed_back, same_number}
 use Rattle.live_access.specs.Adding.{IsNewOf}
 use Rattle.live_access.proofs.Pushed.{row_new, row_pushed, none_next}
 

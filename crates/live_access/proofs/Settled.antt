@@ -1,6 +1,6 @@
 -- What is ready for an event meets all that solving its region again asks for, and what taking it back leaves.
 use Rattle.std.proofs.Common.{◌≡◌, Bool, true, false, List, [], Contains, inl, inr, refl, sym, ◌∙◌, subst}
-use Rattle.std.specs.Prelude.{AllPairs, ◌≢◌, not}
+use Rattle.std.specs.Prelude.{AllPairs, ◌≢◌}
 use Rattle.host_base.specs.declared.ids.GrantId.{GrantId}
 use Rattle.share_graph.specs.declared.event.Event.{Event}
 use Rattle.share_graph.specs.declared.facts.Node.{Node}
@@ -29,7 +29,7 @@ use Rattle.region_access.proofs.Roomy.{cleared_room, room_grows, room_prepared}
 use Rattle.live_access.specs.declared.region.Region.{Region}
 use Rattle.live_access.specs.Kept.{Kept, IsSolvedFor}
 use Rattle.live_access.specs.Ready.{starts_of, IsReadyFor}
-use Rattle.live_access.specs.Adding.{may_take}
+use Rattle.live_access.specs.Adding.{OnlyAdds}
 use Rattle.live_access.proofs.Grows.{event_only_adds}
 use Rattle.live_access.proofs.Law.{event_touches, event_adds}
 
@@ -54,7 +54,7 @@ none_reached t at (to_site {from = from} r g grant is none feeds) = none_reached
 -- tables that stay give what they give
 gives_same : (Inside : Node → Type 0) (t : Tables) → GivesOutside Inside t t
 gives_same Inside t = record {
-  owned = λ n grain app out o. o;
+  owned = λ n grain fact out o. o;
   passed = λ g grant fact out p. p;
   asked = λ g grant q out is c now. now;
   asked_of_site = λ g grant q out is none c now. now;
@@ -102,18 +102,14 @@ grows_by s e kept region ready is_grown =
     let u : Tables = (after s e).tables in
     let seeds = region.seeds.items in
     let whole = coherent s.tables ready.formed.tables in
-    let not_grown : may_take e ≡ false = takes_none (may_take e) (sym ready.grows ∙ is_grown) in
+    let only : OnlyAdds s.tables e = ready.grows.0 is_grown in
     elim ready.exact [
       | inl exact ↦
           let touches = event_touches s e seeds region.room.nodes.items ready.formed ready.fits exact ready.room.region in
-          let adds = event_only_adds s seeds ready.formed e ready.fits exact not_grown in
+          let adds = event_only_adds s seeds ready.formed e ready.fits exact only in
           room_grows s.tables u seeds ready.start.table kept.table region.room is_grown ready.room whole ready.solved.solution adds.all adds.only touches.closed_after
       | inr (no_seeds, stays) ↦ unchanged_grows s.tables u seeds ready.start.table kept.table region.room is_grown no_seeds (coherent u ready.fits.formed.tables) stays ready.room
     ]
-  where
-    takes_none : (b : Bool) → not b ≡ true → b ≡ false
-    takes_none true is = cc is
-    takes_none false is = refl
 
 can_settle_after : (s : State) (e : Event) (kept : Kept) (region : Region) → IsReadyFor s e kept region → CanSettle (after s e).tables kept region
 can_settle_after s e kept region ready =

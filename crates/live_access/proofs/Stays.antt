@@ -35,7 +35,7 @@ use Rattle.state_step.proofs.Each.{push_old_row}
 use Rattle.region_work.specs.Owed.{holder_of}
 use Rattle.region_work.proofs.Sums.{contains_cons}
 use Rattle.region_access.specs.Arriving.{IsArrivalsOf}
-use Rattle.region_access.proofs.Trashed.{same_number}
+use Rattle.share_graph.proofs.Marked.{same_number}
 use Rattle.live_access.specs.Staying.{AddsNothing, IsFedOutside, IsGivenOtherwise, TakesNothing}
 use Rattle.live_access.proofs.Pushed.{row_new, row_pushed, next_number}
 

@@ -23,7 +23,7 @@ use Rattle.region_work.specs.Prepared.{LeadsNowhere, Touches}
 use Rattle.region_access.proofs.ManyAccounts.{with_accounts, HasOwnNodes, HasNeeding, gives_by_accounts, touches_by_accounts}
 use Rattle.region_access.proofs.ManyGrains.{MayTouch, gives_by_grains, touches_by_grains}
 use Rattle.region_access.proofs.OneGrant.{closed_since, gives_back, gives_there, touches}
-use Rattle.region_access.proofs.Trashed.{row_changed, row_changed_back, same_number}
+use Rattle.share_graph.proofs.Marked.{row_changed, row_changed_back, same_number}
 use Rattle.live_access.proofs.Pushed.{row_before, row_pushed, none_next}
 
 -- ---- a grant that is added

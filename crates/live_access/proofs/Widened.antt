@@ -108,7 +108,7 @@ module _ (t u : Tables) (widens : Widens t u) (coherent : IsCoherent t) where
 
   pub there : (nodes : List Node) → GivesOutside (Contains nodes) t u
   there nodes = record {
-    owned = λ n grain app out o. record { is_row = widens.grains n ∙ o.is_row; of_app = widens.apps grain.app app o.of_app; kept = o.kept; enabled = enabled_on grain.owner o.enabled };
+    owned = λ n grain fact out (app, o, has). (app, record { is_row = widens.grains n ∙ o.is_row; of_app = widens.apps grain.app app o.of_app; kept = o.kept; enabled = enabled_on grain.owner o.enabled }, has);
     passed = λ g grant fact out p. record { is_live = live_on g grant p.is_live; received = received_on grant.target p.received; gives = gives_on grant fact p.gives };
     asked = λ g grant q out is c now. asked_on q now;
     asked_of_site = λ g grant q out is none c now. asked_on q now;
@@ -117,10 +117,10 @@ module _ (t u : Tables) (widens : Widens t u) (coherent : IsCoherent t) where
 
   pub back : (nodes : List Node) → GivesOutside (Contains nodes) u t
   back nodes = record {
-    owned = λ n grain app out o.
+    owned = λ n grain fact out (app, o, has).
         let was = sym (widens.grains n) ∙ o.is_row in
         let knows = coherent.grains n grain was in
-        record { is_row = was; of_app = app_back grain.app app knows.app o.of_app; kept = o.kept; enabled = enabled_back grain.owner knows.owner o.enabled };
+        (app, record { is_row = was; of_app = app_back grain.app app knows.app o.of_app; kept = o.kept; enabled = enabled_back grain.owner knows.owner o.enabled }, has);
     passed = λ g grant fact out p.
         let knows = (coherent.grants g grant (grant_back g grant p.is_live.is_row)).knows in
         record { is_live = live_back g grant p.is_live; received = received_back grant.target knows.target p.received; gives = gives_back grant fact p.gives };

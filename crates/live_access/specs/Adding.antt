@@ -1,8 +1,12 @@
 -- The grant that an event adds.
-use Rattle.std.specs.Prelude.{◌≡◌, Bool, true, false, not, Option, Some, None}
+use Rattle.std.specs.Prelude.{◌≡◌, true, false, Option, Some, None}
+use Rattle.app_manifest.specs.Upgrade.{GivesNoLess}
 use Rattle.share_graph.specs.declared.event.Event.{Event}
 use Rattle.share_graph.specs.declared.event.Event.TheVariants as event
 use Rattle.share_graph.specs.declared.grants.Grant.{Grant}
+use Rattle.share_graph.specs.declared.rows.App.{App}
+use Rattle.share_graph.specs.declared.state.Tables.{Tables}
+use Rattle.share_graph.specs.Rows.{IsApp}
 use Rattle.region_access.specs.declared.fed_grant.NewGrant.{NewGrant}
 use Rattle.region_access.specs.NewEdges.{IsRowOf}
 
@@ -12,6 +16,7 @@ grant_added (event.GrantAdded grant) = Some grant
 grant_added (event.Claimed grant handle) = Some grant
 grant_added (event.AccountAdded account) = None
 grant_added (event.AppAdded app) = None
+grant_added (event.AppUpgraded p manifest) = None
 grant_added (event.GrainAdded grain) = None
 grant_added (event.SavedAdded saved) = None
 grant_added (event.AdminSet a on) = None
@@ -26,15 +31,16 @@ grant_added (event.SessionClosed n) = None
 grant_added (event.HandleMade handle) = None
 grant_added (event.Ticked m) = None
 
--- Something may be lost by the event: a grant is revoked or ends, a grain goes into the trash, an account is disabled or no admin.
--- Every other event only adds.
-abbrev pub may_take : Event → Bool
-may_take (event.GrantRevoked g) = true
-may_take (event.TrashedSet n on) = on
-may_take (event.AdminSet a on) = not on
-may_take (event.EnabledSet a on) = not on
-may_take (event.Ticked m) = true
-may_take _ = false
+-- Nothing can be lost by the event: no grant is revoked or ends, no grain goes into the trash, no account is disabled or no admin
+-- any more, and an application's new manifest gives no less than the one before.
+abbrev pub OnlyAdds : Tables → Event → Type 0
+OnlyAdds t (event.GrantRevoked g) = ⊥
+OnlyAdds t (event.TrashedSet n on) = on ≡ false
+OnlyAdds t (event.AdminSet a on) = on ≡ true
+OnlyAdds t (event.EnabledSet a on) = on ≡ true
+OnlyAdds t (event.Ticked m) = ⊥
+OnlyAdds t (event.AppUpgraded p manifest) = (app : App) → IsApp t p app → GivesNoLess app.manifest manifest
+OnlyAdds t _ = Unit {0}
 
 -- there is no grant and no new one, or the new one is the grant's: of its number, its node, the nodes that feed it and what it
 -- hangs on

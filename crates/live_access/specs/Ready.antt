@@ -1,5 +1,5 @@
 -- What is ready for an event.
-use Rattle.std.specs.Prelude.{◌≡◌, ◌≢◌, ◌⊎◌, ◌↔◌, ℕ, ◌+◌, Bool, true, false, not, Option, Some, None, List, [], length, Contains, AllPairs}
+use Rattle.std.specs.Prelude.{◌≡◌, ◌≢◌, ◌⊎◌, ◌↔◌, ℕ, ◌+◌, Bool, true, false, IsTrue, Option, Some, None, List, [], length, Contains, AllPairs}
 use Rattle.host_base.specs.declared.ids.GrantId.{GrantId}
 use Rattle.share_graph.specs.declared.event.Event.{Event}
 use Rattle.share_graph.specs.declared.event.Event.TheVariants as event
@@ -19,7 +19,7 @@ use Rattle.region_access.specs.Indexes.{Entries, HaveNew}
 use Rattle.region_access.specs.Room.{IsRoom}
 use Rattle.region_access.specs.Seeds.{IsSeedOf}
 use Rattle.live_access.specs.declared.region.Region.{Region}
-use Rattle.live_access.specs.Adding.{grant_added, may_take, IsNewOf}
+use Rattle.live_access.specs.Adding.{grant_added, OnlyAdds, IsNewOf}
 use Rattle.live_access.specs.Kept.{Kept, IsSolvedFor}
 
 -- the seeds are those of the event; or there are none, and exactly what held before the event holds after it
@@ -60,7 +60,7 @@ pub record IsReadyFor (s : State) (e : Event) (kept : Kept) (region : Region) : 
   pub solved : IsSolvedFor s.tables start
   pub exact : AreSeedsFor s e start.table region.seeds.items
   pub room : IsRoom s.tables region.seeds.items start.table kept.table region.room
-  pub grows : region.room.grows ≡ not (may_take e)
+  pub grows : IsTrue region.room.grows ↔ OnlyAdds s.tables e
   pub added : IsNewOf (grant_added e) region.added
   pub has_new : HaveNew region.added start.indexes kept.indexes
   pub grants : HasGrants (after s e).tables (starts_of region.room.grows region.seeds.items region.room.nodes.items) region.grants.items

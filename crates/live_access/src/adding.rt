@@ -1,11 +1,16 @@
 //! What an event adds.
 
-ghost use Rattle.std.specs.Prelude.{◌≡◌, IfOk};
+ghost use Rattle.std.specs.Prelude.{◌≡◌, ◌↔◌, IfOk, IsTrue};
 ghost use Rattle.std.specs.Option.{option_copied};
-ghost use Rattle.live_access.specs.Adding.{grant_added, may_take, IsNewOf};
+ghost use Rattle.app_manifest.specs.Upgrade.{GivesNoLess};
+ghost use Rattle.share_graph.specs.declared.rows.App as the_app;
+ghost use Rattle.share_graph.specs.Rows.{IsApp};
+ghost use Rattle.live_access.specs.Adding.{grant_added, OnlyAdds, IsNewOf};
 
-use host_base::Memory;
+use app_manifest::{Manifest, gives_no_less};
+use host_base::{AppId, Memory};
 use region_access::{NewGrant, new_grant};
+use region_work::Probe;
 use share_graph::{Event, Grant};
 use std::alloc::Global;
 
@@ -30,15 +35,26 @@ pub fn added_by(alloc: Global, event: &Event) -> Result<Option<NewGrant>, Memory
     }
 }
 
-/// Whether something may be lost by an event. Every other event only adds.
-pub fn may_take(event: &Event) -> bool
-    ensures { result ≡ may_take event.now }
+// Whether an application has no manifest yet that gives more than this one.
+fn gives_no_less_than_before<V: Probe>(probe: &V, num: AppId, manifest: &Manifest) -> bool
+    ensures { IsTrue result ↔ ((app : the_app.App) → IsApp (V.tables probe.now) num app
+        → GivesNoLess app.manifest manifest.now) }
+{
+    match probe.app(num) {
+        Some(row) => gives_no_less(&row.manifest, manifest),
+        None => true,
+    }
+}
+
+/// Whether nothing can be lost by an event, by the tables before it.
+pub fn only_adds<V: Probe>(probe: &V, event: &Event) -> bool
+    ensures { IsTrue result ↔ OnlyAdds (V.tables probe.now) event.now }
 {
     match event {
-        Event::GrantRevoked(_) => true,
-        Event::TrashedSet(_, on) => *on,
-        Event::AdminSet(_, on) | Event::EnabledSet(_, on) => !*on,
-        Event::Ticked(_) => true,
-        _ => false,
+        Event::GrantRevoked(_) | Event::Ticked(_) => false,
+        Event::TrashedSet(_, on) => !*on,
+        Event::AdminSet(_, on) | Event::EnabledSet(_, on) => *on,
+        Event::AppUpgraded(num, manifest) => gives_no_less_than_before(probe, *num, manifest),
+        _ => true,
     }
 }

@@ -26,7 +26,7 @@ ghost use Rattle.live_access.specs.Kept.{IsSolvedFor};
 ghost use Rattle.live_access.specs.Ready.{AreSeedsFor, IsBefore, IsReadyFor, most_looks};
 ghost use Rattle.live_access.specs.Staying.{TakesNothing};
 
-use crate::adding::{added_by, may_take};
+use crate::adding::{added_by, only_adds};
 use crate::region::{Region, starts_of};
 use crate::staying::{adds_nothing, takes_nothing};
 use host_base::{GrantId, Memory};
@@ -192,6 +192,7 @@ impl Solution {
     {
         let seeds = self.starts(alloc, probe, event, seeds)?;
         let added = added_by(alloc, event)?;
+        let grows = only_adds(probe, event);
         let room = region_access::prepare(
             alloc,
             probe,
@@ -199,7 +200,7 @@ impl Solution {
             &mut self.indexes,
             seeds.as_slice(),
             &added,
-            !may_take(event),
+            grows,
         )?;
         let starts = starts_of(&room, seeds.as_slice());
         match collect(alloc, &self.indexes.arrivals, starts) {

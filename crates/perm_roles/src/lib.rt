@@ -5,4 +5,4 @@ mod perm_set;
 mod roles;
 
 pub use perm_set::{PermSet, SetFault};
-pub use roles::{Assignment, Base, Role, granted, is_listed};
+pub use roles::{Assignment, Base, Role, default_set, granted, is_listed};

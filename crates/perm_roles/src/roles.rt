@@ -89,7 +89,8 @@ fn base_set(roles: &[Role], count: u8, base: Base) -> PermSet
     }
 }
 
-fn default_set(roles: &[Role]) -> PermSet
+/// What a base that names nothing starts from: the set of the first default role, or no permission.
+pub fn default_set(roles: &[Role]) -> PermSet
     ensures { (p : ℕ) → Has result p ↔ IsInDefault roles.now p }
 {
     match default_role(roles) {

@@ -14,3 +14,4 @@ pub mod Walk
 pub mod Products
 pub mod Counted
 pub mod Forms
+pub mod Same

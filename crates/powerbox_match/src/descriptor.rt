@@ -1,10 +1,11 @@
 //! Tags, descriptors and queries, each within its limits.
 
-ghost use Rattle.std.specs.Prelude.{◌≡◌, ◌≤◌, IfOk, IsTrue, length};
+ghost use Rattle.std.specs.Prelude.{◌≡◌, ◌≤◌, ◌↔◌, IfOk, IsTrue, length};
 ghost use Rattle.powerbox_match.specs.Value.{nesting, is_tidy, is_within_limits, tag_data};
 ghost use Rattle.powerbox_match.specs.Comparisons.{weight, lists};
 ghost use Rattle.powerbox_match.specs.Sorted.{is_sorted, MatchesAlike};
 
+use crate::sameness::is_same_value;
 use crate::sorted::sorted_form;
 use crate::value::{Quality, TagValue};
 use plain_data::List;
@@ -88,6 +89,13 @@ impl Tag {
     {
         &self.sorted
     }
+
+    // Whether it has the id and the value that the other has.
+    pub(crate) fn is_same(&self, other: &Tag) -> bool
+        ensures { IsTrue result ↔ (self.now ≡ other.now) }
+    {
+        self.id == other.id && is_same_value(&self.value, &other.value)
+    }
 }
 
 impl Clone for Tag {
@@ -156,6 +164,28 @@ impl Descriptor {
     {
         self.quality
     }
+
+    /// Whether it says exactly what the other says: the same tags, with the same values, in the
+    /// same order, and the same quality.
+    pub fn is_same(&self, other: &Descriptor) -> bool
+        ensures { IsTrue result ↔ (self.now ≡ other.now) }
+    {
+        self.quality == other.quality && are_same_tags(self.tags(), other.tags())
+    }
+}
+
+fn are_same_tags(tags: &[Tag], others: &[Tag]) -> bool
+    ensures { IsTrue result ↔ (tags.now ≡ others.now) }
+{
+    if tags.len() != others.len() {
+        return false;
+    }
+    for (place, tag) in tags.iter().enumerate() {
+        if !tag.is_same(&others[place]) {
+            return false;
+        }
+    }
+    true
 }
 
 impl Clone for Descriptor {

@@ -10,6 +10,7 @@ mod fault;
 mod limits;
 mod matching;
 mod reading;
+mod sameness;
 mod shape;
 mod sorted;
 mod value;

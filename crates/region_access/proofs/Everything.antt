@@ -91,14 +91,14 @@ everything u nodes table coherent owners grants empty = record {
     closed = λ from g grant is feeds inside. absurd (no_row g.0 grant is);
     closed_after = λ from g grant is feeds inside. grants g grant is;
     there = record {
-      owned = λ n grain app out o. absurd (no_row n.0 grain o.is_row);
+      owned = λ n grain fact out (app, o, is). absurd (no_row n.0 grain o.is_row);
       passed = λ g grant fact out p. absurd (no_row g.0 grant p.is_live.is_row);
       asked = λ g grant q out is c now. absurd (no_row g.0 grant is);
       asked_of_site = λ g grant q out is none c now. absurd (no_row g.0 grant is);
       opened = λ g grant out none o. absurd (no_row g.0 grant o.is_live.is_row);
     };
     back = record {
-      owned = λ n grain app out o. absurd (out (owners n grain o.is_row));
+      owned = λ n grain fact out (app, o, is). absurd (out (owners n grain o.is_row));
       passed = λ g grant fact out p. absurd (out (grants g grant p.is_live.is_row));
       asked = λ g grant q out is c now. absurd (out (grants g grant is));
       asked_of_site = λ g grant q out is none c now. absurd (out (subst (λ (n : Node). Contains nodes n) (sym (node_of_site u coherent g grant is none)) (grants g grant is)));

@@ -16,3 +16,5 @@ pub mod ManyGrains
 pub mod Ends
 pub mod Ticked
 pub mod Trashed
+pub mod GrainsOf
+pub mod Upgraded

@@ -65,9 +65,9 @@ module _ (t : Tables) (nodes : List Node) (old new : List Account) (coherent : I
 
   pub gives_by_accounts : GivesOutside (Contains nodes) before after
   gives_by_accounts = record {
-    owned = λ n grain app out o.
+    owned = λ n grain fact out (app, o, is).
         elim (enabled grain.owner o.enabled) [
-          | inl still ↦ record { is_row = o.is_row; of_app = o.of_app; kept = o.kept; enabled = still }
+          | inl still ↦ (app, record { is_row = o.is_row; of_app = o.of_app; kept = o.kept; enabled = still }, is)
           | inr own ↦ absurd (out (own n grain o.is_row))
         ];
     passed = λ g grant fact out p.

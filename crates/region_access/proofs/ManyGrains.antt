@@ -65,9 +65,9 @@ module _ (t : Tables) (nodes : List Node) (old new : List Grain) (coherent : IsC
 
   pub gives_by_grains : GivesOutside (Contains nodes) before after
   gives_by_grains = record {
-    owned = λ n grain app out o.
+    owned = λ n grain fact out (app, o, is).
         elim (each n grain o.is_row) [
-          | inl same ↦ record { is_row = same; of_app = o.of_app; kept = o.kept; enabled = o.enabled }
+          | inl same ↦ (app, record { is_row = same; of_app = o.of_app; kept = o.kept; enabled = o.enabled }, is)
           | inr (owner, others, still) ↦ absurd (out owner)
         ];
     passed = λ g grant fact out p. record { is_live = live_on g grant p.is_live; received = p.received; gives = gives_on g grant p.is_live.is_row fact p.gives };

@@ -31,7 +31,7 @@ module _ (t : Tables) (gs : List Grant) (g : GrantId) (nodes : List Node) where
 
       pub gives_there : IsCoherent t → GivesOutside (Contains nodes) t after
       gives_there coherent = record {
-        owned = λ n grain app out o. record { is_row = o.is_row; of_app = o.of_app; kept = o.kept; enabled = o.enabled };
+        owned = λ n grain fact out (app, o, is). (app, record { is_row = o.is_row; of_app = o.of_app; kept = o.kept; enabled = o.enabled }, is);
         passed = λ h grant fact out p. record { is_live = live_after h grant (apart_before h grant p.is_live.is_row out) p.is_live; received = p.received; gives = p.gives };
         asked = λ h grant q out row_is c now. now;
         asked_of_site = λ h grant q out row_is none c now. now;
@@ -46,7 +46,7 @@ module _ (t : Tables) (gs : List Grant) (g : GrantId) (nodes : List Node) where
 
       pub gives_back : IsCoherent after → GivesOutside (Contains nodes) after t
       gives_back coherent = record {
-        owned = λ n grain app out o. record { is_row = o.is_row; of_app = o.of_app; kept = o.kept; enabled = o.enabled };
+        owned = λ n grain fact out (app, o, is). (app, record { is_row = o.is_row; of_app = o.of_app; kept = o.kept; enabled = o.enabled }, is);
         passed = λ h grant fact out p. record { is_live = live_before h grant (apart_after h grant p.is_live.is_row out) p.is_live; received = p.received; gives = p.gives };
         asked = λ h grant q out row_is c now. now;
         asked_of_site = λ h grant q out row_is none c now. now;

@@ -46,7 +46,7 @@ module _ (t : Tables) (m : ℕ) (nodes : List Node) (later : t.moment < m)
     closed = closed;
     closed_after = closed;
     there = record {
-      owned = λ n grain app out o. record { is_row = o.is_row; of_app = o.of_app; kept = o.kept; enabled = o.enabled };
+      owned = λ n grain fact out (app, o, is). (app, record { is_row = o.is_row; of_app = o.of_app; kept = o.kept; enabled = o.enabled }, is);
       passed = λ g grant fact out p. record { is_live = live_on g grant out p.is_live; received = p.received; gives = p.gives };
       asked = λ g grant q out is c now. now;
       asked_of_site = λ g grant q out is none c now. now;
@@ -56,7 +56,7 @@ module _ (t : Tables) (m : ℕ) (nodes : List Node) (later : t.moment < m)
       };
     };
     back = record {
-      owned = λ n grain app out o. record { is_row = o.is_row; of_app = o.of_app; kept = o.kept; enabled = o.enabled };
+      owned = λ n grain fact out (app, o, is). (app, record { is_row = o.is_row; of_app = o.of_app; kept = o.kept; enabled = o.enabled }, is);
       passed = λ g grant fact out p. record { is_live = live_back g grant p.is_live; received = p.received; gives = p.gives };
       asked = λ g grant q out is c now. now;
       asked_of_site = λ g grant q out is none c now. now;

@@ -1,43 +1,22 @@
 -- A grain that goes into the trash or comes back touches nothing outside the region of its nodes.
-use Rattle.std.proofs.Common.{◌≡◌, ◌≢◌, ◌⊎◌, ℕ, zero, suc, Bool, List, [], ◌∷◌, Some, slice_get, Contains, refl, sym, ◌∙◌, ap, subst, inl, inr, arith}
+use Rattle.std.proofs.Common.{◌≡◌, ℕ, Bool, List, Some, Contains, refl, sym, ◌∙◌, ap, subst, inl, inr}
 use Rattle.host_base.specs.declared.ids.AccountId.{AccountId}
 use Rattle.host_base.specs.declared.ids.GrainId.{GrainId}
 use Rattle.share_graph.specs.declared.facts.Node.{Node}
 use Rattle.share_graph.specs.declared.facts.Node.TheVariants as node
 use Rattle.share_graph.specs.declared.rows.Grain.{Grain}
 use Rattle.share_graph.specs.declared.state.Tables.{Tables}
-use Rattle.share_graph.specs.Changing.{change, change_row}
+use Rattle.share_graph.specs.Changing.{change_row}
 use Rattle.share_graph.specs.Coherent.{IsCoherent}
 use Rattle.share_graph.specs.Rows.{row, IsGrain}
 use Rattle.share_graph.specs.Setting.{with_trashed}
-use Rattle.share_graph.proofs.Marked.{change_row_other}
+use Rattle.share_graph.proofs.Marked.{change_row_other, row_changed, row_changed_back, same_number}
 use Rattle.region_work.specs.Prepared.{LeadsNowhere, Touches}
 use Rattle.share_graph.specs.Region.{GivesOutside}
 use Rattle.region_access.proofs.ManyGrains.{with_grains, HasNodesOn, MayTouch, gives_by_grains, touches_by_grains}
 
-changed : {X : Type 0} (f : X → X) (xs : List X) (i : ℕ) (x : X) → slice_get xs i ≡ Some x → slice_get (change f xs i) i ≡ Some (f x)
-changed f [] i x is = cc is
-changed f (y ∷ xs) zero x is = let e : y ≡ x = cc is in ap (λ (z : _). Some (f z)) e
-changed f (y ∷ xs) (suc i) x is = changed f xs i x is
-
-pub row_changed : {X : Type 0} (f : X → X) (xs : List X) (n : ℕ) (x : X) → row xs n ≡ Some x → row (change_row f xs n) n ≡ Some (f x)
-row_changed f xs zero x is = cc is
-row_changed f xs (suc i) x is = changed f xs i x is
-
-changed_back : {X : Type 0} (f : X → X) (xs : List X) (i : ℕ) (y : X) → slice_get (change f xs i) i ≡ Some y → (x : X) × (slice_get xs i ≡ Some x) × (f x ≡ y)
-changed_back f [] i y is = cc is
-changed_back f (x ∷ xs) zero y is = (x, refl, cc is)
-changed_back f (x ∷ xs) (suc i) y is = changed_back f xs i y is
-
-pub row_changed_back : {X : Type 0} (f : X → X) (xs : List X) (n : ℕ) (y : X) → row (change_row f xs n) n ≡ Some y → (x : X) × (row xs n ≡ Some x) × (f x ≡ y)
-row_changed_back f xs zero y is = cc is
-row_changed_back f xs (suc i) y is = changed_back f xs i y is
-
 abbrev grain_id : ℕ → GrainId
 grain_id n = record { 0 = n }
-
-pub same_number : (m n : ℕ) → (m ≡ n) ⊎ (m ≢ n)
-same_number m n = grind arith
 
 module _ (t : Tables) (n : GrainId) (on : Bool) (nodes : List Node)
     (owner : (grain : Grain) → IsGrain t n grain → Contains nodes (node.User n grain.owner)) (others : HasNodesOn t nodes n) where

@@ -8,6 +8,7 @@ mod arriving;
 mod clearing;
 mod dropping;
 mod fed_grant;
+mod grains_of;
 mod index;
 mod indexes;
 mod indexing;

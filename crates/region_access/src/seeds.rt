@@ -3,14 +3,15 @@
 ghost use Rattle.std.specs.Prelude.{◌≡◌, ◌⊎◌, ◌↔◌, ◌∷◌, [], Some, IfOk, OnOk, Contains};
 ghost use Rattle.share_graph.specs.declared.facts.Node.{Node};
 ghost use Rattle.share_graph.specs.Coherent.{HasNumbers};
-ghost use Rattle.region_access.specs.Seeds.{IsSeedOfGrant, IsSeedOfGrants, IsSeedOfTie, IsSeedOfOwner, IsSeedOfGrain, IsSeedOfAdmin, IsNodeOfAccount, IsSeedOfAccount, IsSeedOfTies, IsSeedOfTick, IsSeedOf};
+ghost use Rattle.region_access.specs.Seeds.{IsSeedOfGrant, IsSeedOfGrants, IsSeedOfTie, IsSeedOfOwner, IsSeedOfGrain, IsSeedOfGrains, IsSeedOfApp, IsSeedOfAdmin, IsNodeOfAccount, IsSeedOfAccount, IsSeedOfTies, IsSeedOfTick, IsSeedOf};
 ghost use Rattle.region_access.specs.Ties.{IsTiesOf, tied_in};
 
+use crate::grains_of::grains_of;
 use crate::index::Ties;
 use crate::pushing::push_some;
 use crate::tie::Tie;
 use crate::tying::tied_by;
-use host_base::{AccountId, GrainId, GrantId, Memory};
+use host_base::{AccountId, AppId, GrainId, GrantId, Memory};
 use share_graph::{Event, Node, Tables, grain, grant, node_of};
 use std::alloc::Global;
 use std::collections::btree_map::Range;
@@ -82,14 +83,30 @@ fn grant_node(alloc: Global, tables: &Tables, num: GrantId) -> Result<Vec<Node>,
     Ok(nodes)
 }
 
-// The owner's node of a grain that is there.
-fn owner_node(alloc: Global, tables: &Tables, num: GrainId) -> Result<Vec<Node>, Memory>
-    ensures { IfOk result (λ nodes. (at : Node) → Contains nodes.items at ↔ IsSeedOfOwner tables.now num at) }
+// The owner's node of a grain, if the grain is there.
+fn owner_there(tables: &Tables, num: GrainId) -> Option<Node>
+    ensures { (at : Node) → (result ≡ Some at) ↔ IsSeedOfOwner tables.now num at }
 {
     match grain(tables, num) {
-        Some(row) => one(alloc, Node::User(num, row.owner)),
-        None => Ok(Vec::new(alloc)),
+        Some(row) => Some(Node::User(num, row.owner)),
+        None => None,
     }
+}
+
+// Adds the owner's node of a grain, and the nodes of its grants.
+fn add_of_grain(
+    tables: &Tables,
+    ties: &Ties,
+    nodes: &mut Vec<Node>,
+    num: GrainId,
+) -> Result<(), Memory>
+    requires { IsTiesOf tables.now (tied_in ties.now.entries) }
+    ensures { OnOk result ((at : Node)
+        → Contains nodes.new.items at ↔ (Contains nodes.old.items at
+        ⊎ IsSeedOfGrain tables.now num at)) }
+{
+    push_some(nodes, owner_there(tables, num))?;
+    add_tied(tables, ties, nodes, Tie::Grain(num))
 }
 
 // The owner's node of a grain, and the nodes of its grants.
@@ -102,8 +119,43 @@ fn seeds_of_grain(
     requires { IsTiesOf tables.now (tied_in ties.now.entries) }
     ensures { IfOk result (λ nodes. (at : Node) → Contains nodes.items at ↔ IsSeedOfGrain tables.now num at) }
 {
-    let mut nodes = owner_node(alloc, tables, num)?;
-    add_tied(tables, ties, &mut nodes, Tie::Grain(num))?;
+    let mut nodes = Vec::new(alloc);
+    add_of_grain(tables, ties, &mut nodes, num)?;
+    Ok(nodes)
+}
+
+// Adds those of some grains.
+fn add_of_grains(
+    tables: &Tables,
+    ties: &Ties,
+    nodes: &mut Vec<Node>,
+    nums: &[GrainId],
+) -> Result<(), Memory>
+    requires { IsTiesOf tables.now (tied_in ties.now.entries) }
+    ensures { OnOk result ((at : Node)
+        → Contains nodes.new.items at ↔ (Contains nodes.old.items at
+        ⊎ IsSeedOfGrains tables.now nums.now at)) }
+{
+    for num in nums {
+        add_of_grain(tables, ties, nodes, *num)?;
+    }
+    Ok(())
+}
+
+// Those of each grain of an application.
+fn seeds_of_app(
+    alloc: Global,
+    tables: &Tables,
+    ties: &Ties,
+    app: AppId,
+) -> Result<Vec<Node>, Memory>
+    requires numbers { HasNumbers tables.now }
+    requires ties { IsTiesOf tables.now (tied_in ties.now.entries) }
+    ensures { IfOk result (λ nodes. (at : Node) → Contains nodes.items at ↔ IsSeedOfApp tables.now app at) }
+{
+    let nums = grains_of(alloc, tables, app)?;
+    let mut nodes = Vec::new(alloc);
+    add_of_grains(tables, ties, &mut nodes, nums.as_slice())?;
     Ok(nodes)
 }
 
@@ -195,6 +247,7 @@ pub fn seeds_of(
         Event::Claimed(grant, _) => one(alloc, node_of(grant.num, grant)),
         Event::GrantRevoked(num) => grant_node(alloc, tables, *num),
         Event::TrashedSet(num, _) => seeds_of_grain(alloc, tables, ties, *num),
+        Event::AppUpgraded(num, _) => seeds_of_app(alloc, tables, ties, *num),
         Event::AdminSet(num, _) => seeds_of_admin(alloc, tables, ties, *num),
         Event::EnabledSet(num, _) => seeds_of_account(alloc, tables, ties, *num),
         Event::AccountAdded(_)

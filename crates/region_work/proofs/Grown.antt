@@ -87,7 +87,7 @@ module _ (u : Tables) (coherent : IsCoherent u) (starts nodes : List Node) (tabl
       owners = λ n grain app fact o is.
           elim (node_member starts (node.User n grain.owner)) [
             | inl inside ↦ inr (owners n grain app fact inside o is)
-            | inr out ↦ inl ((grows.solved (node.User n grain.owner) fact).1 (own (grows.only.owned n grain app out o) is))
+            | inr out ↦ inl ((grows.solved (node.User n grain.owner) fact).1 (let (now, owns, has) = grows.only.owned n grain fact out (app, o, is) in own owns has))
           ];
       closed = λ g grant fact is f.
           elim (node_member starts (node_of g grant)) [

@@ -1,21 +1,22 @@
 ghost use Rattle.std.specs.Prelude.{◌≡◌, ◌↔◌, ◌+◌, ℕ, IfSome};
+ghost use Rattle.std.specs.Option.{option_copied};
 ghost use Rattle.share_graph.specs.declared.facts.Fact.{Fact};
 ghost use Rattle.share_graph.specs.declared.grants.Grant as the_grant;
-ghost use Rattle.share_graph.specs.declared.rows.App.{App};
+ghost use Rattle.share_graph.specs.declared.rows.App as the_app;
 ghost use Rattle.share_graph.specs.declared.state.Tables.{Tables};
 ghost use Rattle.share_graph.specs.Coherent.{IsCoherent};
 ghost use Rattle.share_graph.specs.Derivation.{Follows};
 ghost use Rattle.share_graph.specs.Fitting.{IsAssignmentFor};
 ghost use Rattle.share_graph.specs.Nodes.{node_of, source_of};
-ghost use Rattle.share_graph.specs.Rows.{IsAppOf, IsGrant};
+ghost use Rattle.share_graph.specs.Rows.{row, IsAppOf, IsGrant};
 ghost use Rattle.least_access.specs.Held.{IsIn};
 ghost use Rattle.least_access.specs.Solved.{HeldAt};
 ghost use Rattle.region_work.specs.Starting.{HoldsAsOwner, IsMostOf};
 
-use host_base::{AccountId, GrainId, GrantId};
+use host_base::{AccountId, AppId, GrainId, GrantId};
 use least_access::Held;
 use least_access::table::Table;
-use share_graph::{Grant, Need, Node};
+use share_graph::{App, Grant, Need, Node};
 
 /// The one way to read tables while a region is solved. It counts its evaluations.
 pub trait Probe {
@@ -38,6 +39,10 @@ pub trait Probe {
         requires { (grant : the_grant.Grant) × IsGrant (tables self.now) num grant }
         ensures { (grant : the_grant.Grant) → IsGrant (tables self.now) num grant → result.now ≡ grant.needs };
 
+    /// The application of a number, if it is there.
+    fn app(&self, num: AppId) -> Option<&App>
+        ensures { option_copied result ≡ row (tables self.now).apps num.0 };
+
     /// What an account holds as the owner of a grain.
     fn own(&self, num: GrainId, account: AccountId) -> Held
         requires { IsCoherent (tables self.now) }
@@ -56,7 +61,7 @@ pub trait Probe {
     /// what it gives. This is an evaluation too.
     fn offer(&mut self, grant: &Grant, table: &Table) -> Option<Held>
         requires coherent { IsCoherent (tables self.old) }
-        requires fits { (app : App) → IsAppOf (tables self.old) grant.now.grain app
+        requires fits { (app : the_app.App) → IsAppOf (tables self.old) grant.now.grain app
             → IsAssignmentFor app.manifest grant.now.assignment }
         ensures answer { IfSome result (IsMostOf (tables self.old) table.now.entries grant.now) }
         ensures same { tables self.new ≡ tables self.old }

@@ -1,12 +1,14 @@
 -- The rows of the tables after an event.
 use Rattle.std.proofs.Common.{◌≡◌, ℕ, zero, suc, ◌+◌, ◌≤◌, ◌<◌, Bool, true, List, [], ◌∷◌, ◌++◌, length, Option, Some, None, Result, Ok, Err, refl, sym, ap, subst, ◌∙◌, append-nil, arith}
-use Rattle.std.specs.Prelude.{IfOk, OnOk}
+use Rattle.std.specs.Prelude.{IfOk, OnOk, slice_get}
+use Rattle.app_manifest.specs.declared.manifest.Manifest.{Manifest}
 use Rattle.host_base.specs.declared.bytes.Memory.{Memory}
 use Rattle.std.proofs.lemmas.List.{length-append}
 use Rattle.std.proofs.lemmas.List.Elements.{All-nil}
 use Rattle.share_graph.specs.declared.event.Event.{Event}
 use Rattle.share_graph.specs.declared.event.Event.TheVariants as event
 use Rattle.share_graph.specs.declared.rows.Account.{Account}
+use Rattle.share_graph.specs.declared.rows.App.{App}
 use Rattle.share_graph.specs.declared.rows.Grain.{Grain}
 use Rattle.share_graph.specs.declared.rows.Saved.{Saved}
 use Rattle.share_graph.specs.declared.grants.Grant.{Grant}
@@ -15,8 +17,10 @@ use Rattle.share_graph.specs.declared.state.Tables.{Tables}
 use Rattle.share_graph.specs.Changing.{change, change_row}
 use Rattle.share_graph.specs.EventFits.{EventFits}
 use Rattle.share_graph.specs.History.{tables_after}
-use Rattle.share_graph.specs.Setting.{with_admin, with_enabled, with_trashed, revoked, dropped}
+use Rattle.share_graph.specs.Setting.{with_admin, with_enabled, with_manifest, with_trashed, revoked, dropped}
+use Rattle.share_graph.specs.Rows.{row}
 use Rattle.share_graph.specs.WellFormed.{IsWellFormed}
+use Rattle.share_graph.proofs.Marked.{row_changed}
 use Rattle.cloud_keeper.specs.declared.row.Row.{Row}
 use Rattle.cloud_keeper.specs.Keeping.{put}
 use Rattle.row_formats.specs.Format.{Format}
@@ -50,6 +54,34 @@ row_change_fits : {A : Type 0} (limit : ℕ) (format : ℕ → Format A) (f : A 
 row_change_fits limit format f keeps xs zero h = h
 row_change_fits limit format f keeps xs (suc i) h = change_fits limit format f keeps 1 xs i h
 
+-- the row of one number is changed to one that fits
+change_fits_at : {A : Type 0} (limit : ℕ) (format : ℕ → Format A) (f : A → A) (n : ℕ) (xs : List A) (i : ℕ) → ((x : A) → slice_get xs i ≡ Some x → (format (n + i)).fits (f x)) → SectionFits limit format n xs
+    → SectionFits limit format n (change f xs i)
+change_fits_at limit format f n [] i fits h = h
+change_fits_at limit format f n (x ∷ xs) zero fits h =
+    let place : n + 0 ≡ n = omega arith in
+    (h.0, subst (λ (k : ℕ). (format k).fits (f x)) place (fits x refl), h.2)
+change_fits_at {A} limit format f n (x ∷ xs) (suc i) fits h =
+    let place : n + suc i ≡ suc n + i = omega arith in
+    (h.0, h.1, change_fits_at limit format f (suc n) xs i (λ (y : A) is. subst (λ (k : ℕ). (format k).fits (f y)) place (fits y is)) h.2)
+
+row_change_fits_at : {A : Type 0} (limit : ℕ) (format : ℕ → Format A) (f : A → A) (xs : List A) (n : ℕ) → ((x : A) → row xs n ≡ Some x → (format n).fits (f x)) → SectionFits limit format 1 xs
+    → SectionFits limit format 1 (change_row f xs n)
+row_change_fits_at limit format f xs zero fits h = h
+row_change_fits_at {A} limit format f xs (suc i) fits h =
+    let place : suc i ≡ 1 + i = omega arith in
+    change_fits_at limit format f 1 xs i (λ (x : A) is. subst (λ (k : ℕ). (format k).fits (f x)) place (fits x is)) h
+
+-- an application with another manifest fits
+upgraded_fits : (s : State) (n : ℕ) (manifest : Manifest) → EventFits s (event.AppUpgraded (record { 0 = n }) manifest) → AddedFits s.tables (event.AppUpgraded (record { 0 = n }) manifest)
+    → (x : App) → row s.tables.apps n ≡ Some x → (app n).fits (with_manifest manifest x)
+upgraded_fits s zero manifest f fits x is = cc is
+upgraded_fits s (suc i) manifest f fits x is =
+    let there = row_changed (with_manifest manifest) s.tables.apps (suc i) x is in
+    let short = apps_countable (tables_after s.tables (event.AppUpgraded (record { 0 = suc i }) manifest)) f.formed.tables i (with_manifest manifest x) there in
+    let number : x.num.0 ≡ suc i = f.formed.numbered.apps i (with_manifest manifest x) there ∙ omega arith in
+    subst (λ (k : ℕ). (app k).fits (with_manifest manifest x)) number (fits x is short)
+
 -- what is set in a row leaves it one that fits
 admin_fits : (on : Bool) (n : ℕ) (a : Account) → (account n).fits a → (account n).fits (with_admin on a)
 admin_fits on n a h = ((h.0.0, (h.0.1.0, (h.0.1.1.0, (flag_fits on, h.0.1.1.1.1)))), ap (with_admin on) h.1)
@@ -78,7 +110,7 @@ dropped_fits n s h = ((h.0.0, (h.0.1.0, (h.0.1.1.0, (h.0.1.1.1.0, flag_fits true
 at_end : {A : Type 0} (limit : ℕ) (xs : List A) (x : A) (n : ℕ) → n ≡ length xs + 1 → length (xs ++ x ∷ []) ≤ limit → n ≤ limit
 at_end limit xs x n e le = omega (arith, e, le, length-append xs (x ∷ []))
 
-pub have_rows_after : (s : State) (e : Event) → EventFits s e → AddedFits e → HaveRows s.tables → HaveRows (tables_after s.tables e)
+pub have_rows_after : (s : State) (e : Event) → EventFits s e → AddedFits s.tables e → HaveRows s.tables → HaveRows (tables_after s.tables e)
 have_rows_after s (event.AccountAdded a) f fits h =
     let next = fits_next s (event.AccountAdded a) f in
     record { accounts = one_more_fits 4096 account 1 s.tables.accounts a a.num.0 h.accounts (omega (arith, next)) (at_end 4096 s.tables.accounts a a.num.0 next f.formed.limits.accounts) fits; apps = h.apps; grains = h.grains; grants = h.grants; saved = h.saved }
@@ -86,6 +118,13 @@ have_rows_after s (event.AppAdded p) f fits h =
     let next = fits_next s (event.AppAdded p) f in
     let short = apps_countable (tables_after s.tables (event.AppAdded p)) f.formed.tables (length s.tables.apps) p (last_there s.tables.apps p) in
     record { accounts = h.accounts; apps = one_more_fits 256 app 1 s.tables.apps p p.num.0 h.apps (omega (arith, next)) (at_end 256 s.tables.apps p p.num.0 next f.formed.limits.apps) (fits short); grains = h.grains; grants = h.grants; saved = h.saved }
+have_rows_after s (event.AppUpgraded p manifest) f fits h = record {
+  accounts = h.accounts;
+  apps = row_change_fits_at 256 app (with_manifest manifest) s.tables.apps p.0 (upgraded_fits s p.0 manifest f fits) h.apps;
+  grains = h.grains;
+  grants = h.grants;
+  saved = h.saved;
+}
 have_rows_after s (event.GrainAdded g) f fits h =
     let next = fits_next s (event.GrainAdded g) f in
     record { accounts = h.accounts; apps = h.apps; grains = one_more_fits 16384 grain 1 s.tables.grains g g.num.0 h.grains (omega (arith, next)) (at_end 16384 s.tables.grains g g.num.0 next f.formed.limits.grains) fits; grants = h.grants; saved = h.saved }
@@ -158,6 +197,9 @@ rows_after s (event.AccountAdded a) f =
 rows_after s (event.AppAdded a) f =
     let p = added 2 app s.tables.apps a a.num.0 _ (fits_next s (event.AppAdded a) f) (grains_above 2 s.tables (omega arith)) in
     with_that _ _ _ _ p.0 (past_accounts s.tables (stored 2 app a.num.0 a) _ _ (omega arith) p.1)
+rows_after s (event.AppUpgraded n manifest) f =
+    let p = changed 2 app (with_manifest manifest) s.tables.apps n.0 f.changed.0 _ f.changed.1 in
+    with_that _ _ _ _ p.0 (past_accounts s.tables (stored 2 app n.0 (with_manifest manifest f.changed.0)) _ _ (omega arith) p.1)
 rows_after s (event.GrainAdded g) f =
     let p = added 3 grain s.tables.grains g g.num.0 _ (fits_next s (event.GrainAdded g) f) (grants_above 3 s.tables (omega arith)) in
     with_that _ _ _ _ p.0 (past_apps s.tables (stored 3 grain g.num.0 g) _ _ (omega arith) p.1)
@@ -194,17 +236,17 @@ rows_after s (event.HandleMade handle) f = refl
 rows_after s (event.Ticked m) f = refl
 
 -- the rows of tables, with the row of an event put among them, are the rows of the tables after the event
-pub are_rows_after : (s : State) (t : Tables) (e : Event) (rows : List Row) (r : Option Row) → s.tables ≡ t → EventFits s e → AddedFits e → r ≡ row_after t e → AreRowsOf t rows → AreRowsOf (tables_after t e) (with_row r rows)
+pub are_rows_after : (s : State) (t : Tables) (e : Event) (rows : List Row) (r : Option Row) → s.tables ≡ t → EventFits s e → AddedFits t e → r ≡ row_after t e → AreRowsOf t rows → AreRowsOf (tables_after t e) (with_row r rows)
 are_rows_after s t e rows r is f fits row_is h =
-    subst (λ (u : Tables). r ≡ row_after u e → AreRowsOf u rows → AreRowsOf (tables_after u e) (with_row r rows)) is
-    (λ row_is_now now. record {
-      have = have_rows_after s e f fits now.have;
+    subst (λ (u : Tables). AddedFits u e → r ≡ row_after u e → AreRowsOf u rows → AreRowsOf (tables_after u e) (with_row r rows)) is
+    (λ fits_now row_is_now now. record {
+      have = have_rows_after s e f fits_now now.have;
       rows_are = ap (λ (o : Option Row). with_row o rows) row_is_now ∙ ap (λ (all : List Row). with_row (row_after s.tables e) all) now.rows_are ∙ rows_after s e f;
     })
-    row_is h
+    fits row_is h
 
 -- the same of what was returned
-pub all_rows_after : (o : Result (Option Row) Memory) (t : Tables) (e : Event) → IfOk o (λ r. r ≡ row_after t e) → OnOk o (AddedFits e)
+pub all_rows_after : (o : Result (Option Row) Memory) (t : Tables) (e : Event) → IfOk o (λ r. r ≡ row_after t e) → OnOk o (AddedFits t e)
     → IfOk o (λ r. (s : State) (rows : List Row) → IsWellFormed s → s.tables ≡ t → EventFits s e → AreRowsOf t rows → AreRowsOf (tables_after t e) (with_row r rows))
 all_rows_after (Ok r) t e row_is fits = λ s rows formed is f h. are_rows_after s t e rows r is f fits row_is h
 all_rows_after (Err m) t e row_is fits = tt

@@ -8,14 +8,14 @@ use Rattle.share_graph.specs.declared.rows.Saved.{Saved}
 use Rattle.share_graph.specs.declared.state.Tables.{Tables}
 use Rattle.share_graph.specs.Checked.{AccountFault, GrainFault, GrantFault, SavedFault, IsChecked}
 use Rattle.share_graph.specs.Fresh.{IsFreshToken}
-use Rattle.state_step.proofs.Extending.{Extends, knows_of_grain}
+use Rattle.state_step.proofs.Extending.{Extends, fits_same, knows_of_grain}
 use Rattle.state_step.proofs.NextTables.{still_sound_grant, still_sound_saved}
 use Rattle.row_tables.specs.TablesRows.{at_start}
 
 stays : (t : Tables) → Extends t (at_start t)
 stays t = record {
   accounts = λ a (x, is). (x, is);
-  apps = λ p x is. is;
+  apps = λ p x is. (x, is, fits_same x.manifest);
   grains = λ n x is. (x, is, refl);
   grants = λ g x is. (x, is, refl, refl);
 }

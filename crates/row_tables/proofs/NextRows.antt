@@ -18,6 +18,7 @@ fits_next s (event.GrainAdded grain) h = next (λ g. g.num.0) s.tables.grains gr
 fits_next s (event.GrantAdded grant) h = next (λ g. g.num.0) s.tables.grants grant h.formed.numbered.grants
 fits_next s (event.Claimed grant handle) h = next (λ g. g.num.0) s.tables.grants grant h.formed.numbered.grants
 fits_next s (event.SavedAdded saved) h = next (λ v. v.num.0) s.tables.saved saved h.formed.numbered.saved
+fits_next s (event.AppUpgraded p manifest) h = tt
 fits_next s (event.AdminSet a on) h = tt
 fits_next s (event.EnabledSet a on) h = tt
 fits_next s (event.TrashedSet n on) h = tt

@@ -1,23 +1,28 @@
 //! The row that an event adds or changes.
 
-ghost use Rattle.std.specs.Prelude.{◌≡◌, List, IfOk, OnOk, option_map};
+ghost use Rattle.std.specs.Prelude.{◌≡◌, List, Some, IfOk, OnOk, option_map};
 ghost use Rattle.std.specs.Option.{option_copied};
-ghost use Rattle.share_graph.specs.Setting.{with_admin, with_enabled, with_trashed, revoked, dropped};
+ghost use Rattle.share_graph.specs.Setting.{with_admin, with_enabled, with_manifest, with_trashed, revoked, dropped};
 ghost use Rattle.share_graph.specs.EventFits.{EventFits};
 ghost use Rattle.share_graph.specs.History.{tables_after};
 ghost use Rattle.share_graph.specs.WellFormed.{IsWellFormed};
+ghost use Rattle.share_graph.specs.declared.rows.App as the_app;
 ghost use Rattle.share_graph.specs.declared.state.State.{State};
 ghost use Rattle.cloud_keeper.specs.declared.row.Row.{Row};
 ghost use Rattle.row_codec.specs.Rows.{account as an_account, grain as a_grain, saved as a_saved};
+ghost use Rattle.row_codec.specs.AppRow.{app as an_app, IsCountableApp};
 ghost use Rattle.row_codec.specs.GrantRow.{grant as a_grant};
 ghost use Rattle.row_tables.specs.Sections.{stored};
 ghost use Rattle.row_tables.specs.RowAfter.{AddsNext, AddedFits, row_after};
 ghost use Rattle.row_tables.specs.Kept.{AreRowsOf, with_row};
 
 use crate::writing::stored;
+use app_manifest::Manifest;
 use cloud_keeper::Row;
 use host_base::Memory;
-use share_graph::{Account, Event, Grain, Grant, Saved, Tables, account, grain, grant, saved};
+use share_graph::{
+    Account, App, Event, Grain, Grant, Saved, Tables, account, app, grain, grant, saved,
+};
 use std::alloc::Global;
 
 // A copy of an account.
@@ -25,6 +30,16 @@ fn copy_of_account(account: &Account) -> Result<Account, Memory>
     ensures { IfOk result (λ copy. copy ≡ account.now) }
 {
     Ok(account.clone()?)
+}
+
+// A copy of an application, with another manifest.
+fn copy_with_manifest(app: &App, manifest: &Manifest) -> Result<App, Memory>
+    ensures { IfOk result (λ copy. copy ≡ with_manifest manifest.now app.now) }
+{
+    Ok(App {
+        num: app.num,
+        manifest: manifest.clone()?,
+    })
 }
 
 // A copy of a grain.
@@ -88,6 +103,27 @@ fn enabled_set(
     }
 }
 
+// The row of an application after it got another manifest.
+fn app_upgraded(
+    alloc: Global,
+    row: Option<&App>,
+    num: u32,
+    manifest: &Manifest,
+) -> Result<Option<Row>, Memory>
+    ensures row { IfOk result (λ r. r ≡ option_map (stored 2 an_app num)
+        (option_map (with_manifest manifest.now) (option_copied row.entry))) }
+    ensures fits { OnOk result ((x : the_app.App) → option_copied row.entry ≡ Some x
+        → IsCountableApp (with_manifest manifest.now x) → (an_app x.num.0).fits (with_manifest manifest.now x)) }
+{
+    match row {
+        Some(row) => {
+            let changed = copy_with_manifest(row, manifest)?;
+            Ok(Some(stored(alloc, 2, num, &changed)?))
+        }
+        None => Ok(None),
+    }
+}
+
 // The row of a grain after it was put into the trash, or taken out of it.
 fn trashed_set(
     alloc: Global,
@@ -143,7 +179,7 @@ fn saved_dropped(alloc: Global, row: Option<&Saved>, num: u32) -> Result<Option<
 fn event_row(alloc: Global, tables: &Tables, event: &Event) -> Result<Option<Row>, Memory>
     requires { AddsNext tables.now event.now }
     ensures row { IfOk result (λ r. r ≡ row_after tables.now event.now) }
-    ensures fits { OnOk result (AddedFits event.now) }
+    ensures fits { OnOk result (AddedFits tables.now event.now) }
 {
     match event {
         Event::AccountAdded(row) => Ok(Some(stored(alloc, 1, row.num.0, row)?)),
@@ -154,6 +190,9 @@ fn event_row(alloc: Global, tables: &Tables, event: &Event) -> Result<Option<Row
         Event::SavedAdded(row) => Ok(Some(stored(alloc, 5, row.num.0, row)?)),
         Event::AdminSet(num, on) => admin_set(alloc, account(tables, *num), num.0, *on),
         Event::EnabledSet(num, on) => enabled_set(alloc, account(tables, *num), num.0, *on),
+        Event::AppUpgraded(num, manifest) => {
+            app_upgraded(alloc, app(tables, *num), num.0, manifest)
+        }
         Event::TrashedSet(num, on) => trashed_set(alloc, grain(tables, *num), num.0, *on),
         Event::GrantRevoked(num) => grant_revoked(alloc, grant(tables, *num), num.0),
         Event::SavedDropped(num) => saved_dropped(alloc, saved(tables, *num), num.0),

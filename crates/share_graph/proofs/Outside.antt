@@ -18,7 +18,9 @@ pub record IsClosedAlong (t : Tables) (Inside : Node → Type 0) : Type 0 where
 
 -- A derivation at a node outside a set that is closed along the first tables has all its nodes outside.
 pub outside : (Inside : Node → Type 0) (t u : Tables) → IsClosedAlong t Inside → GivesOutside Inside t u → {at : Node} {fact : Fact} → Derivation t at fact → ¬ Inside at → Derivation u at fact
-outside Inside t u closed gives (own {n = n} {grain = grain} {app = app} o r) out = own (gives.owned n grain app out o) r
+outside Inside t u closed gives (own {n = n} {grain = grain} {app = app} {fact = fact} o r) out =
+    let (now, owns, is) = gives.owned n grain fact out (app, o, r) in
+    own owns is
 outside Inside t u closed gives (via {g = g} {grant = grant} {from = from} {fact = fact} p s d now needs) out =
     via (gives.passed g grant fact out p) s
     (outside Inside t u closed gives d (λ i. out (closed.grants from g grant p.is_live.is_row (inl s) i)))

@@ -1,20 +1,24 @@
 -- When an event fits a state.
 use Rattle.std.specs.Prelude.{◌<◌}
+use Rattle.app_manifest.specs.Upgrade.{StillFits}
 use Rattle.share_graph.specs.declared.event.Event.{Event}
 use Rattle.share_graph.specs.declared.event.Event.TheVariants as event
+use Rattle.share_graph.specs.declared.rows.App.{App}
 use Rattle.share_graph.specs.declared.rows.Saved.{Saved}
 use Rattle.share_graph.specs.declared.sessions.Run.{Run}
 use Rattle.share_graph.specs.declared.sessions.Session.{Session}
 use Rattle.share_graph.specs.declared.state.State.{State}
 use Rattle.share_graph.specs.History.{after}
 use Rattle.share_graph.specs.Known.{HasAccount, HasGrain, HasGrant}
-use Rattle.share_graph.specs.Rows.{IsSaved, IsSession, IsRun}
+use Rattle.share_graph.specs.Rows.{IsApp, IsSaved, IsSession, IsRun}
 use Rattle.share_graph.specs.WellFormed.{IsWellFormed}
 
--- the row that the event changes is there; a row that it adds needs none; and a tick goes on from the moment
+-- the row that the event changes is there; a row that it adds needs none; what fitted an application's manifest fits its new one;
+-- and a tick goes on from the moment
 abbrev pub HasChanged : State → Event → Type 0
 HasChanged s (event.AdminSet a on) = HasAccount s.tables a
 HasChanged s (event.EnabledSet a on) = HasAccount s.tables a
+HasChanged s (event.AppUpgraded p manifest) = (app : App) × IsApp s.tables p app × StillFits app.manifest manifest
 HasChanged s (event.TrashedSet n on) = HasGrain s.tables n
 HasChanged s (event.GrantRevoked g) = HasGrant s.tables g
 HasChanged s (event.SavedDropped v) = (saved : Saved) × IsSaved s.tables v saved

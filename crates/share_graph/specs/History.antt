@@ -9,7 +9,7 @@ use Rattle.share_graph.specs.declared.state.State.{State}
 use Rattle.share_graph.specs.declared.state.Tables.{Tables}
 use Rattle.share_graph.specs.Changing.{change_row}
 use Rattle.share_graph.specs.Revoking.{revoke_in}
-use Rattle.share_graph.specs.Setting.{with_admin, with_enabled, with_trashed, dropped, stopped, closed}
+use Rattle.share_graph.specs.Setting.{with_admin, with_enabled, with_manifest, with_trashed, dropped, stopped, closed}
 
 abbrev pub is_same_root : Root → Root → Bool
 is_same_root (root.Account a) (root.Account b) = a.0 == b.0
@@ -36,6 +36,7 @@ opened sessions session =
 abbrev pub tables_after : Tables → Event → Tables
 tables_after t (event.AccountAdded account) = record t { accounts = t.accounts ++ account ∷ [] }
 tables_after t (event.AppAdded app) = record t { apps = t.apps ++ app ∷ [] }
+tables_after t (event.AppUpgraded p manifest) = record t { apps = change_row (with_manifest manifest) t.apps p.0 }
 tables_after t (event.GrainAdded grain) = record t { grains = t.grains ++ grain ∷ [] }
 tables_after t (event.GrantAdded grant) = record t { grants = t.grants ++ grant ∷ [] }
 tables_after t (event.SavedAdded saved) = record t { saved = t.saved ++ saved ∷ [] }
@@ -56,6 +57,7 @@ tables_after t (event.Ticked m) = record t { moment = m }
 abbrev pub after : State → Event → State
 after s (event.AccountAdded account) = record s { tables = tables_after s.tables (event.AccountAdded account) }
 after s (event.AppAdded app) = record s { tables = tables_after s.tables (event.AppAdded app) }
+after s (event.AppUpgraded p manifest) = record s { tables = tables_after s.tables (event.AppUpgraded p manifest) }
 after s (event.GrainAdded grain) = record s { tables = tables_after s.tables (event.GrainAdded grain) }
 after s (event.GrantAdded grant) = record s { tables = tables_after s.tables (event.GrantAdded grant) }
 after s (event.SavedAdded saved) = record s { tables = tables_after s.tables (event.SavedAdded saved) }

@@ -1,7 +1,9 @@
 -- What events set in rows.
 use Rattle.std.specs.Prelude.{Bool, true}
+use Rattle.app_manifest.specs.declared.manifest.Manifest.{Manifest}
 use Rattle.share_graph.specs.declared.grants.Grant.{Grant}
 use Rattle.share_graph.specs.declared.rows.Account.{Account}
+use Rattle.share_graph.specs.declared.rows.App.{App}
 use Rattle.share_graph.specs.declared.rows.Grain.{Grain}
 use Rattle.share_graph.specs.declared.rows.Saved.{Saved}
 use Rattle.share_graph.specs.declared.sessions.Run.{Run}
@@ -12,6 +14,9 @@ with_admin on account = record account { admin = on }
 
 abbrev pub with_enabled : Bool → Account → Account
 with_enabled on account = record account { enabled = on }
+
+abbrev pub with_manifest : Manifest → App → App
+with_manifest manifest app = record app { manifest = manifest }
 
 abbrev pub with_trashed : Bool → Grain → Grain
 with_trashed on grain = record grain { trashed = on }

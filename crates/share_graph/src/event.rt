@@ -1,13 +1,16 @@
 use crate::grants::Grant;
 use crate::rows::{Account, App, Grain, Saved};
 use crate::sessions::{Handle, Run, Session};
-use host_base::{AccountId, GrainId, GrantId, RunId, SavedId, SessionId};
+use app_manifest::Manifest;
+use host_base::{AccountId, AppId, GrainId, GrantId, RunId, SavedId, SessionId};
 
 /// What an accepted command does: it adds a whole row, or sets one value of the row of a number.
 #[derive(Clone, Drop)]
 pub enum Event {
     AccountAdded(Account),
     AppAdded(App),
+    /// The application has this manifest from then on.
+    AppUpgraded(AppId, Manifest),
     GrainAdded(Grain),
     GrantAdded(Grant),
     SavedAdded(Saved),

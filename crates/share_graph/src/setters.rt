@@ -1,14 +1,15 @@
 ghost use Rattle.std.specs.Prelude.{◌≡◌, ◌<◌, ◌+◌, ◌==◌, ◌⊎◌, length, count_by, not, MatchOption};
 ghost use Rattle.share_graph.specs.Changing.{change, change_row};
 ghost use Rattle.share_graph.specs.History.{is_open_of, close_first};
-ghost use Rattle.share_graph.specs.Setting.{with_admin, with_enabled, with_trashed, revoked, dropped, stopped, closed};
+ghost use Rattle.share_graph.specs.Setting.{with_admin, with_enabled, with_manifest, with_trashed, revoked, dropped, stopped, closed};
 
 use crate::grants::Grant;
 use crate::keyed::root_mark;
 use crate::row_list::Rows;
-use crate::rows::{Account, Grain, Saved};
+use crate::rows::{Account, App, Grain, Saved};
 use crate::sessions::{Handle, Root, Run, Session};
-use host_base::{AccountId, GrainId, GrantId, RunId, SavedId, SessionId};
+use app_manifest::Manifest;
+use host_base::{AccountId, AppId, GrainId, GrantId, RunId, SavedId, SessionId};
 use row_index::Keyed;
 
 // The place, from 0, of the row of a number, from 1.
@@ -40,6 +41,18 @@ impl Rows<Account> {
     {
         if let Some(place) = place_of(u64::from(num.0), self.items.len()) {
             self.items[place].enabled = on;
+        }
+    }
+}
+
+impl Rows<App> {
+    /// Gives the application of a number another manifest. Where it isn't there nothing changes.
+    #[tactic(auto, using(crate::proofs::ChangedRow::sets_nothing))]
+    pub fn set_manifest(&mut self, num: AppId, manifest: Manifest)
+        ensures { self.new ≡ change_row (with_manifest manifest) self.old num.0 }
+    {
+        if let Some(place) = place_of(u64::from(num.0), self.items.len()) {
+            self.items[place].manifest = manifest;
         }
     }
 }

@@ -2,6 +2,7 @@
 use denote.Param.Send.{IsSend, sendable}
 use denote.Param.SendFields.{variants_send}
 use Rattle.host_base.proofs.ids.AccountId.TheSendSync as account_id
+use Rattle.host_base.proofs.ids.AppId.TheSendSync as app_id
 use Rattle.host_base.proofs.ids.GrainId.TheSendSync as grain_id
 use Rattle.host_base.proofs.ids.GrantId.TheSendSync as grant_id
 use Rattle.host_base.proofs.ids.SavedId.TheSendSync as saved_id
@@ -15,7 +16,7 @@ use Rattle.share_graph.proofs.grants.Grant.TheSendSync as grant
 use Rattle.share_graph.proofs.sessions.Session.TheSendSync as session
 use Rattle.share_graph.proofs.sessions.Run.TheSendSync as run
 use Rattle.share_graph.proofs.sessions.Handle.TheSendSync as handle
-use Rattle.shared_hub.proofs.Manifests.{App-send}
+use Rattle.shared_hub.proofs.Manifests.{App-send, Manifest-send}
 
 pub Event-send : IsSend Event.the_row
 Event-send =
@@ -24,32 +25,35 @@ Event-send =
       (
         (App-send, tt),
         (
-          (grain.the_send, tt),
+          (app_id.the_send, (Manifest-send, tt)),
           (
-            (grant.the_send, tt),
+            (grain.the_send, tt),
             (
-              (saved.the_send, tt),
+              (grant.the_send, tt),
               (
-                (account_id.the_send, (search sendable depth 5, tt)),
+                (saved.the_send, tt),
                 (
                   (account_id.the_send, (search sendable depth 5, tt)),
                   (
-                    (grain_id.the_send, (search sendable depth 5, tt)),
+                    (account_id.the_send, (search sendable depth 5, tt)),
                     (
-                      (grant_id.the_send, tt),
+                      (grain_id.the_send, (search sendable depth 5, tt)),
                       (
-                        (grant.the_send, (handle.the_send, tt)),
+                        (grant_id.the_send, tt),
                         (
-                          (saved_id.the_send, tt),
+                          (grant.the_send, (handle.the_send, tt)),
                           (
-                            (run.the_send, tt),
+                            (saved_id.the_send, tt),
                             (
-                              (run_id.the_send, tt),
+                              (run.the_send, tt),
                               (
-                                (session.the_send, tt),
+                                (run_id.the_send, tt),
                                 (
-                                  (session_id.the_send, tt),
-                                  ((handle.the_send, tt), ((search sendable depth 5, tt), tt)),
+                                  (session.the_send, tt),
+                                  (
+                                    (session_id.the_send, tt),
+                                    ((handle.the_send, tt), ((search sendable depth 5, tt), tt)),
+                                  ),
                                 ),
                               ),
                             ),

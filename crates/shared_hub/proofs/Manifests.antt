@@ -1,4 +1,4 @@
--- An application with its manifest may cross threads. The values of its tags hold each other, so nothing is known of it beforehand.
+-- A manifest, and an application with it, may cross threads. The values of its tags hold each other, so nothing is known of it beforehand.
 use denote.Param.Send.{IsSend, view_send, sendable}
 use denote.Param.SendFields.{declared_send}
 use Rattle.std.proofs.Crossing.{Vec-send, crosses}
@@ -24,12 +24,12 @@ tag_send = view_send _ _ _ _ _ (declared_send Tag.TheInside.the_type (search sen
 descriptor_send : IsSend Descriptor.the_row
 descriptor_send = view_send _ _ _ _ _ (declared_send Descriptor.TheInside.the_type (Vec-send _ tag_send, (quality.the_send, tt)))
 
-manifest_send : IsSend Manifest.the_row
-manifest_send =
+pub Manifest-send : IsSend Manifest.the_row
+Manifest-send =
     declared_send Manifest.the_type (
       name.the_send,
       (search sendable depth 5, (list.the_send _ permission.the_send, (list.the_send _ role.the_send, (list.the_send _ descriptor_send, tt)))),
     )
 
 pub App-send : IsSend App.the_row
-App-send = declared_send App.the_type (app_id.the_send, (manifest_send, tt))
+App-send = declared_send App.the_type (app_id.the_send, (Manifest-send, tt))

@@ -17,7 +17,7 @@ use Rattle.share_graph.proofs.Apart.{logins, tokens, references, keys, run_token
 use Rattle.state_step.specs.NewRows.{IsNewAccount}
 use Rattle.state_step.proofs.Digests.{Adds, adds_none, adds_pushed, apart_after, one_unused, none_unused}
 use Rattle.state_step.proofs.Each.{Each, AreApartBy, push_old_row, each_pushed, numbered_pushed, apart_pushed}
-use Rattle.state_step.proofs.Extending.{Extends, knows_of_grain}
+use Rattle.state_step.proofs.Extending.{Extends, fits_same, knows_of_grain}
 use Rattle.state_step.proofs.NextTables.{with_tables, still_sound_grant, still_sound_saved, next_tables, tables_numbered}
 use Rattle.state_step.proofs.Sound.{sound_of}
 use Rattle.state_step.proofs.Touched.{AreTouched, change_row_touches, touched_row, length_touched, each_touched, numbered_touched, apart_touched, map_touched}
@@ -47,7 +47,7 @@ next_accounts s formed accounts added next =
     let numbered = tables_numbered s formed in
     let more : Extends s.tables u = record {
       accounts = next.there;
-      apps = λ p x is. is;
+      apps = λ p x is. (x, is, fits_same x.manifest);
       grains = λ n x is. (x, is, refl);
       grants = λ g x is. (x, is, refl, refl);
     } in

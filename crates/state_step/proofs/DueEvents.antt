@@ -6,7 +6,7 @@ use Rattle.share_graph.specs.EventFits.{EventFits}
 use Rattle.share_graph.specs.WellFormed.{IsWellFormed}
 use Rattle.state_step.specs.Fits.{IsDue, DueFits}
 use Rattle.state_step.proofs.AccountLaws.{account_added_fits, admin_set_fits, enabled_set_fits}
-use Rattle.state_step.proofs.AppLaws.{app_added_fits}
+use Rattle.state_step.proofs.AppLaws.{app_added_fits, app_upgraded_fits}
 use Rattle.state_step.proofs.GrainLaws.{grain_added_fits, trashed_set_fits}
 use Rattle.state_step.proofs.GrantLaws.{grant_added_fits, grant_revoked_fits}
 use Rattle.state_step.proofs.HandleLaws.{handle_made_fits, claimed_fits}
@@ -19,6 +19,7 @@ use Rattle.state_step.proofs.TickLaws.{ticked_fits}
 fits_each : (s : State) (e : Event) → IsWellFormed s → IsDue s e → EventFits s e
 fits_each s (event.AccountAdded account) formed due = account_added_fits s formed account due
 fits_each s (event.AppAdded app) formed due = app_added_fits s formed app due
+fits_each s (event.AppUpgraded p manifest) formed due = app_upgraded_fits s formed p manifest due
 fits_each s (event.GrainAdded grain) formed due = grain_added_fits s formed grain due
 fits_each s (event.GrantAdded grant) formed due = grant_added_fits s formed grant due
 fits_each s (event.SavedAdded saved) formed due = saved_added_fits s formed saved due

@@ -1,10 +1,18 @@
 -- Tables that grow, or whose rows change in what no other row looks at: what was sound by the old ones is so by the new.
-use Rattle.std.proofs.Common.{◌≡◌, List, sym, ◌∙◌, subst}
+use Rattle.std.proofs.Common.{◌≡◌, List, length, refl, sym, ◌∙◌, subst}
 use Rattle.std.proofs.lemmas.List.Elements.{All-weaker}
+use Rattle.app_manifest.specs.Upgrade.{StillFits}
+use Rattle.app_manifest.specs.declared.manifest.Manifest.{Manifest}
 use Rattle.host_base.specs.declared.ids.AccountId.{AccountId}
 use Rattle.host_base.specs.declared.ids.AppId.{AppId}
 use Rattle.host_base.specs.declared.ids.GrainId.{GrainId}
 use Rattle.host_base.specs.declared.ids.GrantId.{GrantId}
+use Rattle.perm_roles.specs.PermSet.{IsWithin}
+use Rattle.perm_roles.specs.Roles.{IsInRoles}
+use Rattle.perm_roles.specs.declared.perm_set.PermSet.{PermSet}
+use Rattle.perm_roles.specs.declared.roles.Assignment.{Assignment}
+use Rattle.perm_roles.specs.declared.roles.Base.{Base}
+use Rattle.perm_roles.specs.declared.roles.Base.TheVariants as base
 use Rattle.share_graph.specs.declared.facts.Node.{Node}
 use Rattle.share_graph.specs.declared.facts.Node.TheVariants as node
 use Rattle.share_graph.specs.declared.grants.Giver.{Giver}
@@ -23,23 +31,43 @@ use Rattle.share_graph.specs.declared.sessions.Root.TheVariants as root
 use Rattle.share_graph.specs.declared.sessions.Run.{Run}
 use Rattle.share_graph.specs.declared.sessions.Session.{Session}
 use Rattle.share_graph.specs.declared.state.Tables.{Tables}
-use Rattle.share_graph.specs.Fitting.{ForApp, HolderSetFits, NeedSetFits, SetsFit, IsReference}
+use Rattle.share_graph.specs.Fitting.{ForApp, IsAssignmentFor, HolderSetFits, NeedSetFits, SetsFit, IsReference}
 use Rattle.share_graph.specs.Keys.{IsBearer}
 use Rattle.share_graph.specs.Known.{HasAccount, HasApp, HasGrain, HasGrant, KnowsNode, KnowsGiver, KnowsTarget, KnowsNeed, KnowsOfGrain, KnowsOfGrant, KnowsOfSaved}
 use Rattle.share_graph.specs.Parents.{IsNoUser, PassesTo, IsChild, GiverFits, IsOwnNode, NeedFits, HasParent}
 use Rattle.share_graph.specs.Rows.{IsApp, IsGrain, IsGrant}
 use Rattle.share_graph.specs.WellFormed.{MayRoot, IsRootedSession, IsRootedHandle, IsRooted}
 
--- each row is there again, with what other rows look at
+-- what fits a manifest fits it
+pub fits_same : (manifest : Manifest) → StillFits manifest manifest
+fits_same manifest = record { sets = λ set within. within; roles = λ n below. below; names = λ p below. refl }
+
+-- a set and an assignment that fitted a manifest fit the one that may take its place
+set_within : (set : PermSet) (x y : App) → StillFits x.manifest y.manifest → IsWithin set (length x.manifest.permissions) → IsWithin set (length y.manifest.permissions)
+set_within set x y still within = still.sets set within
+
+in_roles : (old new : Manifest) → StillFits old new → (from : Base) → IsInRoles old.roles from → IsInRoles new.roles from
+in_roles old new still (base.Role n) is = still.roles n is
+in_roles old new still base.NoRole is = tt
+in_roles old new still base.AllAccess is = tt
+
+assignment_for : (a : Assignment) (x y : App) → StillFits x.manifest y.manifest → IsAssignmentFor x.manifest a → IsAssignmentFor y.manifest a
+assignment_for a x y still is = record {
+  add = still.sets a.add is.add;
+  remove = still.sets a.remove is.remove;
+  listed = in_roles x.manifest y.manifest still a.base is.listed;
+}
+
+-- each row is there again, with what other rows look at; an application may have another manifest, which what fitted still fits
 pub record Extends (t u : Tables) : Type 0 where
   pub accounts : (a : AccountId) → HasAccount t a → HasAccount u a
-  pub apps : (p : AppId) (x : App) → IsApp t p x → IsApp u p x
+  pub apps : (p : AppId) (x : App) → IsApp t p x → (y : App) × IsApp u p y × StillFits x.manifest y.manifest
   pub grains : (n : GrainId) (x : Grain) → IsGrain t n x → (y : Grain) × IsGrain u n y × (y.app ≡ x.app)
   pub grants : (g : GrantId) (x : Grant) → IsGrant t g x → (y : Grant) × IsGrant u g y × (y.grain ≡ x.grain) × (y.target ≡ x.target)
 
 module _ (t u : Tables) (more : Extends t u) where
   has_app : (p : AppId) → HasApp t p → HasApp u p
-  has_app p (x, is) = (x, more.apps p x is)
+  has_app p (x, is) = let (y, there, still) = more.apps p x is in (y, there)
 
   pub has_grain : (n : GrainId) → HasGrain t n → HasGrain u n
   has_grain n (x, is) = let (y, there, e) = more.grains n x is in (y, there)
@@ -81,9 +109,11 @@ module _ (t u : Tables) (more : Extends t u) where
   pub knows_of_saved : (saved : Saved) → KnowsOfSaved t saved → KnowsOfSaved u saved
   knows_of_saved saved is = record { holder = has_grain saved.holder is.holder; grant = has_grant saved.grant is.grant }
 
-  for_app : (n : GrainId) (P : App → Type 0) → ForApp t n P → ForApp u n P
-  for_app n P (app, (grain, is, of), fits) =
-      let (y, there, e) = more.grains n grain is in (app, (y, there, subst (λ (p : AppId). IsApp u p app) (sym e) (more.apps grain.app app of)), fits)
+  for_app : (n : GrainId) (P : App → Type 0) → ((x y : App) → StillFits x.manifest y.manifest → P x → P y) → ForApp t n P → ForApp u n P
+  for_app n P keeps (app, (grain, is, of), fits) =
+      let (y, there, e) = more.grains n grain is in
+      let (next, now, still) = more.apps grain.app app of in
+      (next, (y, there, subst (λ (p : AppId). IsApp u p next) (sym e) now), keeps app next still fits)
 
   own_node : (h : GrantId) → IsOwnNode t h → IsOwnNode u h
   own_node h is = let (y, there, e, f) = more.grants h is.grant is.is_row in record { grant = y; is_row = there; no_user = subst IsNoUser (sym f) is.no_user }
@@ -109,13 +139,13 @@ module _ (t u : Tables) (more : Extends t u) where
 
   need_set : (q : Need) → NeedSetFits t q → NeedSetFits u q
   need_set (need.TokenValid h) is = is
-  need_set (need.PermissionsHeld (node.User n a) set) is = for_app n _ is
+  need_set (need.PermissionsHeld (node.User n a) set) is = for_app n _ (set_within set) is
   need_set (need.PermissionsHeld (node.Grant h) set) (grant, is, fits) =
-      let (y, there, e, f) = more.grants h grant is in (y, there, subst (λ (n : GrainId). HolderSetFits u (node.User n (record { 0 = 0 })) set) (sym e) (for_app grant.grain _ fits))
+      let (y, there, e, f) = more.grants h grant is in (y, there, subst (λ (n : GrainId). HolderSetFits u (node.User n (record { 0 = 0 })) set) (sym e) (for_app grant.grain _ (set_within set) fits))
   need_set (need.UserIsAdmin a) is = is
 
   pub sets_fit : (grant : Grant) → SetsFit t grant → SetsFit u grant
-  sets_fit grant is = record { assignment = for_app grant.grain _ is.assignment; needs = All-weaker (NeedSetFits t) (NeedSetFits u) need_set grant.needs is.needs }
+  sets_fit grant is = record { assignment = for_app grant.grain _ (assignment_for grant.assignment) is.assignment; needs = All-weaker (NeedSetFits t) (NeedSetFits u) need_set grant.needs is.needs }
 
   pub is_reference : (saved : Saved) → IsReference t saved → IsReference u saved
   is_reference saved (grant, is, claimed) = let (y, there, e, f) = more.grants saved.grant grant is in (y, there, f ∙ claimed)

@@ -13,7 +13,7 @@ use Rattle.share_graph.specs.Setting.{with_trashed}
 use Rattle.share_graph.specs.WellFormed.{AreNumbered, IsWellFormed}
 use Rattle.state_step.specs.NewRows.{IsNewGrain}
 use Rattle.state_step.proofs.Each.{Each, push_old_row, each_pushed, numbered_pushed}
-use Rattle.state_step.proofs.Extending.{Extends, knows_of_grain}
+use Rattle.state_step.proofs.Extending.{Extends, fits_same, knows_of_grain}
 use Rattle.state_step.proofs.NextTables.{with_tables, still_sound_grant, still_sound_saved, next_tables, tables_numbered}
 use Rattle.state_step.proofs.Sound.{sound_of}
 use Rattle.state_step.proofs.Touched.{AreTouched, change_row_touches, touched_row, same_key, length_touched, each_touched, numbered_touched}
@@ -36,7 +36,7 @@ next_grains s formed grains next =
     let numbered = tables_numbered s formed in
     let more : Extends s.tables u = record {
       accounts = λ a is. is;
-      apps = λ p x is. is;
+      apps = λ p x is. (x, is, fits_same x.manifest);
       grains = next.there;
       grants = λ g x is. (x, is, refl, refl);
     } in

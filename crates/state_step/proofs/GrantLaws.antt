@@ -26,7 +26,7 @@ use Rattle.share_graph.proofs.Apart.{known_token, token_of, logins, tokens, refe
 use Rattle.state_step.specs.NewRows.{IsUnusedBy, IsNewGrant}
 use Rattle.state_step.proofs.Digests.{Adds, adds_none, adds_filtered, apart_after, none_unused}
 use Rattle.state_step.proofs.Each.{Each, push_old_row, each_pushed, numbered_pushed}
-use Rattle.state_step.proofs.Extending.{Extends, knows_of_grain}
+use Rattle.state_step.proofs.Extending.{Extends, fits_same, knows_of_grain}
 use Rattle.state_step.proofs.NextTables.{with_tables, still_sound_grant, still_sound_saved, next_tables, tables_numbered}
 use Rattle.state_step.proofs.Sound.{SoundGrant, sound_of}
 use Rattle.state_step.proofs.Touched.{AreTouched, change_row_touches, touched_row, same_key, length_touched, each_touched, numbered_touched, filter_map_touched}
@@ -51,7 +51,7 @@ next_grants s formed grants added next =
     let numbered = tables_numbered s formed in
     let more : Extends s.tables u = record {
       accounts = λ a is. is;
-      apps = λ p x is. is;
+      apps = λ p x is. (x, is, fits_same x.manifest);
       grains = λ n x is. (x, is, refl);
       grants = next.there;
     } in

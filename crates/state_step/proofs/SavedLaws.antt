@@ -16,7 +16,7 @@ use Rattle.share_graph.proofs.Apart.{logins, tokens, references, keys, run_token
 use Rattle.state_step.specs.NewRows.{IsNewReference}
 use Rattle.state_step.proofs.Digests.{Adds, adds_none, adds_pushed, apart_after, one_unused, none_unused}
 use Rattle.state_step.proofs.Each.{Each, each_pushed, numbered_pushed}
-use Rattle.state_step.proofs.Extending.{Extends, knows_of_grain}
+use Rattle.state_step.proofs.Extending.{Extends, fits_same, knows_of_grain}
 use Rattle.state_step.proofs.NextTables.{with_tables, still_sound_grant, still_sound_saved, next_tables, tables_numbered}
 use Rattle.state_step.proofs.Sound.{IsSoundSaved, sound_of}
 use Rattle.state_step.proofs.Touched.{AreTouched, change_row_touches, length_touched, each_touched, numbered_touched, map_touched}
@@ -44,7 +44,7 @@ next_saved s formed saved added next =
     let numbered = tables_numbered s formed in
     let more : Extends s.tables u = record {
       accounts = λ a is. is;
-      apps = λ p x is. is;
+      apps = λ p x is. (x, is, fits_same x.manifest);
       grains = λ n x is. (x, is, refl);
       grants = λ g x is. (x, is, refl, refl);
     } in

@@ -5,7 +5,7 @@ use Rattle.share_graph.specs.declared.state.State.{State}
 use Rattle.share_graph.specs.declared.state.Tables.{Tables}
 use Rattle.share_graph.specs.EventFits.{EventFits}
 use Rattle.share_graph.specs.WellFormed.{IsWellFormed}
-use Rattle.state_step.proofs.Extending.{Extends, knows_of_grain}
+use Rattle.state_step.proofs.Extending.{Extends, fits_same, knows_of_grain}
 use Rattle.state_step.proofs.NextTables.{with_tables, still_sound_grant, still_sound_saved, next_tables, tables_numbered}
 use Rattle.state_step.proofs.Sound.{sound_of}
 
@@ -20,7 +20,7 @@ ticked_formed s formed m =
     let numbered = tables_numbered s formed in
     let more : Extends s.tables u = record {
       accounts = λ a (x, is). (x, is);
-      apps = λ p x is. is;
+      apps = λ p x is. (x, is, fits_same x.manifest);
       grains = λ n x is. (x, is, refl);
       grants = λ g x is. (x, is, refl, refl);
     } in

@@ -9,6 +9,7 @@ use Rattle.share_graph.specs.declared.fault.Kind.TheVariants as kind
 abbrev pub changed_row : Event → Option (Kind × ℕ)
 changed_row (event.AccountAdded account) = Some (kind.Account, account.num.0)
 changed_row (event.AppAdded app) = Some (kind.App, app.num.0)
+changed_row (event.AppUpgraded p manifest) = Some (kind.App, p.0)
 changed_row (event.GrainAdded grain) = Some (kind.Grain, grain.num.0)
 changed_row (event.GrantAdded grant) = Some (kind.Grant, grant.num.0)
 changed_row (event.SavedAdded saved) = Some (kind.Saved, saved.num.0)

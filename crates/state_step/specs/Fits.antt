@@ -4,13 +4,14 @@ use Rattle.share_graph.specs.declared.event.Event.TheVariants as event
 use Rattle.share_graph.specs.declared.state.State.{State}
 use Rattle.share_graph.specs.EventFits.{HasChanged, EventFits}
 use Rattle.share_graph.specs.WellFormed.{IsWellFormed}
-use Rattle.state_step.specs.NewRows.{IsNewAccount, IsNewApp, IsNewGrain, IsNewGrant, IsNewReference, IsNewSession, IsNewRun, IsNewHandle, IsNewClaim}
+use Rattle.state_step.specs.NewRows.{IsNewAccount, IsNewApp, IsNewManifest, IsNewGrain, IsNewGrant, IsNewReference, IsNewSession, IsNewRun, IsNewHandle, IsNewClaim}
 
--- what is owed for an event: that its new row may be added, that the row which it changes is there, or that its moment is above
--- the last one
+-- what is owed for an event: that its new row may be added, that the row which it changes is there, that its manifest may take the
+-- old one's place, or that its moment is above the last one
 abbrev pub IsDue : State → Event → Type 0
 IsDue s (event.AccountAdded account) = IsNewAccount s account
 IsDue s (event.AppAdded app) = IsNewApp s app
+IsDue s (event.AppUpgraded p manifest) = IsNewManifest s p manifest
 IsDue s (event.GrainAdded grain) = IsNewGrain s grain
 IsDue s (event.GrantAdded grant) = IsNewGrant s grant
 IsDue s (event.SavedAdded saved) = IsNewReference s saved

@@ -1,6 +1,9 @@
 -- WHAT FITS, by the kind of event: each record is all that whoever adds a row owes.
 use Rattle.std.specs.Prelude.{◌≡◌, ◌≢◌, ◌<◌, ◌+◌, ◌==◌, ℕ, Contains, List, count_by, length, true, Option, Some, None}
+use Rattle.app_manifest.specs.declared.manifest.Manifest.{Manifest}
 use Rattle.host_base.specs.declared.digest.Digest.{Digest}
+use Rattle.host_base.specs.declared.ids.AppId.{AppId}
+use Rattle.share_graph.specs.declared.event.Event.TheVariants as event
 use Rattle.share_graph.specs.declared.grants.Grant.{Grant}
 use Rattle.share_graph.specs.declared.grants.Target.TheVariants as target
 use Rattle.share_graph.specs.declared.rows.Account.{Account}
@@ -11,6 +14,7 @@ use Rattle.share_graph.specs.declared.sessions.Handle.{Handle}
 use Rattle.share_graph.specs.declared.sessions.Run.{Run}
 use Rattle.share_graph.specs.declared.sessions.Session.{Session}
 use Rattle.share_graph.specs.declared.state.State.{State}
+use Rattle.share_graph.specs.EventFits.{HasChanged}
 use Rattle.share_graph.specs.Fitting.{IsSoundManifest, SetsFit, SharesWell, IsReference}
 use Rattle.share_graph.specs.Fresh.{is_handle}
 use Rattle.share_graph.specs.Keys.{IsOneOf, IsNoneOf, IsLiveRun}
@@ -41,6 +45,11 @@ pub record IsNewApp (s : State) (app : App) : Type 0 where
   pub num : app.num.0 ≡ length s.tables.apps + 1
   pub room : length s.tables.apps < 256
   pub sound : IsSoundManifest app.manifest
+
+-- a new manifest of an application that is there: sound, and what fitted the old one fits it
+pub record IsNewManifest (s : State) (p : AppId) (manifest : Manifest) : Type 0 where
+  pub sound : IsSoundManifest manifest
+  pub changed : HasChanged s (event.AppUpgraded p manifest)
 
 -- a new grain: the next number, room, an application and an owner that are there
 pub record IsNewGrain (s : State) (grain : Grain) : Type 0 where

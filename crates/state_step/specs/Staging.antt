@@ -10,6 +10,7 @@ use Rattle.state_step.specs.declared.staged.Staged.TheVariants as staged
 abbrev pub event_of : Staged → Event
 event_of (staged.AccountAdded account room) = event.AccountAdded account
 event_of (staged.AppAdded app room) = event.AppAdded app
+event_of (staged.AppUpgraded p manifest) = event.AppUpgraded p manifest
 event_of (staged.GrainAdded grain room) = event.GrainAdded grain
 event_of (staged.GrantAdded grant room) = event.GrantAdded grant
 event_of (staged.SavedAdded saved room) = event.SavedAdded saved
@@ -36,6 +37,7 @@ HasRoomFor s (staged.SavedAdded saved room) = room ≡ length s.tables.saved
 HasRoomFor s (staged.RunStarted run room) = room ≡ length s.runs
 HasRoomFor s (staged.SessionOpened session room) = room ≡ length s.sessions
 HasRoomFor s (staged.HandleMade handle room) = room ≡ length s.handles
+HasRoomFor s (staged.AppUpgraded p manifest) = Unit {0}
 HasRoomFor s (staged.AdminSet a on) = Unit {0}
 HasRoomFor s (staged.EnabledSet a on) = Unit {0}
 HasRoomFor s (staged.TrashedSet n on) = Unit {0}

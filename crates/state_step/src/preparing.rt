@@ -14,6 +14,7 @@ pub fn prepare(state: &State, event: Event) -> Result<Staged, Memory>
     Ok(match event {
         Event::AccountAdded(row) => Staged::AccountAdded(row, tables.accounts.room()?),
         Event::AppAdded(row) => Staged::AppAdded(row, tables.apps.room()?),
+        Event::AppUpgraded(num, manifest) => Staged::AppUpgraded(num, manifest),
         Event::GrainAdded(row) => Staged::GrainAdded(row, tables.grains.room()?),
         Event::GrantAdded(row) => Staged::GrantAdded(row, tables.grants.room()?),
         Event::SavedAdded(row) => Staged::SavedAdded(row, tables.saved.room()?),

@@ -2,7 +2,8 @@ ghost use Rattle.std.specs.Prelude.{◌≡◌, length};
 ghost use Rattle.share_graph.specs.History as history;
 ghost use Rattle.state_step.specs.Staging.{event_of, HasRoomFor};
 
-use host_base::{AccountId, GrainId, GrantId, RunId, SavedId, SessionId};
+use app_manifest::Manifest;
+use host_base::{AccountId, AppId, GrainId, GrantId, RunId, SavedId, SessionId};
 use share_graph::{Account, App, Grain, Grant, Handle, Room, Rows, Run, Saved, Session, State};
 
 /// How many open sessions a root may have.
@@ -12,6 +13,7 @@ pub const ROOT_SESSIONS: usize = 32;
 pub enum Staged {
     AccountAdded(Account, Room<Account>),
     AppAdded(App, Room<App>),
+    AppUpgraded(AppId, Manifest),
     GrainAdded(Grain, Room<Grain>),
     GrantAdded(Grant, Room<Grant>),
     SavedAdded(Saved, Room<Saved>),
@@ -35,6 +37,7 @@ impl Drop for Staged {
         match self {
             Staged::AccountAdded(_, _) => (),
             Staged::AppAdded(_, _) => (),
+            Staged::AppUpgraded(_, _) => (),
             Staged::GrainAdded(_, _) => (),
             Staged::GrantAdded(_, _) => (),
             Staged::SavedAdded(_, _) => (),
@@ -75,6 +78,7 @@ impl Staged {
         match self {
             Staged::AccountAdded(row, room) => state.tables.accounts.put(row, room),
             Staged::AppAdded(row, room) => state.tables.apps.put(row, room),
+            Staged::AppUpgraded(num, manifest) => state.tables.apps.set_manifest(num, manifest),
             Staged::GrainAdded(row, room) => state.tables.grains.put(row, room),
             Staged::GrantAdded(row, room) => state.tables.grants.put(row, room),
             Staged::SavedAdded(row, room) => state.tables.saved.put(row, room),

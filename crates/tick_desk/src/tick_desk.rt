@@ -2,7 +2,7 @@ ghost use Rattle.std.specs.Prelude.{◌≡◌, ◌⊎◌, ◌+◌, ◌≤◌, �
 ghost use Rattle.host_clock.specs.Ticking.{Ticks};
 ghost use Rattle.hub_core.specs.Book.{GoesOn, Judged, Ordered, TakesNone, Ticked};
 ghost use Rattle.hub_core.specs.Ticking.{added_by};
-ghost use Rattle.tick_desk.specs.Clocked.{without, last_after, HasTicked, StaysTicked, CountsTicks, IsOnTime, KnowsLast, UnlessMemory};
+ghost use Rattle.tick_desk.specs.Clocked.{without, last_after, ticks_in, HasTicked, StaysTicked, CountsTicks, IsOnTime, KnowsLast, UnlessMemory};
 
 use desk_orders::{Order, OrderFault, Reply};
 use host_base::{Key, Memory, Verdict};
@@ -86,6 +86,14 @@ impl<D: Desk, C: Clock> TickDesk<D, C> {
             last: _,
         } = self;
         (desk, clock)
+    }
+
+    /// How many of its own ticks were accepted. So many ticks are among the entries that the desk beneath has seen.
+    pub fn ticks(&self) -> u64
+        ensures value { result ≡ self.now.ticks }
+        ensures seen { self.now.ticks ≤ ticks_in (D.book self.now.desk).seen }
+    {
+        self.ticks
     }
 
     // Lets the clock of the desk beneath go on to a moment.

@@ -15,6 +15,9 @@ returns-in-AccountEnabled c = states c.args.route (route.AccountEnabled c.in-Acc
 pub returns-in-Apps : goal.returns-in-Apps
 returns-in-Apps c = states c.args.route route.Apps c.args.who c.args.body.now _ c.new_app.result c.in-Apps.is refl c.new_app.ensures
 
+pub returns-in-AppUpgrade : goal.returns-in-AppUpgrade
+returns-in-AppUpgrade c = states c.args.route (route.AppUpgrade c.in-AppUpgrade.num) c.args.who c.args.body.now _ c.new_manifest.result c.in-AppUpgrade.is refl c.new_manifest.ensures
+
 pub returns-in-Grains : goal.returns-in-Grains
 returns-in-Grains c = states c.args.route route.Grains c.args.who c.args.body.now _ c.new_grain.result c.in-Grains.is refl c.new_grain.ensures
 

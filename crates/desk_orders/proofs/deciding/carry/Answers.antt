@@ -16,3 +16,6 @@ returns-in-Share c = rw c.in-Share.is c.share.ensures.row
 
 pub returns-in-Claim : goal.returns-in-Claim
 returns-in-Claim c = rw c.in-Claim.is c.claim.ensures.row
+
+pub returns-in-UpgradeApp : goal.returns-in-UpgradeApp
+returns-in-UpgradeApp c = rw c.in-UpgradeApp.is c.upgrade_app.ensures.row

@@ -10,6 +10,9 @@ returns-in-GrantRevoked c = subst (λ (e : Event). IfOk c.grant_node.result (λ 
 pub returns-in-TrashedSet : goal.returns-in-TrashedSet
 returns-in-TrashedSet c = subst (λ (e : Event). IfOk c.seeds_of_grain.result (λ nodes. (at : Node) → Contains nodes.items at ↔ IsSeedOf c.args.tables.now e at)) (sym c.in-TrashedSet.is) c.seeds_of_grain.ensures
 
+pub returns-in-AppUpgraded : goal.returns-in-AppUpgraded
+returns-in-AppUpgraded c = subst (λ (e : Event). IfOk c.seeds_of_app.result (λ nodes. (at : Node) → Contains nodes.items at ↔ IsSeedOf c.args.tables.now e at)) (sym c.in-AppUpgraded.is) c.seeds_of_app.ensures
+
 pub returns-in-AdminSet : goal.returns-in-AdminSet
 returns-in-AdminSet c = subst (λ (e : Event). IfOk c.seeds_of_admin.result (λ nodes. (at : Node) → Contains nodes.items at ↔ IsSeedOf c.args.tables.now e at)) (sym c.in-AdminSet.is) c.seeds_of_admin.ensures
 

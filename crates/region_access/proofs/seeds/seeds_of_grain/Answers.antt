@@ -1,10 +1,12 @@
-use Rattle.std.proofs.Common.{inl, inr}
+use Rattle.std.proofs.Common.{List, Contains, sym, subst, inl, inr}
+use Rattle.share_graph.specs.declared.facts.Node.{Node}
+use Rattle.region_work.proofs.Sums.{contains_none}
 use Rattle.region_access.proofs.seeds.seeds_of_grain.Goals as goal
 
 pub returns : goal.returns
 returns c at =
-    let first = c.in_ok-nodes.ensures at in
-    let both = c.in_ok-add_tied.ensures at in (
-      λ has. elim (both.0 has) [ inl before ↦ inl (first.0 before) | inr more ↦ inr more ],
-      elim [ inl before ↦ both.1 (inl (first.1 before)) | inr more ↦ both.1 (inr more) ],
+    let none = subst (λ (xs : List Node). Contains xs at → ⊥) (sym c.new-nodes.ensures.items) (contains_none at) in
+    let both = c.in_ok-add_of_grain.ensures at in (
+      λ has. elim (both.0 has) [ inl before ↦ absurd (none before) | inr is ↦ is ],
+      λ is. both.1 (inr is),
     )

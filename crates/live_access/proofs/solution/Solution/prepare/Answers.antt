@@ -1,5 +1,5 @@
 use Rattle.std.proofs.Common.{◌≡◌, Bool, Result, Ok, Err, List, refl, sym, ◌∙◌, ap, subst}
-use Rattle.std.specs.Prelude.{OnErr, not}
+use Rattle.std.specs.Prelude.{OnErr, IsTrue, ◌↔◌}
 use Rattle.share_graph.specs.declared.facts.Node.{Node}
 use Rattle.share_graph.specs.declared.state.Tables.{Tables}
 use Rattle.share_graph.specs.Coherent.{IsCoherent}
@@ -11,6 +11,7 @@ use Rattle.region_access.specs.Indexes.{entries_of}
 use Rattle.region_access.specs.NewEdges.{AddsGrant, HasNoRow}
 use Rattle.region_access.specs.Room.{IsRoom}
 use Rattle.live_access.specs.contracts.solution.Solution.{the_view}
+use Rattle.live_access.specs.Adding.{OnlyAdds}
 use Rattle.live_access.specs.Kept.{Kept, IsSolvedFor}
 use Rattle.live_access.specs.Ready.{AreSeedsFor, starts_of}
 use Rattle.live_access.proofs.Law.{event_adds, event_is_new}
@@ -67,7 +68,7 @@ returns-in-Ok-clause-ok g c s before =
       exact = subst (λ (kept : Kept). AreSeedsFor s e kept.table c.in_ok-seeds.seeds.items) (sym same) (c.in_ok-seeds.ensures.exact s before);
       room = subst (λ (v : Tables). IsRoom v c.in_ok-seeds.seeds.items c.self-inside.inside.0.0.table.entries c.prepare.new.table.entries c.in_ok-room.room) back
           (subst (λ (seeds : List Node). IsRoom (g.V.Probe.tables c.starts.new.probe) seeds c.self-inside.inside.0.0.table.entries c.prepare.new.table.entries c.in_ok-room.room) c.as_slice.ensures.value c.in_ok-room.ensures.ok);
-      grows = c.in_ok-room.ensures.mode ∙ ap not c.may_take.ensures;
+      grows = subst (λ (b : Bool). IsTrue b ↔ OnlyAdds s.tables e) (sym c.in_ok-room.ensures.mode) (subst (λ (v : Tables). IsTrue c.only_adds-grows.result ↔ OnlyAdds v e) back c.only_adds-grows.ensures);
       added = c.in_ok-added.ensures;
       has_new = c.in_ok-room.ensures.added;
       grants = collected u (starts_of c.in_ok-room.room.grows c.in_ok-seeds.seeds.items c.in_ok-room.room.nodes.items) (fed_in c.prepare.new.indexes.arrivals.entries) c.in-Ok.grants.items indexes.arrivals at;
