@@ -1,4 +1,7 @@
-ghost use Rattle.std.specs.Prelude.{◌≡◌, length, IfOk};
+ghost use Rattle.std.specs.Prelude.{◌≡◌, ℕ, length, IfOk, Result};
+ghost use Rattle.host_base.specs.declared.bytes.Memory.{Memory};
+ghost use Rattle.host_base.specs.declared.key.Key.{Key};
+ghost use Rattle.host_base.specs.declared.verdict.Verdict.{Verdict};
 ghost use Rattle.hub_core.specs.Book.{Book, GoesOn, TakesNone, Judged, Ordered, Ticked};
 ghost use Rattle.site_caps.specs.Answering.{GivesText};
 
@@ -12,12 +15,17 @@ use std::alloc::Global;
 pub trait Desk {
     ghost book: { Self → Book };
 
+    // That the desk before was asked for the verdict on a key, gave this answer, and was then the desk after. Code over any desk can
+    // show it by a call of `verdict` alone: where a clause wants it of two messages, there are two calls.
+    ghost gave: { Self → Key → Result (ℕ × Verdict) Memory → Self → Type 0 };
+
     /// How many entries of the history were seen.
     fn place(&self) -> u64
         ensures { result ≡ length (book self.now).seen };
 
     /// The verdict on a key, and its place in the history. No command is accepted by it.
     fn verdict(&mut self, alloc: Global, key: &Key) -> Result<(u64, Verdict), Memory>
+        ensures gave { gave self.old key.now result self.new }
         ensures none { TakesNone (book self.old) (book self.new) }
         ensures judged { IfOk result (λ r.
             Judged (length (book self.old).seen) (book self.new) key.now r.0 r.1) }

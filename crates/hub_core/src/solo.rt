@@ -57,6 +57,8 @@ impl<H: Holding, C: SiteDriver + Drop> SoloDesk<H, C> {
 impl<H: Holding, C: SiteDriver + Drop> Desk for SoloDesk<H, C> {
     ghost book = { λ sharing. book_of C.Law.law sharing };
 
+    ghost gave = { λ before key answer after. Unit {0} };
+
     fn place(&self) -> u64 {
         self.locked.entries()
     }

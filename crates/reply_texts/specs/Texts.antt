@@ -49,6 +49,10 @@ denial_status denial.UnknownKey = 401
 denial_status (denial.GrainStopped n) = 409
 denial_status _ = 403
 
+-- the body of the answer to a denial
+abbrev pub denial_body : Denial → List ℕ
+denial_body reason = refusal_body (denial_name reason) (denial_numbers reason)
+
 -- the answer to a denial
 abbrev pub denial_text : Denial → Bool → List ℕ
 denial_text reason head_only = own_text (denial_status reason) (denial_name reason) (denial_numbers reason) head_only

@@ -4,8 +4,10 @@ ghost use Rattle.std.specs.Prelude.{◌≡◌, IfOk};
 ghost use Rattle.http.specs.StatusCode.{IsStatusCode};
 ghost use Rattle.reply_texts.specs.Numbers.{list_of};
 ghost use Rattle.reply_texts.specs.Texts.{denial_name, denial_numbers, denial_status, denial_text};
+ghost use Rattle.reply_texts.specs.Texts as texts;
 
 use crate::own::{Numbers, numbered_reply};
+use front_http::refusal_body;
 use host_base::{Bytes, Denial, Memory};
 use std::alloc::Global;
 
@@ -60,6 +62,18 @@ pub(crate) fn status_of(denial: &Denial) -> u16
         Denial::UnknownKey => 401,
         Denial::GrainStopped(_) => 409,
         _ => 403,
+    }
+}
+
+/// The body of the answer to a denial.
+pub fn denial_body(alloc: Global, denial: &Denial) -> Result<Bytes, Memory>
+    ensures { IfOk result (λ body. body ≡ texts.denial_body denial.now) }
+{
+    let name = name_of(denial);
+    match numbers_of(denial) {
+        Numbers::Zero => refusal_body(alloc, name, &[]),
+        Numbers::One(number) => refusal_body(alloc, name, &[number]),
+        Numbers::Two(first, second) => refusal_body(alloc, name, &[first, second]),
     }
 }
 

@@ -11,7 +11,7 @@ mod own;
 mod refusals;
 mod sites;
 
-pub use denials::denial_reply;
+pub use denials::{denial_body, denial_reply};
 pub use done::{Handed, done_reply};
 pub use faults::{OwnFault, fault_reply};
 pub use framing::{refused_reply, status_of_refusal};

@@ -99,6 +99,9 @@ impl<'a, H: Holding, C: SiteDriver + Drop, N: Named<Outset<H, C>>, L: Ledger, R:
     for PassDesk<'a, H, C, N, L, R> {
     ghost book = { λ pass. book_by C.Law.law (start_of blank N.start).start pass };
 
+    // each question makes a load of its own
+    ghost gave = { λ before key answer after. after.loads ≡ before.loads + 1 };
+
     fn place(&self) -> u64 {
         self.pass.seen()
     }

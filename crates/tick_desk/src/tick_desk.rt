@@ -122,12 +122,16 @@ impl<D: Desk, C: Clock> TickDesk<D, C> {
 impl<D: Desk, C: Clock> Desk for TickDesk<D, C> {
     ghost book = { λ clocked. without clocked.ticks (D.book clocked.desk) };
 
+    // the desk beneath was asked, behind a tick perhaps, unless memory ran out
+    ghost gave = { λ before key answer after. IfOk answer (λ _. (mid : D) × D.gave mid key answer after.desk) };
+
     fn place(&self) -> u64 {
         self.desk.place()
     }
 
     /// Where the clock tells its moments, it takes one. The last tick is at this moment, or stood and was at it or later.
     fn verdict(&mut self, alloc: Global, key: &Key) -> Result<(u64, Verdict), Memory>
+        ensures gave { IfOk result (λ _. (mid : D) × D.gave mid key.now result self.new.desk) }
         ensures none { TakesNone (without self.old.ticks (D.book self.old.desk))
             (without self.new.ticks (D.book self.new.desk)) }
         ensures judged { IfOk result (λ r. Judged (length (D.book self.old.desk).seen)

@@ -30,6 +30,9 @@ invariant_of-self-in-Ok g c =
     let none = c.verdict-in-Ok.ensures.none in
     stays _ _ c.self-2.inside.ticks c.self-2.inside.last none.later (omega (arith, none.accepted)) c.self-2.invariant
 
+pub returns-in-Ok-clause-gave : goal.returns-in-Ok-clause-gave
+returns-in-Ok-clause-gave g c = if_ok c.verdict-in-Ok.result _ (c.self-2.inside.desk, c.verdict-in-Ok.ensures.gave)
+
 pub returns-in-Ok-clause-judged : goal.returns-in-Ok-clause-judged
 returns-in-Ok-clause-judged g c =
     let m = c.now-moment.result in

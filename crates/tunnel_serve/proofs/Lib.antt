@@ -1,0 +1,4 @@
+pub mod Sessions
+pub mod Moving
+pub mod Exchanging
+pub mod Serving

@@ -1,0 +1,4 @@
+pub mod Terms
+pub mod Exchanges
+pub mod Tunnels
+pub mod Inner
