@@ -68,7 +68,7 @@ impl MemMessages {
     }
 
     /// The messages that were put, in order.
-    pub fn put(&self) -> &[Message]
+    pub fn kept(&self) -> &[Message]
         ensures { result.now ≡ self.now.put }
     {
         self.put.as_slice()
