@@ -8,7 +8,7 @@ use admin_run::{book_keeper, small_desk};
 use club_site::{PlainClub, plain_sites};
 use desk_orders::{Command, Order};
 use grain_supervise::FakeSpawner;
-use host_base::{AccountId, Fails, GrainId, Key, SeqSecrets, digest_of};
+use host_base::{AccountId, Digest, Fails, GrainId, Key, SeqSecrets, digest_of};
 use hub_core::{Held, Holding, Locked};
 use perm_roles::Assignment;
 use plain_data::List;
@@ -61,10 +61,15 @@ pub fn key_of_ben() -> Key {
     Key::Session(digest_of(BEN_KEY.as_bytes()))
 }
 
+/// Ada's login.
+pub fn login_of_ada() -> Digest {
+    digest_of(ADA_LOGIN.as_bytes())
+}
+
 /// Ada's order to share the second grain with ben.
 pub fn share_with_ben(alloc: Global, assignment: Assignment) -> Order {
     Order::new(
-        Caller::Login(digest_of(ADA_LOGIN.as_bytes())),
+        Caller::Login(login_of_ada()),
         Command::Share {
             grain: VOTE,
             to: BEN,

@@ -4,6 +4,7 @@
 use crate::gated::answer_beside_commit;
 use crate::shares::share_by_threads;
 use crate::streams::serve_two;
+use crate::tunnels::tunnel_of;
 use std::alloc::Global;
 use std::sync::Wait;
 use std::thread::Threads;
@@ -26,6 +27,7 @@ fn answer_row<R: Threads + Wait + Sync>(rt: &R, alloc: Global, row: &str) -> Res
         }
         "gated" if rest.is_empty() => answer_beside_commit(rt, alloc),
         "streams" if rest.is_empty() => serve_two(rt, alloc),
+        "tunnel" => tunnel_of(rt, alloc, rest),
         _ => Err(Fault::Unreadable),
     }
 }

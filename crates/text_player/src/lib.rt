@@ -17,6 +17,7 @@ mod passes;
 mod shares;
 mod states;
 mod streams;
+mod tunnels;
 mod values;
 
 use crate::calls::Calls;
