@@ -1,0 +1,14 @@
+pub mod SoundSteps
+pub mod Cited
+pub mod OnGrain
+pub mod FoundNodes
+pub mod Placed
+pub mod Told
+pub mod Marked
+pub mod KeptSteps
+pub mod Turned
+pub mod Rested
+pub mod Complete
+pub mod Without
+pub mod Lifted
+pub mod Lost

@@ -1,0 +1,11 @@
+pub mod Steps
+pub mod Explaining
+pub mod Entries
+pub mod Losses
+pub mod Lifting
+pub mod Losing
+pub mod Found
+pub mod Telling
+pub mod Pruning
+pub mod Turns
+pub mod Resting
