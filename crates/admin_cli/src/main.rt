@@ -1,5 +1,5 @@
-// The program: serves connections on a port from a file of rows, serves one connection over standard input and output from the small book, serves
-// requests that it makes itself, judges a file of rows, or is a grain on a socket.
+// The program: serves connections on a port from a file of rows, and tunnels on another one, serves one connection over standard input
+// and output from the small book, serves requests that it makes itself, judges a file of rows, or is a grain on a socket.
 #![tactic(auto)]
 
 use admin_host::{Aside, NO_MEMORY, Plan, Tie, plan_of, status_at_end, status_of};
@@ -18,11 +18,24 @@ fn main(rt: HostRuntime) -> ExitCode {
         aside,
         tie,
     } = plan;
-    if let Some(Aside { acceptor, logs }) = aside
-        && (thread::spawn(&rt, move || acceptor.run(&rt)).is_err()
-            || thread::spawn(&rt, move || logs.run(&rt)).is_err())
+    if let Some(
+        Aside {
+            acceptor,
+            tunnels,
+            logs,
+        },
+    ) = aside
     {
-        return ExitCode::from(NO_MEMORY);
+        if thread::spawn(&rt, move || acceptor.run(&rt)).is_err()
+            || thread::spawn(&rt, move || logs.run(&rt)).is_err()
+        {
+            return ExitCode::from(NO_MEMORY);
+        }
+        if let Some(tunnels) = tunnels
+            && thread::spawn(&rt, move || tunnels.run(&rt)).is_err()
+        {
+            return ExitCode::from(NO_MEMORY);
+        }
     }
     let Some(tie) = tie else {
         return ExitCode::from(status_of(&rt, &rt, words.as_slice(), post));

@@ -2,14 +2,14 @@
 
 use crate::NO_MEMORY;
 use crate::serving::Post;
-use command_line::{Line, line_of};
+use command_line::{Line, Tunnels, line_of};
 use crossbeam_channel::{Receiver, Sender, bounded};
 use host_base::Memory;
 use std::alloc::AllocError;
 use std::process::ExitCode;
 use std::sync::{Arc, Wait};
 use std::{env, io};
-use system_edges::{Acceptor, Activity, Logs, SharedActivity, is_pipe};
+use system_edges::{Acceptor, Activity, Logs, SharedActivity, SharedClient, is_pipe};
 
 // The words after the program's name. A word that isn't text stands in none of the program's lines, and neither does no word.
 fn words_of(rt: &HostRuntime) -> Result<Vec<String>, Memory> {
@@ -36,10 +36,12 @@ pub struct Tie {
     pub ends: Receiver<Option<u8>>,
 }
 
-/// What a server does on threads of their own: it accepts clients, and logs what its grains' programs print.
+/// What a server does on threads of their own: it accepts clients of connections, and of tunnels where it serves some, and logs what its
+/// grains' programs print.
 #[derive(Drop)]
 pub struct Aside {
     pub acceptor: Acceptor,
+    pub tunnels: Option<Acceptor>,
     pub logs: Logs,
 }
 
@@ -76,21 +78,47 @@ fn tie_of(
     }))
 }
 
-// What a server does aside, by its port, and where its clients come in.
-fn aside_of(rt: &HostRuntime, port: u16, activity: &SharedActivity) -> io::Result<(Aside, Post)> {
+// The acceptor of the tunnels that a line has served, and where their clients come in.
+fn tunnels_of(
+    rt: &HostRuntime,
+    tunnels: Option<Tunnels>,
+    activity: &SharedActivity,
+) -> io::Result<(Option<Acceptor>, Option<Receiver<SharedClient>>)> {
+    let Some(Tunnels { port, count: _ }) = tunnels else {
+        return Ok((None, None));
+    };
+    let activity = Arc::try_clone(activity)?;
+    let (acceptor, clients) = Acceptor::bind(rt, rt.alloc(), port, activity, false)?;
+    Ok((Some(acceptor), Some(clients)))
+}
+
+// What a server does aside, by its ports, and where its clients come in.
+fn aside_of(
+    rt: &HostRuntime,
+    port: u16,
+    tunnels: Option<Tunnels>,
+    activity: &SharedActivity,
+) -> io::Result<(Aside, Post)> {
     let alloc = rt.alloc();
-    let (acceptor, clients) = Acceptor::bind(rt, alloc, port, Arc::try_clone(activity)?)?;
+    let (acceptor, clients) = Acceptor::bind(rt, alloc, port, Arc::try_clone(activity)?, true)?;
+    let (beside, tunnels) = tunnels_of(rt, tunnels, activity)?;
     let (logs, outputs) = Logs::new(rt, alloc, Arc::try_clone(activity)?)?;
     let post = Post {
         clients: Some(clients),
+        tunnels,
         outputs: Some(outputs),
         port: acceptor.port()?,
         activity: Arc::try_clone(activity)?,
     };
-    Ok((Aside { acceptor, logs }, post))
+    let aside = Aside {
+        acceptor,
+        tunnels: beside,
+        logs,
+    };
+    Ok((aside, post))
 }
 
-/// What the program is to do by its words. Where the port can't be bound no client comes in.
+/// What the program is to do by its words. Where a port can't be bound no client comes in at any.
 pub fn plan_of(rt: &HostRuntime) -> Result<Plan, Memory> {
     let alloc = rt.alloc();
     let words = words_of(rt)?;
@@ -101,13 +129,14 @@ pub fn plan_of(rt: &HostRuntime) -> Result<Plan, Memory> {
         None,
         Post {
             clients: None,
+            tunnels: None,
             outputs: None,
             port: 0,
             activity: Arc::try_clone(&activity)?,
         },
     );
-    if let Line::Serve { port, .. } = line
-        && let Ok((beside, open)) = aside_of(rt, port, &activity)
+    if let Line::Serve { port, tunnels, .. } = line
+        && let Ok((beside, open)) = aside_of(rt, port, tunnels, &activity)
     {
         aside = Some(beside);
         post = open;

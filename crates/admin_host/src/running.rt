@@ -4,6 +4,7 @@ ghost use Rattle.std.specs.Prelude.{◌⊎◌, map};
 ghost use Rattle.site_caps.specs.Registered.{IsRegistered};
 ghost use Rattle.admin_run.specs.Terms.{OutliveStops};
 ghost use Rattle.admin_run.specs.Connection.{HasBook};
+ghost use Rattle.admin_run.specs.Outside.{AreInOrder};
 ghost use Rattle.admin_run.specs.Program.{BeginWithBook, ServeAtDoor};
 ghost use Rattle.serve_door.specs.Doors.{IsInOrder};
 
@@ -13,7 +14,7 @@ use cloud_keeper::Keeper;
 use grain_supervise::{EchoLink, FakeSpawner, Spawner};
 use host_base::{Fails, Memory, Secrets, SeqSecrets, StdSink, StdSource};
 use host_clock::{Clock, StillClock};
-use serve_door::Door;
+use serve_door::{Door, Entrance, HallDoor, MemHalls};
 use site_caps::SiteDriver;
 use std::alloc::Global;
 use std::io;
@@ -35,8 +36,10 @@ where
     W::Spawner: Send,
     W::Clock: Send,
     W::Door: Send,
+    W::Halls: Send,
     <W::Door as Door>::Input: Send,
     <W::Door as Door>::Output: Send,
+    <W::Halls as HallDoor>::Hall: Send,
     LinkOf<W>: Send,
     C::Law: Send,
     requires book { BeginWithBook words.now → HasBook world.tells.holds.keeping }
@@ -44,17 +47,18 @@ where
         → OutliveStops world.tells.holds.keeping (W.Keeper.may_leave world.keeper) }
     requires registered { BeginWithBook words.now ⊎ ServeAtDoor words.now
         → IsRegistered C.Law.law.tags (map C.tag_of sites.items) }
-    requires order { ServeAtDoor words.now → IsInOrder world.tells.doorway }
+    requires order { ServeAtDoor words.now → AreInOrder world.tells }
 {
     run(wait, alloc, words, world, sites).status
 }
 
 // Runs a line that serves no connections at a door, with a keeper, a door and the drivers of its sites, over standard input and
-// output. The link, the secrets and the spawner are those in memory, so that the same words and input give the same output.
+// output. The link, the secrets and the spawner are those in memory, so that the same words and input give the same output; the halls
+// are too, and have no tunnels.
 pub(crate) fn run_with<
     R: Threads + Wait + Sync,
     K: Keeper + Drop + Send,
-    E: Door<Link = EchoLink> + Drop + Send,
+    E: Door + Entrance<Link = EchoLink> + Drop + Send,
     C: SiteDriver + Drop + Send,
 >(rt: &HostRuntime, wait: &R, words: &[String], keeper: K, door: E, sites: Vec<C>) -> u8
 where
@@ -67,6 +71,9 @@ where
     requires elsewhere { ServeAtDoor words.now → ⊥ }
 {
     let alloc = rt.alloc();
+    let Ok(halls) = MemHalls::<EchoLink>::new(alloc, Vec::new(alloc)) else {
+        return NO_MEMORY;
+    };
     let world = world_of(
         StdSource::new(rt.reader()),
         StdSink::new(io::writer(rt)),
@@ -76,6 +83,7 @@ where
         FakeSpawner::new(alloc, Fails::empty(alloc)),
         StillClock::new(0),
         door,
+        halls,
     );
     status_in(wait, rt.alloc(), words, world, sites)
 }
@@ -83,7 +91,7 @@ where
 // Runs such a line with the rows of the small book.
 pub(crate) fn run_with_book<
     R: Threads + Wait + Sync,
-    E: Door<Link = EchoLink> + Drop + Send,
+    E: Door + Entrance<Link = EchoLink> + Drop + Send,
     C: SiteDriver + Drop + Send,
 >(rt: &HostRuntime, wait: &R, words: &[String], door: E, sites: Vec<C>) -> u8
 where
@@ -99,7 +107,7 @@ where
     }
 }
 
-// Serves connections at a door from the rows of a keeper, with these objects, a clock and standard output.
+// Serves connections at a door and tunnels at halls from the rows of a keeper, with these objects, a clock and standard output.
 pub(crate) fn serve_with<
     R: Threads + Wait + Sync,
     K: Keeper + Drop + Send,
@@ -107,6 +115,7 @@ pub(crate) fn serve_with<
     P: Spawner + Drop + Send,
     T: Clock + Drop + Send,
     E: Door + Drop + Send,
+    H: HallDoor + Entrance<Link = E::Link> + Drop + Send,
     C: SiteDriver + Drop + Send,
 >(
     rt: &HostRuntime,
@@ -116,6 +125,7 @@ pub(crate) fn serve_with<
     held: (K, S, P),
     clock: T,
     door: E,
+    halls: H,
     sites: Vec<C>,
 ) -> u8
 where
@@ -123,13 +133,16 @@ where
     E::Input: Send,
     E::Output: Send,
     E::Link: Send,
+    H::Hall: Send,
     requires registered { IsRegistered C.Law.law.tags (map C.tag_of sites.items) }
     requires elsewhere { BeginWithBook words.now → ⊥ }
-    requires order { IsInOrder (E.doorway door) }
+    requires order { (IsInOrder (E.doorway door)) × (IsInOrder (H.doorway halls)) }
 {
     let (keeper, secrets, spawner) = held;
     let input = StdSource::new(rt.reader());
     let out = StdSink::new(io::writer(rt));
-    let world = world_of(input, out, link, keeper, secrets, spawner, clock, door);
+    let world = world_of(
+        input, out, link, keeper, secrets, spawner, clock, door, halls,
+    );
     status_in(wait, rt.alloc(), words, world, sites)
 }

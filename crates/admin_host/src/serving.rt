@@ -1,4 +1,4 @@
-//! Serving from a file: its keeper, its port, and the programs of its grains.
+//! Serving from a file: its keeper, its ports, and the programs of its grains.
 
 ghost use Rattle.std.specs.Prelude.{map};
 ghost use Rattle.site_caps.specs.Registered.{IsRegistered};
@@ -6,18 +6,19 @@ ghost use Rattle.admin_run.specs.Program.{BeginWithBook};
 
 use crate::running::serve_with;
 use crossbeam_channel::{Receiver, Sender};
+use grain_supervise::Link;
 use host_base::Memory;
 use rand::rngs::SysRng;
 use site_caps::SiteDriver;
 use sql_keeper::SqlKeeper;
 use sqlite::{Alter, Connection, FileFrom, FileStore, Start};
-use std::alloc::AllocError;
+use std::alloc::{AllocError, Global};
 use std::sync::{Arc, Wait};
 use std::thread::Threads;
 use std::time::Clock;
 use system_edges::{
     Output, Places, ProcSpawner, RngSecrets, SharedActivity, SharedClient, Starting, SystemClock,
-    TcpDoor, UnixLink,
+    TcpDoor, UnixLink, WsDoor,
 };
 
 // The keeper over a file of rows, whatever the file holds at first. (What takes it is generic over its store: the check of a call that
@@ -33,10 +34,12 @@ pub(crate) fn keeper_of<F: Start>(
     }
 }
 
-/// Where a server's clients come in and what its grains' programs print goes, its port, and what its threads share.
+/// Where a server's clients come in, those of connections and those of tunnels, and what its grains' programs print goes, its port, and
+/// what its threads share.
 #[derive(Drop)]
 pub struct Post {
     pub clients: Option<Receiver<SharedClient>>,
+    pub tunnels: Option<Receiver<SharedClient>>,
     pub outputs: Option<Sender<Output>>,
     pub port: u16,
     pub activity: SharedActivity,
@@ -75,7 +78,7 @@ fn programs_of(
     })
 }
 
-// Serves the clients at a door from the rows of a keeper, with the programs of its grains.
+// Serves the clients at a door and at halls from the rows of a keeper, with the programs of its grains.
 fn serve_kept<
     'a,
     R: Threads + Wait + Clock + Sync,
@@ -88,6 +91,7 @@ fn serve_kept<
     keeper: SqlKeeper<S>,
     programs: Programs,
     door: TcpDoor<'a, R, UnixLink<'a, HostRuntime>>,
+    halls: WsDoor<'a, R, UnixLink<'a, HostRuntime>>,
     sites: Vec<C>,
 ) -> u8
 where
@@ -107,10 +111,24 @@ where
         (keeper, secrets, spawner),
     );
     let clock = SystemClock::new(wait);
-    serve_with(rt, wait, words, link, held, clock, door, sites)
+    serve_with(rt, wait, words, link, held, clock, door, halls, sites)
 }
 
-// Serves the clients of an acceptor from a file of rows.
+// The door of connections and the halls of tunnels, over any link. (Where the link is named, the check doesn't cover that the door is let
+// go of, as it is here where memory runs out.)
+fn doors_of<'a, R: Wait + Clock, L: Link + Drop>(
+    wait: &'a R,
+    alloc: Global,
+    clients: Option<Receiver<SharedClient>>,
+    tunnels: Option<Receiver<SharedClient>>,
+    activity: SharedActivity,
+) -> Result<(TcpDoor<'a, R, L>, WsDoor<'a, R, L>), Memory> {
+    let door = TcpDoor::new(wait, alloc, clients, Arc::try_clone(&activity)?)?;
+    let halls = WsDoor::new(wait, alloc, tunnels, activity)?;
+    Ok((door, halls))
+}
+
+// Serves the clients of acceptors from a file of rows.
 pub(crate) fn run_serve<
     'a,
     R: Threads + Wait + Clock + Sync,
@@ -131,14 +149,15 @@ where
 {
     let Post {
         clients,
+        tunnels,
         outputs,
         port,
         activity,
     } = post;
     let programs = programs_of(rt, path_of(words), port, outputs, &activity)?;
-    let door = TcpDoor::new(wait, rt.alloc(), clients, activity)?;
+    let (door, halls) = doors_of(wait, rt.alloc(), clients, tunnels, activity)?;
     let keeper = keeper_of(rt, path_of(words), first);
-    Ok(serve_kept(rt, wait, words, keeper, programs, door, sites))
+    Ok(serve_kept(rt, wait, words, keeper, programs, door, halls, sites))
 }
 
 // The path of a line that has one: its second word.

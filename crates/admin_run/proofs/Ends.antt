@@ -13,14 +13,14 @@ use Rattle.row_tables.specs.Kept.{IsStored}
 use Rattle.hub_core.specs.Book.{Backing}
 use Rattle.hub_core.specs.Opening.{opened}
 use Rattle.hub_core.specs.Stopping.{OutliveStops}
-use Rattle.serve_door.specs.Doors.{Doorway}
+use Rattle.serve_door.specs.Doors.{given_and_back}
 use Rattle.serve_door.specs.declared.serving.Stop.{Stop}
 use Rattle.serve_door.specs.declared.serving.Stop.TheVariants as stop
 use Rattle.shared_hub.specs.Since.{HasKept}
 use Rattle.shared_hub.proofs.Since.{kept_none}
 use Rattle.admin_run.specs.Beginning.{Begins}
-use Rattle.admin_run.specs.Outside.{Outside, Tells}
-use Rattle.admin_run.specs.Serving.{EndsServing, ServesFrom, ServesHistory, TellsStop, given_and_back, login_line}
+use Rattle.admin_run.specs.Outside.{Entrances, entrances, Outside, Tells}
+use Rattle.admin_run.specs.Serving.{EndsServing, ServesFrom, ServesHistory, TellsStop, login_line}
 use Rattle.admin_run.proofs.First.{begins_on}
 use Rattle.admin_run.proofs.Logins.{logins_stay}
 use Rattle.admin_run.proofs.Told.{tells_more}
@@ -40,20 +40,27 @@ stop_behind stop.All answered old now new text status first le le' then = tells_
 stop_behind stop.DoorFailed answered old now new text status first le le' (is, then) = (is, told_no_more old now new text 4 4 first le le' then)
 stop_behind stop.Memory answered old now new text status first le le' (is, then) = (is, told_no_more old now new text 7 7 first le le' then)
 
-ends_behind : (law : Law) (start : State) (count : ℕ) (text : List ℕ) (history : List Event) (door door' : Doorway) (old now new : Outlet) (status : ℕ) → Tells old now text 0 0 → old.faults ≤ now.faults → now.faults ≤ new.faults
-    → EndsServing law start count [] history door door' now new status → EndsServing law start count text history door door' old new status
-ends_behind law start count text history door door' old now new status first le le' (inl none) = inl (record {
+ends_behind : (law : Law) (start : State) (count tunnels : ℕ) (text : List ℕ) (history : List Event) (doors doors' : Entrances) (old now new : Outlet) (status : ℕ) → Tells old now text 0 0 → old.faults ≤ now.faults → now.faults ≤ new.faults
+    → EndsServing law start count tunnels [] history doors doors' now new status → EndsServing law start count tunnels text history doors doors' old new status
+ends_behind law start count tunnels text history doors doors' old now new status first le le' (inl none) = inl (record {
   none = none.none;
   untaken = none.untaken;
+  halls_untaken = none.halls_untaken;
   told = told_no_more old now new text 7 status first le le' none.told;
 })
-ends_behind law start count text history door door' old now new status first le le' (inr some) = inr (record {
+ends_behind law start count tunnels text history doors doors' old now new status first le le' (inr some) = inr (record {
+  others = some.others;
+  no_others = some.no_others;
+  some_others = some.some_others;
   before = some.before;
+  hired = some.hired;
   handles = some.handles;
   main = some.main;
-  hired = some.hired;
+  hall_handles = some.hall_handles;
+  hall = some.hall;
   done = some.done;
   taken_back = some.taken_back;
+  halls_taken_back = some.halls_taken_back;
   stopped = some.stopped;
   stopped_is = some.stopped_is;
   told = stop_behind some.stopped.stop some.stopped.answered old now new text status first le le' some.told;
@@ -64,15 +71,15 @@ told_other : (old new : Outlet) (text : List ℕ) (done status : ℕ) → status
 told_other old new text done status five (inl (is, whole)) not other = absurd (not (sym is ∙ five))
 told_other old new text done status five (inr part) not other = inr part
 
-module _ (law : Law) (count status : ℕ) (old : Outside) (out : Outlet) (keeping : Keeping) (drawer : Drawer) (tables : Tables) (login : Option (List ℕ))
+module _ (law : Law) (count tunnels status : ℕ) (old : Outside) (out : Outlet) (keeping : Keeping) (drawer : Drawer) (tables : Tables) (login : Option (List ℕ))
     (begins : Begins old.holds.keeping keeping old.holds.drawer drawer tables login) where
   abbrev held : Backing
   held = record old.holds { keeping = keeping; drawer = drawer }
 
   -- the login was printed, and connections were served
   pub serves_from : (may_leave : List Row → Type 0) (new : Outside) (told : ℕ) → told ≡ 0 → Tells old.outlet out (login_line login) 0 told → old.outlet.faults ≤ out.faults → out.faults ≤ new.outlet.faults
-      → ServesHistory law (opened tables) count may_leave held new.holds old.doorway new.doorway out new.outlet status
-      → new ≡ record old { outlet = new.outlet; holds = new.holds; doorway = new.doorway } → ServesFrom law count may_leave old new status
+      → ServesHistory law (opened tables) count tunnels may_leave held new.holds (entrances old) (entrances new) out new.outlet status
+      → new ≡ record old { outlet = new.outlet; holds = new.holds; doorway = new.doorway; hallway = new.hallway } → ServesFrom law count tunnels may_leave old new status
   serves_from may_leave new told zero tells le le' served others =
       let first = subst (λ (n : ℕ). Tells old.outlet out (login_line login) 0 n) zero tells in
       let (added, stay) = logins_stay (opened tables) served.history in
@@ -93,12 +100,12 @@ module _ (law : Law) (count status : ℕ) (old : Outside) (out : Outlet) (keepin
           starts = served.kept.counts.starts;
           clean = λ is. begins.clean (served.kept.counts.clean is);
         };
-        ends = ends_behind law (opened tables) count (login_line login) served.history old.doorway new.doorway old.outlet out new.outlet status first le le' served.ends;
+        ends = ends_behind law (opened tables) count tunnels (login_line login) served.history (entrances old) (entrances new) old.outlet out new.outlet status first le le' served.ends;
         others = others;
       }
 
   -- the login couldn't be printed
-  pub stops_at_login : (may_leave : List Row → Type 0) → OutliveStops keeping may_leave → Tells old.outlet out (login_line login) 0 status → status ≡ 5 → ServesFrom law count may_leave old (record old { outlet = out; holds = held }) status
+  pub stops_at_login : (may_leave : List Row → Type 0) → OutliveStops keeping may_leave → Tells old.outlet out (login_line login) 0 status → status ≡ 5 → ServesFrom law count tunnels may_leave old (record old { outlet = out; holds = held }) status
   stops_at_login may_leave outlive told five =
       let (added, stay) = logins_stay (opened tables) [] in
       let none = kept_none (opened tables) old.holds in
@@ -114,7 +121,7 @@ module _ (law : Law) (count status : ℕ) (old : Outside) (out : Outlet) (keepin
         drew = (drawer.coming, begins.drew, ([], refl));
         spawned = none.spawned;
         counts = record { store = begins.store_counts; secrets = begins.secrets_count; starts = none.counts.starts; clean = begins.clean };
-        ends = inl (record { none = refl; untaken = refl; told = told_other old.outlet out (login_line login) 0 status five told (λ is. omega (arith, is)) 7 });
+        ends = inl (record { none = refl; untaken = refl; halls_untaken = refl; told = told_other old.outlet out (login_line login) 0 status five told (λ is. omega (arith, is)) 7 });
         others = refl;
       }
 
@@ -123,13 +130,14 @@ pub kept_same : (start : State) (holds holds' : Backing) (history : List Event) 
 kept_same start holds holds' history same none =
     subst (λ (h : Backing). HasKept start holds h history) (sym same) (subst (λ (list : List Event). HasKept start holds holds list) (sym none) (kept_none start holds))
 
--- no connection was served on such a history
-pub serves_none : (law : Law) (start : State) (count : ℕ) (may_leave : List Row → Type 0) (holds holds' : Backing) (history : List Event) (door door' : Doorway) (out : Outlet) → HasKept start holds holds' history → history ≡ []
-    → IsStored holds'.keeping (replay start history).tables → OutliveStops holds'.keeping may_leave → given_and_back door' ≡ given_and_back door → ServesHistory law start count may_leave holds holds' door door' out out 7
-serves_none law start count may_leave holds holds' history door door' out kept none stored outlive untaken = record {
+-- nothing was served on such a history
+pub serves_none : (law : Law) (start : State) (count tunnels : ℕ) (may_leave : List Row → Type 0) (holds holds' : Backing) (history : List Event) (doors doors' : Entrances) (out : Outlet) → HasKept start holds holds' history → history ≡ []
+    → IsStored holds'.keeping (replay start history).tables → OutliveStops holds'.keeping may_leave → given_and_back doors'.door ≡ given_and_back doors.door → given_and_back doors'.halls ≡ given_and_back doors.halls
+    → ServesHistory law start count tunnels may_leave holds holds' doors doors' out out 7
+serves_none law start count tunnels may_leave holds holds' history doors doors' out kept none stored outlive untaken halls_untaken = record {
   history = history;
   stored = stored;
   outlive = outlive;
   kept = kept;
-  ends = inl (record { none = none; untaken = untaken; told = told_nothing out 7 });
+  ends = inl (record { none = none; untaken = untaken; halls_untaken = halls_untaken; told = told_nothing out 7 });
 }

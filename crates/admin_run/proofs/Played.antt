@@ -19,8 +19,9 @@ use Rattle.admin_run.specs.Outside.{Outside}
 use Rattle.admin_run.specs.Statuses.{status_by}
 
 -- what the program's objects tell, one by one
-abbrev pub the_world : Inlet → Outlet → Line → Backing → Option (List ℕ) → Doorway → Outside
-the_world inlet outlet line holds moments doorway = record { inlet = inlet; outlet = outlet; line = line; holds = holds; moments = moments; doorway = doorway }
+abbrev pub the_world : Inlet → Outlet → Line → Backing → Option (List ℕ) → Doorway → Doorway → Outside
+the_world inlet outlet line holds moments doorway hallway =
+    record { inlet = inlet; outlet = outlet; line = line; holds = holds; moments = moments; doorway = doorway; hallway = hallway }
 
 -- no end of a connection has the status of a keeper's fault
 pub not_nine : (e : End) → status_by e ≡ 9 → ⊥

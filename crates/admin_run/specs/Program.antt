@@ -3,7 +3,7 @@ use Rattle.std.specs.Prelude.{ℕ, ◌⊎◌, List, String}
 use Rattle.std.specs.declared.alloc.Global.{Global}
 use Rattle.command_line.specs.declared.line.Line.{Line}
 use Rattle.command_line.specs.declared.line.Line.TheVariants as line
-use Rattle.admin_run.specs.Terms.{IsLine, Law, Row}
+use Rattle.admin_run.specs.Terms.{IsLine, Law, Row, tunnels_in}
 use Rattle.admin_run.specs.Judging.{ChecksRows}
 use Rattle.admin_run.specs.Making.{Makes}
 use Rattle.admin_run.specs.Outside.{Outside, DoesNothing, TellsUsage}
@@ -16,9 +16,9 @@ FromBook line.Play = Unit {0}
 FromBook (line.Gen count seed) = Unit {0}
 FromBook _ = ⊥
 
--- whether a line has connections served at the door
+-- whether a line has connections served at the door, and tunnels at the halls
 abbrev pub AtDoor : Line → Type 0
-AtDoor (line.Serve port count) = Unit {0}
+AtDoor (line.Serve port count tunnels) = Unit {0}
 AtDoor _ = ⊥
 
 -- What a line does, by the law of the sites and what a stop may leave of the keeper at the end; `play` and `gen` want memory
@@ -29,7 +29,8 @@ Does law (line.Gen count seed) may_leave old new status =
     Makes law count seed old new status ⊎ DoesNothing old new status
 Does law line.Check may_leave old new status = ChecksRows old new status
 Does law (line.Grain count) may_leave old new status = ServesGrain count old new status
-Does law (line.Serve port count) may_leave old new status = Serves law count may_leave old new status
+Does law (line.Serve port count tunnels) may_leave old new status =
+    Serves law count (tunnels_in tunnels) may_leave old new status
 Does law line.Unknown may_leave old new status = TellsUsage old new status
 
 -- the words begin with the small book

@@ -4,7 +4,7 @@ pub use Rattle.cloud_keeper.specs.declared.row.Row.{Row}
 pub use Rattle.cloud_serve.specs.Acts.{added_by}
 pub use Rattle.cloud_serve.specs.Served.{limit, Served, turns_in, Wired, with_book}
 pub use Rattle.cloud_serve.specs.declared.serve.{ConnEnd.ConnEnd, End.End}
-pub use Rattle.command_line.specs.Words.{IsLine}
+pub use Rattle.command_line.specs.Words.{IsLine, tunnels_in}
 pub use Rattle.desk_orders.specs.Secrets.{DrawsAll}
 pub use Rattle.first_account.specs.Drawn.{DrewOneAtMost, IsTokenOfNext}
 pub use Rattle.first_account.specs.First.{first_tables}
@@ -27,8 +27,8 @@ pub use Rattle.row_tables.specs.Checks.{GivesTables, IsBadRow}
 pub use Rattle.row_tables.specs.Kept.{AreRowsOf, IsStored}
 pub use Rattle.row_tables.specs.TablesRows.{tables_of}
 pub use Rattle.row_tables.specs.declared.stored.BadRow.{BadRow}
-pub use Rattle.serve_door.specs.Doors.{Connection, Doorway, expecting}
-pub use Rattle.serve_door.specs.Working.{all_together, AreHired, Post, with_handles, Works}
+pub use Rattle.serve_door.specs.Doors.{Doorway, expecting, given_and_back, IsInOrder}
+pub use Rattle.serve_door.specs.Working.{all_together, AreStaff, Post, Posts, together, with_handles, workers_at, WorksBoth}
 pub use Rattle.serve_door.specs.declared.{serving.Stop.Stop, serving.Stopped.Stopped}
 pub use Rattle.sha2.specs.Sha256.{sha256}
 pub use Rattle.share_graph.specs.Checked.{IsChecked}

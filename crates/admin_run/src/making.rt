@@ -64,11 +64,12 @@ pub(crate) fn make<W: Setting, C: SiteDriver + Drop>(
         held,
         clock,
         door,
+        halls,
     } = world;
     let mut desk = match small_desk(alloc, held, sites) {
         Ok(desk) => desk,
         Err(held) => {
-            let world = joined(Wire { input, out, link }, held, clock, door);
+            let world = joined(Wire { input, out, link }, held, clock, door, halls);
             return Ran { status: 7, world };
         }
     };
@@ -83,6 +84,6 @@ pub(crate) fn make<W: Setting, C: SiteDriver + Drop>(
     let status = summarize(alloc, &mut out, &end, entries, made.out.written());
     let held = locked.into_held();
     let Wire { link, .. } = made;
-    let world = joined(Wire { input, out, link }, held, clock, door);
+    let world = joined(Wire { input, out, link }, held, clock, door, halls);
     Ran { status, world }
 }

@@ -37,18 +37,19 @@ pub(crate) fn play<W: Setting, C: SiteDriver + Drop>(
         held,
         clock,
         door,
+        halls,
     } = world;
     let mut wire = Wire { input, out, link };
     let mut desk = match small_desk(alloc, held, sites) {
         Ok(desk) => desk,
         Err(held) => {
-            let world = joined(wire, held, clock, door);
+            let world = joined(wire, held, clock, door, halls);
             return Ran { status: 7, world };
         }
     };
     let end = serve_conn(alloc, &routes, &mut wire, &mut desk);
     let status = status_of(end.end);
     let held = desk.into_locked().into_held();
-    let world = joined(wire, held, clock, door);
+    let world = joined(wire, held, clock, door, halls);
     Ran { status, world }
 }

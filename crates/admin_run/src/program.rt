@@ -1,27 +1,26 @@
 //! What the program does.
-ghost use Rattle.std.specs.Prelude.{◌⊎◌, map};
-ghost use Rattle.command_line.specs.Words.{IsLine};
+ghost use Rattle.std.specs.Prelude.{◌≡◌, ◌⊎◌, map};
+ghost use Rattle.command_line.specs.Words.{IsLine, tunnels_in};
 ghost use Rattle.command_line.specs.declared.line.Line.{Line as TheLine};
 ghost use Rattle.site_caps.specs.Registered.{IsRegistered};
 ghost use Rattle.hub_core.specs.Stopping.{OutliveStops};
 ghost use Rattle.admin_run.specs.Connection.{HasBook};
-ghost use Rattle.admin_run.specs.Outside.{DoesNothing, HasStatusCause, TellsUsage};
+ghost use Rattle.admin_run.specs.Outside.{AreInOrder, DoesNothing, HasStatusCause, TellsUsage};
 ghost use Rattle.admin_run.specs.Judging.{ChecksRows};
 ghost use Rattle.admin_run.specs.Playing.{ServesGrain};
 ghost use Rattle.admin_run.specs.Program.{AtDoor, BeginWithBook, Does, FromBook, ServeAtDoor};
-ghost use Rattle.serve_door.specs.Doors.{IsInOrder};
 
 use crate::judging::judge;
 use crate::making::make;
 use crate::playing::play;
-use crate::serving::serve;
+use crate::serving::{Counts, serve};
 use crate::statuses::status_of_end;
 use crate::telling::{USAGE, tell};
 use crate::world::{LinkOf, Ran, Setting, World};
-use command_line::{Line, line_of};
+use command_line::{Line, Tunnels, line_of};
 use grain_program::run_grain;
 use host_base::Memory;
-use serve_door::Door;
+use serve_door::{Door, HallDoor};
 use site_caps::SiteDriver;
 use std::alloc::Global;
 use std::sync::Wait;
@@ -60,6 +59,16 @@ fn usage<W: Setting>(world: World<W>) -> Ran<W>
     Ran { status, world }
 }
 
+// How many tunnels a line has served.
+fn tunnels_in(tunnels: Option<Tunnels>) -> u32
+    ensures { result ≡ tunnels_in tunnels }
+{
+    match tunnels {
+        Some(tunnels) => tunnels.count,
+        None => 0,
+    }
+}
+
 // Does what a line says.
 fn perform<R: Threads + Wait + Sync, W: Setting + Send, C: SiteDriver + Drop + Send>(
     rt: &R,
@@ -74,8 +83,10 @@ where
     W::Spawner: Send,
     W::Clock: Send,
     W::Door: Send,
+    W::Halls: Send,
     <W::Door as Door>::Input: Send,
     <W::Door as Door>::Output: Send,
+    <W::Halls as HallDoor>::Hall: Send,
     LinkOf<W>: Send,
     C::Law: Send,
     requires book { FromBook line → HasBook world.tells.holds.keeping }
@@ -83,7 +94,7 @@ where
         → OutliveStops world.tells.holds.keeping (W.Keeper.may_leave world.keeper) }
     requires registered { FromBook line ⊎ AtDoor line
         → IsRegistered C.Law.law.tags (map C.tag_of sites.items) }
-    requires order { AtDoor line → IsInOrder world.tells.doorway }
+    requires order { AtDoor line → AreInOrder world.tells }
     ensures does { Does C.Law.law line (W.Keeper.may_leave result.world.keeper) world.tells result.world.tells
         result.status }
     ensures cause { HasStatusCause world.tells result.world.tells result.status }
@@ -93,7 +104,13 @@ where
         Line::Gen { count, seed } => make(alloc, world, count, seed, sites),
         Line::Check => check(alloc, world),
         Line::Grain { count } => grain(alloc, world, count),
-        Line::Serve { count, .. } => serve(rt, alloc, world, count, sites),
+        Line::Serve { count, tunnels, .. } => {
+            let counts = Counts {
+                connections: count,
+                tunnels: tunnels_in(tunnels),
+            };
+            serve(rt, alloc, world, counts, sites)
+        }
         Line::Unknown => usage(world),
     }
 }
@@ -101,7 +118,7 @@ where
 /// All that the program does. `play` serves one connection from the small book, whose rows the keeper has to have so that they
 /// outlive a stop, with a driver for each site; `gen COUNT SEED` serves so many requests of a seed in the same way, over memory, and prints their
 /// summary; `serve FILE PORT COUNT` serves so many connections at its door from the rows of the keeper, with a driver for each
-/// site; `check FILE` says what the rows of the keeper state; `grain SOCKET COUNT` prints `ready` and answers so many
+/// site, and with `WSPORT WSCOUNT` so many tunnels at its halls beside them; `check FILE` says what the rows of the keeper state; `grain SOCKET COUNT` prints `ready` and answers so many
 /// connections at its door with what they were asked; any other words get the usage line.
 pub fn run<R: Threads + Wait + Sync, W: Setting + Send, C: SiteDriver + Drop + Send>(
     rt: &R,
@@ -116,8 +133,10 @@ where
     W::Spawner: Send,
     W::Clock: Send,
     W::Door: Send,
+    W::Halls: Send,
     <W::Door as Door>::Input: Send,
     <W::Door as Door>::Output: Send,
+    <W::Halls as HallDoor>::Hall: Send,
     LinkOf<W>: Send,
     C::Law: Send,
     requires book { BeginWithBook words.now → HasBook world.tells.holds.keeping }
@@ -125,7 +144,7 @@ where
         → OutliveStops world.tells.holds.keeping (W.Keeper.may_leave world.keeper) }
     requires registered { BeginWithBook words.now ⊎ ServeAtDoor words.now
         → IsRegistered C.Law.law.tags (map C.tag_of sites.items) }
-    requires order { ServeAtDoor words.now → IsInOrder world.tells.doorway }
+    requires order { ServeAtDoor words.now → AreInOrder world.tells }
 
     // What its words' line does, or nothing for want of memory.
     ensures does { (line : TheLine) → IsLine words.now line →

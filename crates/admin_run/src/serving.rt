@@ -1,12 +1,12 @@
-//! `serve`: workers serve the connections at the door, from the rows of a keeper.
-ghost use Rattle.std.specs.Prelude.{◌≡◌, ◌≢◌, ◌≤◌, ◌⊎◌, [], map, IfOk, IfErr};
+//! `serve`: workers serve the connections at the door and the tunnels at the halls, from the rows of a keeper.
+ghost use Rattle.std.specs.Prelude.{◌≡◌, ◌≢◌, ◌<◌, ◌≤◌, ◌⊎◌, [], map, IfOk, IfErr};
 ghost use Rattle.host_base.specs.Outside.{Rose};
 ghost use Rattle.row_tables.specs.Kept.{IsStored};
 ghost use Rattle.share_graph.specs.WellFormed.{IsWellFormed};
 ghost use Rattle.site_caps.specs.Registered.{IsRegistered};
 ghost use Rattle.hub_core.specs.Opening.{opened};
 ghost use Rattle.hub_core.specs.Stopping.{OutliveStops};
-ghost use Rattle.admin_run.specs.Outside.{HasStatusCause, Tells};
+ghost use Rattle.admin_run.specs.Outside.{AnyRose, AreInOrder, HasStatusCause, Tells, entrances};
 ghost use Rattle.admin_run.specs.Serving.{Serves, ServesHistory, TellsStop, served_line};
 ghost use Rattle.serve_door.specs.Doors.{IsInOrder};
 
@@ -18,7 +18,7 @@ use host_base::{Memory, Sink};
 use hub_core::{Held, Holding, Locked};
 use hub_jobs::{Done, do_at_once};
 use itoa::Buffer;
-use serve_door::{Door, Stop, Stopped, dismiss, hire};
+use serve_door::{Door, Entrance, HallDoor, Stop, Stopped, dismiss, hire};
 use share_graph::{Rows, State, Tables};
 use site_caps::{Registry, SiteDriver};
 use std::alloc::Global;
@@ -28,6 +28,9 @@ use std::thread::Threads;
 
 // How many workers there are beside the one at the door itself.
 const OTHER_WORKERS: u16 = 127;
+
+// How many there are beside the one at the halls themselves, where tunnels are to come.
+const OTHER_HALL_WORKERS: u16 = 63;
 
 // How many verdicts each worker's cache holds.
 const CACHED_VERDICTS: usize = 1024;
@@ -87,16 +90,32 @@ fn tell_stop<O: Sink>(out: &mut O, stopped: Stopped) -> u8
     }
 }
 
-// What serving leaves: the status, the objects that the desks worked with, and the door.
+// How many workers there are beside the one at the halls.
+fn hall_workers(tunnels: u32) -> u16
+    ensures none { tunnels ≡ 0 → result ≡ 0 }
+    ensures some { 0 < tunnels → result ≡ 63 }
+{
+    if tunnels == 0 { 0 } else { OTHER_HALL_WORKERS }
+}
+
+/// How many connections and how many tunnels are to be served.
+#[derive(Clone, Copy)]
+pub(crate) struct Counts {
+    pub(crate) connections: u32,
+    pub(crate) tunnels: u32,
+}
+
+// What serving leaves: the status, the objects that the desks worked with, the door and the halls.
 #[derive(Drop)]
 struct Served<W: Setting> {
     status: u8,
     held: Held<W>,
     door: W::Door,
+    halls: W::Halls,
 }
 
-// Workers serve so many connections on a history that has no entry yet; prints how many requests were answered where all were
-// served.
+// Workers serve so many connections and tunnels on a history that has no entry yet; prints how many requests were answered where all
+// were served.
 fn serve_history<R: Threads + Wait + Sync, W: Setting + Send, C: SiteDriver + Drop + Send>(
     rt: &R,
     alloc: Global,
@@ -104,8 +123,8 @@ fn serve_history<R: Threads + Wait + Sync, W: Setting + Send, C: SiteDriver + Dr
     out: &mut W::Output,
     link: &LinkOf<W>,
     clock: &W::Clock,
-    door: W::Door,
-    count: u32,
+    doors: (W::Door, W::Halls),
+    counts: Counts,
 ) -> Served<W>
 where
     W::Keeper: Send,
@@ -113,32 +132,47 @@ where
     W::Spawner: Send,
     W::Clock: Send,
     W::Door: Send,
+    W::Halls: Send,
     <W::Door as Door>::Input: Send,
     <W::Door as Door>::Output: Send,
+    <W::Halls as HallDoor>::Hall: Send,
     LinkOf<W>: Send,
     C::Law: Send,
     requires empty { locked.history ≡ [] }
-    requires order { IsInOrder (W.Door.doorway door) }
-    ensures serves { ServesHistory C.Law.law locked.start count (W.Keeper.may_leave result.held.keeper)
-        locked.holds result.held.tell (W.Door.doorway door) (W.Door.doorway result.door)
+    requires order { (IsInOrder (W.Door.doorway doors.0)) × (IsInOrder (W.Halls.doorway doors.1)) }
+    ensures serves { ServesHistory C.Law.law locked.start counts.connections counts.tunnels
+        (W.Keeper.may_leave result.held.keeper) locked.holds result.held.tell
+        (record { door = W.Door.doorway doors.0; halls = W.Halls.doorway doors.1 })
+        (record { door = W.Door.doorway result.door; halls = W.Halls.doorway result.halls })
         (W.Output.outlet out.old) (W.Output.outlet out.new) result.status }
     ensures counts { (W.Output.outlet out.old).faults ≤ (W.Output.outlet out.new).faults }
-    ensures taken { result.status ≡ 4
-        → Rose (W.Door.doorway door).faults (W.Door.doorway result.door).faults }
+    ensures taken { result.status ≡ 4 → AnyRose
+        (record { door = W.Door.doorway doors.0; halls = W.Halls.doorway doors.1 })
+        (record { door = W.Door.doorway result.door; halls = W.Halls.doorway result.halls }) }
     ensures written { result.status ≡ 5
         → Rose (W.Output.outlet out.old).faults (W.Output.outlet out.new).faults }
     ensures kept { result.status ≢ 9 }
 {
-    let mut door = door;
-    door.expect(count);
-    let workers = match hire(rt, alloc, door, link, OTHER_WORKERS) {
-        Ok(workers) => workers,
-        Err(door) => {
+    let (mut door, mut halls) = doors;
+    door.expect(counts.connections);
+    halls.expect(counts.tunnels);
+    let others = hall_workers(counts.tunnels);
+    let staff = match hire(
+        rt,
+        alloc,
+        (door, OTHER_WORKERS),
+        link,
+        (halls, others),
+        link,
+    ) {
+        Ok(staff) => staff,
+        Err((door, halls)) => {
             let held = locked.into_held();
             return Served {
                 status: 7,
                 held,
                 door,
+                halls,
             };
         }
     };
@@ -147,18 +181,24 @@ where
         locked,
         jobs,
         outcome,
-    } = do_at_once(rt, alloc, locked, room, clock, workers);
+    } = do_at_once(rt, alloc, locked, room, clock, staff.workers);
     let held = locked.into_held();
-    let (door, stopped) = dismiss(jobs);
+    let (door, halls, stopped) = dismiss(jobs, staff.doors, staff.halls);
     if outcome.is_err() {
         return Served {
             status: 7,
             held,
             door,
+            halls,
         };
     }
     let status = tell_stop(out, stopped);
-    Served { status, held, door }
+    Served {
+        status,
+        held,
+        door,
+        halls,
+    }
 }
 
 // The same from tables that the keeper has.
@@ -167,7 +207,7 @@ fn serve_tables<R: Threads + Wait + Sync, W: Setting + Send, C: SiteDriver + Dro
     alloc: Global,
     world: World<W>,
     tables: Tables,
-    count: u32,
+    counts: Counts,
     sites: Vec<C>,
 ) -> Ran<W>
 where
@@ -176,25 +216,29 @@ where
     W::Spawner: Send,
     W::Clock: Send,
     W::Door: Send,
+    W::Halls: Send,
     <W::Door as Door>::Input: Send,
     <W::Door as Door>::Output: Send,
+    <W::Halls as HallDoor>::Hall: Send,
     LinkOf<W>: Send,
     C::Law: Send,
     requires registered { IsRegistered C.Law.law.tags (map C.tag_of sites.items) }
-    requires order { IsInOrder world.tells.doorway }
+    requires order { AreInOrder world.tells }
     requires formed { IsWellFormed (opened tables) }
     requires stored { IsStored world.tells.holds.keeping tables }
     requires outlive { OutliveStops world.tells.holds.keeping (W.Keeper.may_leave world.keeper) }
-    ensures serves { ServesHistory C.Law.law (opened tables) count (W.Keeper.may_leave result.world.keeper)
-        world.tells.holds result.world.tells.holds world.tells.doorway result.world.tells.doorway
+    ensures serves { ServesHistory C.Law.law (opened tables) counts.connections counts.tunnels
+        (W.Keeper.may_leave result.world.keeper) world.tells.holds result.world.tells.holds
+        (entrances world.tells) (entrances result.world.tells)
         world.tells.outlet result.world.tells.outlet result.status }
     ensures others { result.world.tells ≡ record world.tells {
       outlet = result.world.tells.outlet;
       holds = result.world.tells.holds;
       doorway = result.world.tells.doorway;
+      hallway = result.world.tells.hallway;
     } }
     ensures counts { world.tells.outlet.faults ≤ result.world.tells.outlet.faults }
-    ensures taken { result.status ≡ 4 → Rose world.tells.doorway.faults result.world.tells.doorway.faults }
+    ensures taken { result.status ≡ 4 → AnyRose (entrances world.tells) (entrances result.world.tells) }
     ensures written { result.status ≡ 5 → Rose world.tells.outlet.faults result.world.tells.outlet.faults }
     ensures kept { result.status ≢ 9 }
 {
@@ -205,28 +249,33 @@ where
         held,
         clock,
         door,
+        halls,
     } = world;
     let locked = match open_tables(alloc, held, tables, sites) {
         Ok(locked) => locked,
         Err(held) => {
-            let world = joined(Wire { input, out, link }, held, clock, door);
+            let world = joined(Wire { input, out, link }, held, clock, door, halls);
             return Ran { status: 7, world };
         }
     };
-    let Served { status, held, door } = serve_history(
-        rt, alloc, locked, &mut out, &link, &clock, door, count,
-    );
-    let world = joined(Wire { input, out, link }, held, clock, door);
+    let doors = (door, halls);
+    let Served {
+        status,
+        held,
+        door,
+        halls,
+    } = serve_history(rt, alloc, locked, &mut out, &link, &clock, doors, counts);
+    let world = joined(Wire { input, out, link }, held, clock, door, halls);
     Ran { status, world }
 }
 
-/// Serves so many connections by workers, from the rows of the keeper. Where it has none it begins with the first account, and
+/// Serves so many connections and tunnels by workers, from the rows of the keeper. Where it has none it begins with the first account, and
 /// prints its login.
 pub(crate) fn serve<R: Threads + Wait + Sync, W: Setting + Send, C: SiteDriver + Drop + Send>(
     rt: &R,
     alloc: Global,
     world: World<W>,
-    count: u32,
+    counts: Counts,
     sites: Vec<C>,
 ) -> Ran<W>
 where
@@ -235,14 +284,16 @@ where
     W::Spawner: Send,
     W::Clock: Send,
     W::Door: Send,
+    W::Halls: Send,
     <W::Door as Door>::Input: Send,
     <W::Door as Door>::Output: Send,
+    <W::Halls as HallDoor>::Hall: Send,
     LinkOf<W>: Send,
     C::Law: Send,
     requires registered { IsRegistered C.Law.law.tags (map C.tag_of sites.items) }
-    requires order { IsInOrder world.tells.doorway }
-    ensures serves { Serves C.Law.law count (W.Keeper.may_leave result.world.keeper) world.tells result.world.tells
-        result.status }
+    requires order { AreInOrder world.tells }
+    ensures serves { Serves C.Law.law counts.connections counts.tunnels (W.Keeper.may_leave result.world.keeper)
+        world.tells result.world.tells result.status }
     ensures cause { HasStatusCause world.tells result.world.tells result.status }
 {
     let mut world = world;
@@ -261,5 +312,5 @@ where
             world,
         };
     }
-    serve_tables(rt, alloc, world, tables, count, sites)
+    serve_tables(rt, alloc, world, tables, counts, sites)
 }

@@ -8,7 +8,7 @@ use grain_supervise::Spawner;
 use host_base::{Secrets, Sink, Source};
 use host_clock::Clock;
 use hub_core::{Held, Holding};
-use serve_door::Door;
+use serve_door::{Door, Entrance, HallDoor};
 use std::marker::{Model, PhantomData};
 
 /// Of which types the objects are that the program is run with.
@@ -21,10 +21,12 @@ pub trait Setting: Holding {
     type Clock: Clock + Drop;
     /// Where connections come in, and the link to the grains.
     type Door: Door + Drop;
+    /// Where tunnels come in, over such a link.
+    type Halls: HallDoor + Entrance<Link = <Self::Door as Entrance>::Link> + Drop;
 }
 
 /// The link to the grains.
-pub type LinkOf<W> = <<W as Setting>::Door as Door>::Link;
+pub type LinkOf<W> = <<W as Setting>::Door as Entrance>::Link;
 
 /// What the program is run with beside its words and the drivers of its sites. It is the keeper, and what these objects tell.
 #[derive(Drop)]
@@ -35,6 +37,7 @@ pub struct World<W: Setting> {
     pub held: Held<W>,
     pub clock: W::Clock,
     pub door: W::Door,
+    pub halls: W::Halls,
 }
 
 impl<W: Setting> Model for World<W> {
@@ -42,7 +45,7 @@ impl<W: Setting> Model for World<W> {
 
     ghost Value = { WorldOf W.Keeper };
 
-    ghost view = { λ world. record { keeper = world.held.keeper; tells = record { inlet = W.Input.inlet world.input; outlet = W.Output.outlet world.out; line = W.Door.Link.line world.link; holds = world.held.tell; moments = W.Clock.moments world.clock; doorway = W.Door.doorway world.door } } };
+    ghost view = { λ world. record { keeper = world.held.keeper; tells = record { inlet = W.Input.inlet world.input; outlet = W.Output.outlet world.out; line = W.Door.Link.line world.link; holds = world.held.tell; moments = W.Clock.moments world.clock; doorway = W.Door.doorway world.door; hallway = W.Halls.doorway world.halls } } };
 }
 
 /// The status of a run, with its world handed back.
@@ -52,11 +55,11 @@ pub struct Ran<W: Setting> {
     pub world: World<W>,
 }
 
-/// The setting of these types of objects: input, output, keeper, secrets, spawner, clock and door.
-pub struct Of<I, O, K, S, P, T, E>(PhantomData<(I, O, K, S, P, T, E)>);
+/// The setting of these types of objects: input, output, keeper, secrets, spawner, clock, door and halls.
+pub struct Of<I, O, K, S, P, T, E, H>(PhantomData<(I, O, K, S, P, T, E, H)>);
 
-impl<I, O, K: Keeper + Drop, S: Secrets + Drop, P: Spawner + Drop, T, E> Holding
-    for Of<I, O, K, S, P, T, E> {
+impl<I, O, K: Keeper + Drop, S: Secrets + Drop, P: Spawner + Drop, T, E, H> Holding
+    for Of<I, O, K, S, P, T, E, H> {
     type Keeper = K;
 
     type Secrets = S;
@@ -72,7 +75,8 @@ impl<
     P: Spawner + Drop,
     T: Clock + Drop,
     E: Door + Drop,
-> Setting for Of<I, O, K, S, P, T, E> {
+    H: HallDoor + Entrance<Link = E::Link> + Drop,
+> Setting for Of<I, O, K, S, P, T, E, H> {
     type Input = I;
 
     type Output = O;
@@ -80,6 +84,8 @@ impl<
     type Clock = T;
 
     type Door = E;
+
+    type Halls = H;
 }
 
 /// The world of these objects.
@@ -91,6 +97,7 @@ pub fn world_of<
     P: Spawner + Drop,
     T: Clock + Drop,
     E: Door + Drop,
+    H: HallDoor + Entrance<Link = E::Link> + Drop,
 >(
     input: I,
     out: O,
@@ -100,7 +107,8 @@ pub fn world_of<
     spawner: P,
     clock: T,
     door: E,
-) -> World<Of<I, O, K, S, P, T, E>>
+    halls: H,
+) -> World<Of<I, O, K, S, P, T, E, H>>
     ensures keeper { result.keeper ≡ keeper }
     ensures tells { result.tells ≡ record {
       inlet = I.inlet input;
@@ -109,6 +117,7 @@ pub fn world_of<
       holds = record { keeping = K.keeping keeper; drawer = S.drawer secrets; spawns = P.spawns spawner };
       moments = T.moments clock;
       doorway = E.doorway door;
+      hallway = H.doorway halls;
     } }
 {
     World {
@@ -122,6 +131,7 @@ pub fn world_of<
         },
         clock,
         door,
+        halls,
     }
 }
 
@@ -131,6 +141,7 @@ pub(crate) fn joined<W: Setting>(
     held: Held<W>,
     clock: W::Clock,
     door: W::Door,
+    halls: W::Halls,
 ) -> World<W>
     ensures keeper { result.keeper ≡ held.keeper }
     ensures tells { result.tells ≡ record {
@@ -140,6 +151,7 @@ pub(crate) fn joined<W: Setting>(
       holds = held.tell;
       moments = W.Clock.moments clock;
       doorway = W.Door.doorway door;
+      hallway = W.Halls.doorway halls;
     } }
 {
     let Wire { input, out, link } = wire;
@@ -150,5 +162,6 @@ pub(crate) fn joined<W: Setting>(
         held,
         clock,
         door,
+        halls,
     }
 }

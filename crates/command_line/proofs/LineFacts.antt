@@ -1,13 +1,24 @@
 -- What the lines' words are like.
-use Rattle.std.proofs.Common.{◌≡◌, ◌≢◌, ◌<◌, ℕ, List, length, [], ◌∷◌, map, codes, String, string_bytes, sym, subst, refl, arith}
+use Rattle.std.proofs.Common.{◌≡◌, ◌≢◌, ◌<◌, ◌∙◌, ℕ, List, length, [], ◌∷◌, Option, None, Some, map, codes, get_or, String, string_bytes, sym, ap, ap₂, subst, refl, arith}
 use Rattle.std.proofs.Math.ListN.{get_or-map, length-map}
 use Rattle.std.specs.List.{All}
 use Rattle.std.specs.Str.Parse.{IsNumeral}
 use Rattle.std.specs.declared.alloc.Global.{Global}
 use Rattle.std.proofs.lemmas.List.Elements.{All-cons, All-nil}
 use Rattle.std.proofs.lemmas.Str.Parse.{digit_from_value}
+use Rattle.command_line.specs.declared.line.Line.{Line}
 use Rattle.command_line.specs.declared.line.Line.TheVariants as line
-use Rattle.command_line.specs.Words.{IsCheck, IsGen, IsGrainLine, IsNoLine, IsOneOfLines, IsPath, IsPlay, IsServe}
+use Rattle.command_line.specs.declared.line.Tunnels.{Tunnels}
+use Rattle.command_line.specs.Words.{IsCheck, IsCount, IsGen, IsGrainLine, IsLine, IsNoLine, IsOneOfLines, IsPath, IsPlay, IsServe, IsServeBoth}
+
+-- a word's text says the number that the words' texts have at its place
+pub count_said : (limit count : ℕ) (words : List (String Global)) (texts : List (List ℕ)) (place : ℕ) (word : String Global) (text : List ℕ)
+    → map string_bytes words ≡ texts → word ≡ get_or words place word → text ≡ string_bytes word
+    → IsCount limit (get_or texts place (string_bytes word)) count → IsCount limit text count
+count_said limit count words texts place word text are is reads counts =
+    let P : List ℕ → Type 0 = λ digits. IsCount limit digits count in
+    let there = ap (λ (xs : List (List ℕ)). get_or xs place (string_bytes word)) are in
+    subst P (sym (reads ∙ ap string_bytes is ∙ sym (get_or-map string_bytes words place word) ∙ there)) counts
 
 begins : (x : ℕ) (xs : List ℕ) → x ≢ 45 → IsPath (x ∷ xs)
 begins x xs other e = other cc
@@ -35,6 +46,9 @@ digits_path (x ∷ xs) is e =
     let range = digit_from_value x is.1.0 in
     omega (arith, range.0, range.1)
 
+count_path : (limit : ℕ) (digits : List ℕ) (count : ℕ) → IsCount limit digits count → IsPath digits
+count_path limit digits count is = digits_path digits is.number.numeral
+
 -- what holds of the texts of words holds of the words
 pub each_path : (words : List (String Global)) → All IsPath (map string_bytes words) → All (λ word. IsPath (string_bytes word)) words
 each_path words paths k d within =
@@ -57,8 +71,17 @@ module _ (words : List (String Global)) where
   serve_plain : (port count : ℕ) → IsServe words port count → AllPaths (map string_bytes words)
   serve_plain port count is = subst AllPaths (sym is.words_are)
       (All-cons IsPath (codes "serve") (is.file ∷ is.port_digits ∷ is.count_digits ∷ []) serve_path
-      (three_paths is.file is.port_digits is.count_digits is.path (digits_path is.port_digits is.port_is.number.numeral)
-      (digits_path is.count_digits is.count_is.number.numeral)))
+      (three_paths is.file is.port_digits is.count_digits is.path (count_path 65535 is.port_digits port is.port_is)
+      (count_path 1000000 is.count_digits count is.count_is)))
+
+  serve_both_plain : (port count : ℕ) (tunnels : Tunnels) → IsServeBoth words port count tunnels → AllPaths (map string_bytes words)
+  serve_both_plain port count tunnels is = subst AllPaths (sym is.words_are)
+      (All-cons IsPath (codes "serve") (is.file ∷ is.port_digits ∷ is.count_digits ∷ is.ws_port_digits ∷ is.ws_count_digits ∷ []) serve_path
+      (All-cons IsPath is.file (is.port_digits ∷ is.count_digits ∷ is.ws_port_digits ∷ is.ws_count_digits ∷ []) is.path
+      (All-cons IsPath is.port_digits (is.count_digits ∷ is.ws_port_digits ∷ is.ws_count_digits ∷ [])
+      (count_path 65535 is.port_digits port is.port_is)
+      (three_paths is.count_digits is.ws_port_digits is.ws_count_digits (count_path 1000000 is.count_digits count is.count_is)
+      (count_path 65535 is.ws_port_digits tunnels.port is.ws_port_is) (count_path 1000000 is.ws_count_digits tunnels.count is.ws_count_is)))))
 
   gen_plain : (count seed : ℕ) → IsGen words count seed → AllPaths (map string_bytes words)
   gen_plain count seed is = subst AllPaths (sym is.words_are)
@@ -77,48 +100,71 @@ module _ (words : List (String Global)) where
   no_line_with_option bad = record {
     play = λ is. bad (play_plain is);
     serve = λ port count is. bad (serve_plain port count is);
+    serve_both = λ port count tunnels is. bad (serve_both_plain port count tunnels is);
     gen = λ count seed is. bad (gen_plain count seed is);
     check = λ is. bad (check_plain is);
     grain = λ count is. bad (grain_plain count is);
   }
 
+-- the words of either `serve` begin with it
+serve_words : (words : List (String Global)) (port count : ℕ) (tunnels : Option Tunnels) → IsLine words (line.Serve port count tunnels)
+    → (rest : List (List ℕ)) × (map string_bytes words ≡ codes "serve" ∷ rest)
+serve_words words port count None is = (_, is.words_are)
+serve_words words port count (Some tunnels) is = (_, is.words_are)
+
+no_serve : (words : List (String Global)) (port count : ℕ) (tunnels : Option Tunnels) → IsLine words (line.Serve port count tunnels) → IsNoLine words → ⊥
+no_serve words port count None is none = none.serve port count is
+no_serve words port count (Some tunnels) is none = none.serve_both port count tunnels is
+
+-- words are one `serve` at most
+one_serve : (words : List (String Global)) (p n q m : ℕ) (some other : Option Tunnels)
+    → IsLine words (line.Serve p n some) → IsLine words (line.Serve q m other) → ◌≡◌ {A = Line} (line.Serve p n some) (line.Serve q m other)
+one_serve words p n q m None None a b =
+    cc (a.words_are, b.words_are, a.port_is.number.value, b.port_is.number.value, a.count_is.number.value, b.count_is.number.value)
+one_serve words p n q m None (Some u) a b = cc (a.words_are, b.words_are)
+one_serve words p n q m (Some t) None a b = cc (a.words_are, b.words_are)
+one_serve words p n q m (Some t) (Some u) a b =
+    let ports : t.port ≡ u.port = cc (a.words_are, b.words_are, a.ws_port_is.number.value, b.ws_port_is.number.value) in
+    let counts : t.count ≡ u.count = cc (a.words_are, b.words_are, a.ws_count_is.number.value, b.ws_count_is.number.value) in
+    let same : t ≡ u = ap₂ (λ (port count : ℕ). let tunnels : Tunnels = record { port = port; count = count } in tunnels) ports counts in
+    cc (a.words_are, b.words_are, a.port_is.number.value, b.port_is.number.value, a.count_is.number.value, b.count_is.number.value)
+
 -- words are one line at most
 pub one_line : (words : List (String Global)) → IsOneOfLines words
 one_line words line.Play line.Play a b = refl
-one_line words line.Play (line.Serve p n) a b = cc (a, b.words_are)
-one_line words line.Play (line.Gen n s) a b = cc (a, b.words_are)
+one_line words line.Play (line.Serve q m y) a b = cc (a, (serve_words words q m y b).1)
+one_line words line.Play (line.Gen m t) a b = cc (a, b.words_are)
 one_line words line.Play line.Check a b = cc (a, b.words_are)
-one_line words line.Play (line.Grain n) a b = cc (a, b.words_are)
+one_line words line.Play (line.Grain m) a b = cc (a, b.words_are)
 one_line words line.Play line.Unknown a b = absurd (b.play a)
-one_line words (line.Serve p n) line.Play a b = cc (a.words_are, b)
-one_line words (line.Serve p n) (line.Serve q m) a b =
-    cc (a.words_are, b.words_are, a.port_is.number.value, b.port_is.number.value, a.count_is.number.value, b.count_is.number.value)
-one_line words (line.Serve p n) (line.Gen m s) a b = cc (a.words_are, b.words_are)
-one_line words (line.Serve p n) line.Check a b = cc (a.words_are, b.words_are)
-one_line words (line.Serve p n) (line.Grain m) a b = cc (a.words_are, b.words_are)
-one_line words (line.Serve p n) line.Unknown a b = absurd (b.serve p n a)
+one_line words (line.Serve p n x) line.Play a b = cc ((serve_words words p n x a).1, b)
+one_line words (line.Serve p n x) (line.Serve q m y) a b = one_serve words p n q m x y a b
+one_line words (line.Serve p n x) (line.Gen m t) a b = cc ((serve_words words p n x a).1, b.words_are)
+one_line words (line.Serve p n x) line.Check a b = let other : ◌≡◌ {A = ℕ} 115 99 = cc ((serve_words words p n x a).1, b.words_are) in absurd (omega arith)
+one_line words (line.Serve p n x) (line.Grain m) a b = let other : ◌≡◌ {A = ℕ} 115 103 = cc ((serve_words words p n x a).1, b.words_are) in absurd (omega arith)
+one_line words (line.Serve p n x) line.Unknown a b = absurd (no_serve words p n x a b)
 one_line words (line.Gen n s) line.Play a b = cc (a.words_are, b)
-one_line words (line.Gen n s) (line.Serve p m) a b = cc (a.words_are, b.words_are)
+one_line words (line.Gen n s) (line.Serve q m y) a b = cc (a.words_are, (serve_words words q m y b).1)
 one_line words (line.Gen n s) (line.Gen m t) a b =
     cc (a.words_are, b.words_are, a.count_is.number.value, b.count_is.number.value, a.seed_is.value, b.seed_is.value)
 one_line words (line.Gen n s) line.Check a b = cc (a.words_are, b.words_are)
 one_line words (line.Gen n s) (line.Grain m) a b = let other : ◌≡◌ {A = ℕ} 101 114 = cc (a.words_are, b.words_are) in absurd (omega arith)
 one_line words (line.Gen n s) line.Unknown a b = absurd (b.gen n s a)
 one_line words line.Check line.Play a b = cc (a.words_are, b)
-one_line words line.Check (line.Serve p n) a b = cc (a.words_are, b.words_are)
-one_line words line.Check (line.Gen n s) a b = cc (a.words_are, b.words_are)
+one_line words line.Check (line.Serve q m y) a b = let other : ◌≡◌ {A = ℕ} 99 115 = cc (a.words_are, (serve_words words q m y b).1) in absurd (omega arith)
+one_line words line.Check (line.Gen m t) a b = cc (a.words_are, b.words_are)
 one_line words line.Check line.Check a b = refl
-one_line words line.Check (line.Grain n) a b = cc (a.words_are, b.words_are)
+one_line words line.Check (line.Grain m) a b = cc (a.words_are, b.words_are)
 one_line words line.Check line.Unknown a b = absurd (b.check a)
 one_line words (line.Grain n) line.Play a b = cc (a.words_are, b)
-one_line words (line.Grain n) (line.Serve p m) a b = cc (a.words_are, b.words_are)
-one_line words (line.Grain n) (line.Gen m s) a b = let other : ◌≡◌ {A = ℕ} 114 101 = cc (a.words_are, b.words_are) in absurd (omega arith)
+one_line words (line.Grain n) (line.Serve q m y) a b = let other : ◌≡◌ {A = ℕ} 103 115 = cc (a.words_are, (serve_words words q m y b).1) in absurd (omega arith)
+one_line words (line.Grain n) (line.Gen m t) a b = let other : ◌≡◌ {A = ℕ} 114 101 = cc (a.words_are, b.words_are) in absurd (omega arith)
 one_line words (line.Grain n) line.Check a b = cc (a.words_are, b.words_are)
 one_line words (line.Grain n) (line.Grain m) a b = cc (a.words_are, b.words_are, a.count_is.number.value, b.count_is.number.value)
 one_line words (line.Grain n) line.Unknown a b = absurd (b.grain n a)
 one_line words line.Unknown line.Play a b = absurd (a.play b)
-one_line words line.Unknown (line.Serve p n) a b = absurd (a.serve p n b)
-one_line words line.Unknown (line.Gen n s) a b = absurd (a.gen n s b)
+one_line words line.Unknown (line.Serve q m y) a b = absurd (no_serve words q m y b a)
+one_line words line.Unknown (line.Gen m t) a b = absurd (a.gen m t b)
 one_line words line.Unknown line.Check a b = absurd (a.check b)
-one_line words line.Unknown (line.Grain n) a b = absurd (a.grain n b)
+one_line words line.Unknown (line.Grain m) a b = absurd (a.grain m b)
 one_line words line.Unknown line.Unknown a b = refl

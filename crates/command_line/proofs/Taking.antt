@@ -1,5 +1,5 @@
 -- The command takes the words of each line.
-use Rattle.std.proofs.Common.{◌≡◌, ◌≢◌, ◌∙◌, ℕ, Bool, true, false, List, [], ◌∷◌, None, map, codes, String, string_bytes, sym, subst, refl, eqb, length, lit<, ◌<◌}
+use Rattle.std.proofs.Common.{◌≡◌, ◌≢◌, ◌∙◌, ℕ, Bool, true, false, List, [], ◌∷◌, None, map, codes, String, string_bytes, sym, ap, fold, subst, refl, eqb, length, lit<, ◌<◌}
 use Rattle.std.specs.List.{All, slice_index_or}
 use Rattle.std.specs.Str.{bytes_eq}
 use Rattle.std.specs.declared.alloc.Global.{Global}
@@ -11,7 +11,8 @@ use Rattle.clap.specs.Simple.{App, Shape, built_leaf, inherited, marked_built, w
 use Rattle.clap.specs.Walk.{Held, Rule, Text, Walk, arg_by_index, finished, idle, nothing_held, settled, to_positional, value, walk, walk_from, walked, word_met}
 use Rattle.clap.proofs.OnLiterals.{clap_on_literals}
 use Rattle.command_line.specs.Program.{check, gen, grain, program, serve}
-use Rattle.command_line.specs.Words.{IsNoLine, IsPath}
+use Rattle.command_line.specs.declared.line.Tunnels.{Tunnels}
+use Rattle.command_line.specs.Words.{IsNoLine, IsPath, IsServeBoth}
 
 -- the word is no option
 pub record IsPlain (word : Text) : Type 0 where
@@ -39,6 +40,12 @@ word_walked : (rules : List Rule) (place : ℕ) (word : Text) (held : Held) → 
     → walked rules [] (at_place held place) word ≡ to_positional rules (arg_by_index rules place) word (at_place held place) held
 unfolding walked
 word_walked rules place word held is = rw (word_plain rules place word held is) refl
+
+-- the walk over a word and those behind it
+walk_past : (rules : List Rule) (place : ℕ) (word : Text) (held : Held) (words : List Text) → IsPlain word
+    → fold (walked rules []) (at_place held place) (word ∷ words)
+    ≡ fold (walked rules []) (to_positional rules (arg_by_index rules place) word (at_place held place) held) words
+walk_past rules place word held words is = ap (λ (w : Walk). fold (walked rules []) w words) (word_walked rules place word held is)
 
 word_turn : (shape : Shape) (place : ℕ) (word : Text) (held : Held) → IsPlain word → turn_fault shape [] (at_place held place) word ≡ step_fault shape place held value
 word_turn shape place word held is =
@@ -89,7 +96,7 @@ module _ (u v : Text) (first : IsPlain u) (second : IsPlain v) where
 
   gen_walk : walk (leaf gen).rules [] nothing_held (u ∷ v ∷ []) ≡ at_place (behind (leaf gen) 2 v gen_one) 3
   unfolding clap_on_literals
-  gen_walk = (λ i. walked (leaf gen).rules [] (word_walked (leaf gen).rules 1 u nothing_held first i) v) ∙ word_walked (leaf gen).rules 2 v gen_one second
+  gen_walk = walk_past (leaf gen).rules 1 u nothing_held (v ∷ []) first ∙ word_walked (leaf gen).rules 2 v gen_one second
 
   gen_faults : walk_fault (leaf gen) [] (walk_from nothing_held) (u ∷ v ∷ []) ≡ []
   unfolding clap_on_literals
@@ -109,7 +116,7 @@ module _ (u v : Text) (first : IsPlain u) (second : IsPlain v) where
 
   grain_walk : walk (leaf grain).rules [] nothing_held (u ∷ v ∷ []) ≡ at_place (behind (leaf grain) 2 v grain_one) 3
   unfolding clap_on_literals
-  grain_walk = (λ i. walked (leaf grain).rules [] (word_walked (leaf grain).rules 1 u nothing_held first i) v) ∙ word_walked (leaf grain).rules 2 v grain_one second
+  grain_walk = walk_past (leaf grain).rules 1 u nothing_held (v ∷ []) first ∙ word_walked (leaf grain).rules 2 v grain_one second
 
   grain_faults : walk_fault (leaf grain) [] (walk_from nothing_held) (u ∷ v ∷ []) ≡ []
   unfolding clap_on_literals
@@ -130,22 +137,47 @@ module _ (u v w : Text) (first : IsPlain u) (second : IsPlain v) (third : IsPlai
   abbrev serve_two : Held
   serve_two = behind (leaf serve) 2 v serve_one
 
-  serve_walk : walk (leaf serve).rules [] nothing_held (u ∷ v ∷ w ∷ []) ≡ at_place (behind (leaf serve) 3 w serve_two) 4
-  unfolding clap_on_literals
-  serve_walk = (λ i. walked (leaf serve).rules [] (walked (leaf serve).rules [] (word_walked (leaf serve).rules 1 u nothing_held first i) v) w)
-      ∙ (λ i. walked (leaf serve).rules [] (word_walked (leaf serve).rules 2 v serve_one second i) w) ∙ word_walked (leaf serve).rules 3 w serve_two third
+  abbrev serve_three : Held
+  serve_three = behind (leaf serve) 3 w serve_two
 
-  serve_faults : walk_fault (leaf serve) [] (walk_from nothing_held) (u ∷ v ∷ w ∷ []) ≡ []
+  -- the walk over the places that have to be filled, and what words there may be behind them
+  serve_walk : (rest : List Text) → walk (leaf serve).rules [] nothing_held (u ∷ v ∷ w ∷ rest) ≡ fold (walked (leaf serve).rules []) (at_place serve_three 4) rest
   unfolding clap_on_literals
-  serve_faults = walk_on (leaf serve) 1 u nothing_held (v ∷ w ∷ []) first ∙ walk_on (leaf serve) 2 v serve_one (w ∷ []) second ∙ walk_on (leaf serve) 3 w serve_two [] third
+  serve_walk rest = walk_past (leaf serve).rules 1 u nothing_held (v ∷ w ∷ rest) first
+      ∙ walk_past (leaf serve).rules 2 v serve_one (w ∷ rest) second ∙ walk_past (leaf serve).rules 3 w serve_two rest third
+
+  serve_faults : (rest : List Text) → walk_fault (leaf serve) [] (walk_from nothing_held) (u ∷ v ∷ w ∷ rest) ≡ walk_fault (leaf serve) [] (at_place serve_three 4) rest
+  unfolding clap_on_literals
+  serve_faults rest = walk_on (leaf serve) 1 u nothing_held (v ∷ w ∷ rest) first ∙ walk_on (leaf serve) 2 v serve_one (w ∷ rest) second
+      ∙ walk_on (leaf serve) 3 w serve_two rest third
 
   serve_leaf : level_fault (leaf serve) [] nothing_held (u ∷ v ∷ w ∷ []) false [] ≡ []
   unfolding clap_on_literals
-  serve_leaf = (λ i. or_else (serve_faults i) (rest_fault (leaf serve) (serve_walk i)))
+  serve_leaf = (λ i. or_else (serve_faults [] i) (rest_fault (leaf serve) (serve_walk [] i)))
 
   pub takes_serve : fault_of program (codes "serve" ∷ u ∷ v ∷ w ∷ []) ≡ []
   unfolding clap_on_literals
   takes_serve = (λ i. or_else (serve_leaf i) [])
+
+  module _ (x y : Text) (fourth : IsPlain x) (fifth : IsPlain y) where
+    abbrev serve_four : Held
+    serve_four = behind (leaf serve) 4 x serve_three
+
+    both_walk : walk (leaf serve).rules [] nothing_held (u ∷ v ∷ w ∷ x ∷ y ∷ []) ≡ at_place (behind (leaf serve) 5 y serve_four) 6
+    unfolding clap_on_literals
+    both_walk = serve_walk (x ∷ y ∷ []) ∙ walk_past (leaf serve).rules 4 x serve_three (y ∷ []) fourth ∙ word_walked (leaf serve).rules 5 y serve_four fifth
+
+    both_faults : walk_fault (leaf serve) [] (walk_from nothing_held) (u ∷ v ∷ w ∷ x ∷ y ∷ []) ≡ []
+    unfolding clap_on_literals
+    both_faults = serve_faults (x ∷ y ∷ []) ∙ walk_on (leaf serve) 4 x serve_three (y ∷ []) fourth ∙ walk_on (leaf serve) 5 y serve_four [] fifth
+
+    both_leaf : level_fault (leaf serve) [] nothing_held (u ∷ v ∷ w ∷ x ∷ y ∷ []) false [] ≡ []
+    unfolding clap_on_literals
+    both_leaf = (λ i. or_else (both_faults i) (rest_fault (leaf serve) (both_walk i)))
+
+    pub takes_serve_both : fault_of program (codes "serve" ∷ u ∷ v ∷ w ∷ x ∷ y ∷ []) ≡ []
+    unfolding clap_on_literals
+    takes_serve_both = (λ i. or_else (both_leaf i) [])
 
 pub takes_play : fault_of program (codes "play" ∷ []) ≡ []
 unfolding clap_on_literals
@@ -159,6 +191,9 @@ module _ (words : List (String Global)) (paths : All IsPath (map string_bytes wo
   word_at : (texts : List Text) (place : ℕ) → map string_bytes words ≡ texts → place < length texts → IsPlain (slice_index_or texts place [])
   word_at texts place are within = plain (slice_index_or texts place []) (subst (All IsPath) are paths place [] within)
 
+  abbrev both_texts : (port count : ℕ) (tunnels : Tunnels) → IsServeBoth words port count tunnels → List Text
+  both_texts port count tunnels is = codes "serve" ∷ is.file ∷ is.port_digits ∷ is.count_digits ∷ is.ws_port_digits ∷ is.ws_count_digits ∷ []
+
   pub no_line_refused : IsNoLine words
   no_line_refused = record {
     play = λ is. fault (subst Taken (sym is) takes_play);
@@ -166,6 +201,11 @@ module _ (words : List (String Global)) (paths : All IsPath (map string_bytes wo
         (word_at (codes "serve" ∷ is.file ∷ is.port_digits ∷ is.count_digits ∷ []) 1 is.words_are (lit< tt))
         (word_at (codes "serve" ∷ is.file ∷ is.port_digits ∷ is.count_digits ∷ []) 2 is.words_are (lit< tt))
         (word_at (codes "serve" ∷ is.file ∷ is.port_digits ∷ is.count_digits ∷ []) 3 is.words_are (lit< tt))));
+    serve_both = λ port count tunnels is. let texts : List Text = both_texts port count tunnels is in
+        fault (subst Taken (sym is.words_are) (takes_serve_both is.file is.port_digits is.count_digits
+        (word_at texts 1 is.words_are (lit< tt)) (word_at texts 2 is.words_are (lit< tt)) (word_at texts 3 is.words_are (lit< tt))
+        is.ws_port_digits is.ws_count_digits
+        (word_at texts 4 is.words_are (lit< tt)) (word_at texts 5 is.words_are (lit< tt))));
     gen = λ count seed is. fault (subst Taken (sym is.words_are) (takes_gen is.count_digits is.seed_digits
         (word_at (codes "gen" ∷ is.count_digits ∷ is.seed_digits ∷ []) 1 is.words_are (lit< tt))
         (word_at (codes "gen" ∷ is.count_digits ∷ is.seed_digits ∷ []) 2 is.words_are (lit< tt))));

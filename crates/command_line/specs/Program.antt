@@ -11,11 +11,20 @@ place_rule id = record (new_rule id) { required = true }
 abbrev pub with_place : App → Text → App
 with_place app id = with_rule app (place_rule id)
 
+-- a command with one more place that needn't be filled
+abbrev pub with_option : App → Text → App
+with_option app id = with_rule app (new_rule id)
+
 abbrev pub play : App
 play = new_app (codes "play")
 
+-- `serve` with the places that have to be filled
+abbrev pub serve_alone : App
+serve_alone = with_place (with_place (with_place (new_app (codes "serve")) (codes "file")) (codes "port")) (codes "count")
+
+-- `serve`, with the places of its tunnels
 abbrev pub serve : App
-serve = with_place (with_place (with_place (new_app (codes "serve")) (codes "file")) (codes "port")) (codes "count")
+serve = with_option (with_option serve_alone (codes "wsport")) (codes "wscount")
 
 abbrev pub gen : App
 gen = with_place (with_place (new_app (codes "gen")) (codes "count")) (codes "seed")

@@ -1,9 +1,10 @@
 -- The lines that the program's words may be.
-use Rattle.std.specs.Prelude.{◌≡◌, ◌≤◌, ℕ, List, [], ◌∷◌, Some, length, map, slice_get, codes, String, string_bytes}
+use Rattle.std.specs.Prelude.{◌≡◌, ◌≤◌, ℕ, List, [], ◌∷◌, Option, None, Some, length, map, slice_get, codes, String, string_bytes}
 use Rattle.std.specs.Str.Parse.{IsNumeral, digits_value}
 use Rattle.std.specs.declared.alloc.Global.{Global}
 use Rattle.command_line.specs.declared.line.Line.{Line}
 use Rattle.command_line.specs.declared.line.Line.TheVariants as line
+use Rattle.command_line.specs.declared.line.Tunnels.{Tunnels}
 
 -- 1 to 10 decimal digits, leading zeros among them, and their number
 pub record IsDecimalOf (digits : List ℕ) (number : ℕ) : Type 0 where
@@ -35,6 +36,26 @@ pub record IsServe (words : List (String Global)) (port count : ℕ) : Type 0 wh
   pub port_is : IsCount 65535 port_digits port
   pub count_is : IsCount 1000000 count_digits count
 
+-- The words `serve FILE PORT COUNT WSPORT WSCOUNT`.
+pub record IsServeBoth (words : List (String Global)) (port count : ℕ) (tunnels : Tunnels) : Type 0 where
+  pub file : List ℕ
+  pub port_digits : List ℕ
+  pub count_digits : List ℕ
+  pub ws_port_digits : List ℕ
+  pub ws_count_digits : List ℕ
+  pub words_are : map string_bytes words
+      ≡ codes "serve" ∷ file ∷ port_digits ∷ count_digits ∷ ws_port_digits ∷ ws_count_digits ∷ []
+  pub path : IsPath file
+  pub port_is : IsCount 65535 port_digits port
+  pub count_is : IsCount 1000000 count_digits count
+  pub ws_port_is : IsCount 65535 ws_port_digits tunnels.port
+  pub ws_count_is : IsCount 1000000 ws_count_digits tunnels.count
+
+-- how many tunnels a line has served
+abbrev pub tunnels_in : Option Tunnels → ℕ
+tunnels_in None = 0
+tunnels_in (Some tunnels) = tunnels.count
+
 -- The words `gen COUNT SEED`.
 pub record IsGen (words : List (String Global)) (count seed : ℕ) : Type 0 where
   pub count_digits : List ℕ
@@ -61,6 +82,7 @@ pub record IsGrainLine (words : List (String Global)) (count : ℕ) : Type 0 whe
 pub record IsNoLine (words : List (String Global)) : Type 0 where
   pub play : IsPlay words → ⊥
   pub serve : (port count : ℕ) → IsServe words port count → ⊥
+  pub serve_both : (port count : ℕ) (tunnels : Tunnels) → IsServeBoth words port count tunnels → ⊥
   pub gen : (count seed : ℕ) → IsGen words count seed → ⊥
   pub check : IsCheck words → ⊥
   pub grain : (count : ℕ) → IsGrainLine words count → ⊥
@@ -68,7 +90,8 @@ pub record IsNoLine (words : List (String Global)) : Type 0 where
 -- the line that words are
 abbrev pub IsLine : List (String Global) → Line → Type 0
 IsLine words line.Play = IsPlay words
-IsLine words (line.Serve port count) = IsServe words port count
+IsLine words (line.Serve port count None) = IsServe words port count
+IsLine words (line.Serve port count (Some tunnels)) = IsServeBoth words port count tunnels
 IsLine words (line.Gen count seed) = IsGen words count seed
 IsLine words line.Check = IsCheck words
 IsLine words (line.Grain count) = IsGrainLine words count

@@ -31,6 +31,19 @@ fn with_place<'a>(
     command.arg(place(alloc, id))
 }
 
+// A command with one more place, which needn't be filled.
+fn with_option<'a>(
+    alloc: Global,
+    command: Command<'a>,
+    id: &'a str,
+) -> Result<Command<'a>, AllocError>
+    requires { (fields_of command).has_globals ≡ false }
+    ensures app { IfOk result (λ c. app_of c ≡ specs.with_option (app_of command.entry) id.entry.now) }
+    ensures local { IfOk result (λ c. (fields_of c).has_globals ≡ false) }
+{
+    command.arg(Arg::new(alloc, id))
+}
+
 fn play_command<'a>(alloc: Global) -> Command<'a>
     ensures app { app_of result ≡ specs.play }
     ensures local { (fields_of result).has_globals ≡ false }
@@ -38,14 +51,24 @@ fn play_command<'a>(alloc: Global) -> Command<'a>
     Command::new(alloc, "play")
 }
 
-fn serve_command<'a>(alloc: Global) -> Result<Command<'a>, AllocError>
-    ensures app { IfOk result (λ c. app_of c ≡ specs.serve) }
+// `serve` with the places that have to be filled.
+fn serve_alone_command<'a>(alloc: Global) -> Result<Command<'a>, AllocError>
+    ensures app { IfOk result (λ c. app_of c ≡ specs.serve_alone) }
     ensures local { IfOk result (λ c. (fields_of c).has_globals ≡ false) }
 {
     let command = Command::new(alloc, "serve");
     let command = with_place(alloc, command, "file")?;
     let command = with_place(alloc, command, "port")?;
     with_place(alloc, command, "count")
+}
+
+fn serve_command<'a>(alloc: Global) -> Result<Command<'a>, AllocError>
+    ensures app { IfOk result (λ c. app_of c ≡ specs.serve) }
+    ensures local { IfOk result (λ c. (fields_of c).has_globals ≡ false) }
+{
+    let command = serve_alone_command(alloc)?;
+    let command = with_option(alloc, command, "wsport")?;
+    with_option(alloc, command, "wscount")
 }
 
 fn gen_command<'a>(alloc: Global) -> Result<Command<'a>, AllocError>

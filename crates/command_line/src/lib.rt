@@ -5,4 +5,4 @@ mod command;
 mod line;
 mod number;
 
-pub use line::{Line, line_of};
+pub use line::{Line, Tunnels, line_of};

@@ -1,31 +1,48 @@
 //! The lines that the program's words may be.
 
 ghost use Rattle.std.specs.Prelude.{◌≡◌, ◌↔◌, ℕ, Some, All, map, string_bytes, slice_get, codes, IsTrue, IfOk, MatchOption};
-ghost use Rattle.command_line.specs.Words.{IsCheck, IsCount, IsGen, IsGrainLine, IsLine, IsNoLine, IsDecimalOf, IsOneOfLines, IsPath, IsPlay, IsServe};
+ghost use Rattle.command_line.specs.declared.line.Tunnels.{Tunnels as TheTunnels};
+ghost use Rattle.command_line.specs.Words.{IsCheck, IsCount, IsGen, IsGrainLine, IsLine, IsNoLine, IsDecimalOf, IsOneOfLines, IsPath, IsPlay, IsServe, IsServeBoth};
 
 use crate::command::is_taken;
 use crate::number::{count_of, number_of};
 use host_base::Memory;
 use std::alloc::Global;
 
+/// The tunnels that a longer line of `serve` has: their port, and how many.
+#[derive(Clone, Copy, PartialEq, Eq)]
+pub struct Tunnels {
+    pub port: u16,
+    pub count: u32,
+}
+
 /// The line that the program's words are. A path is the second word, and stays there.
 #[derive(Clone, Copy, PartialEq, Eq)]
 pub enum Line {
     /// `play`
     Play,
-    /// `serve FILE PORT COUNT`
-    Serve { port: u16, count: u32 },
+    /// `serve FILE PORT COUNT`, or with tunnels `serve FILE PORT COUNT WSPORT WSCOUNT`
+    Serve {
+        port: u16,
+        count: u32,
+        tunnels: Option<Tunnels>,
+    },
     /// `gen COUNT SEED`
-    Gen { count: u32, seed: u64 },
+    Gen {
+        count: u32,
+        seed: u64,
+    },
     /// `check FILE`
     Check,
     /// `grain SOCKET COUNT`
-    Grain { count: u32 },
+    Grain {
+        count: u32,
+    },
     /// None of the lines.
     Unknown,
 }
 
-// The most connections that `serve` takes.
+// The most connections that `serve` takes, and the most tunnels.
 const MOST_SERVED: u32 = 1_000_000;
 
 // The most requests that `gen` makes.
@@ -65,7 +82,7 @@ fn port_of(word: &str) -> Option<u16>
     }
 }
 
-// The numbers of `serve`.
+// A port of `serve`, and how many come to it.
 fn serve_numbers(port: &str, count: &str) -> Option<(u16, u32)>
     ensures { MatchOption result
         ((p n : ℕ) → IsCount 65535 port.now p → IsCount 1000000 count.now n → ⊥)
@@ -74,6 +91,18 @@ fn serve_numbers(port: &str, count: &str) -> Option<(u16, u32)>
     match (port_of(port), count_of(count, MOST_SERVED)) {
         (Some(port), Some(count)) => Some((port, count)),
         _ => None,
+    }
+}
+
+// The tunnels of the longer `serve`.
+fn tunnels_of(port: &str, count: &str) -> Option<Tunnels>
+    ensures { MatchOption result
+        ((p n : ℕ) → IsCount 65535 port.now p → IsCount 1000000 count.now n → ⊥)
+        (λ tunnels. IsCount 65535 port.now tunnels.port × IsCount 1000000 count.now tunnels.count) }
+{
+    match serve_numbers(port, count) {
+        Some((port, count)) => Some(Tunnels { port, count }),
+        None => None,
     }
 }
 
@@ -104,8 +133,36 @@ fn serve_line(words: &[String]) -> Option<Line>
     match words {
         [word, file, port, count] if says(word.as_str(), "serve") && is_path(file.as_str()) => {
             match serve_numbers(port.as_str(), count.as_str()) {
-                Some((port, count)) => Some(Line::Serve { port, count }),
+                Some((port, count)) => Some(Line::Serve {
+                    port,
+                    count,
+                    tunnels: None,
+                }),
                 None => None,
+            }
+        }
+        _ => None,
+    }
+}
+
+fn serve_both_line(words: &[String]) -> Option<Line>
+    ensures { MatchOption result
+        ((port count : ℕ) (tunnels : TheTunnels) → IsServeBoth words.now port count tunnels → ⊥)
+        (IsLine words.now) }
+{
+    match words {
+        [word, file, port, count, ws_port, ws_count]
+            if says(word.as_str(), "serve") && is_path(file.as_str()) => {
+            match (
+                serve_numbers(port.as_str(), count.as_str()),
+                tunnels_of(ws_port.as_str(), ws_count.as_str()),
+            ) {
+                (Some((port, count)), Some(tunnels)) => Some(Line::Serve {
+                    port,
+                    count,
+                    tunnels: Some(tunnels),
+                }),
+                _ => None,
             }
         }
         _ => None,
@@ -157,6 +214,9 @@ fn read_line(words: &[String]) -> Line
         return line;
     }
     if let Some(line) = serve_line(words) {
+        return line;
+    }
+    if let Some(line) = serve_both_line(words) {
         return line;
     }
     if let Some(line) = gen_line(words) {

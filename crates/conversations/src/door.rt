@@ -5,7 +5,7 @@ ghost use Rattle.serve_door.specs.Doors.{IsFreshPair};
 use crate::conversation::Stream;
 use grain_supervise::Link;
 use host_base::{Fails, MemSink, MemSource};
-use serve_door::MemDoor;
+use serve_door::{MemDoor, MemHalls};
 use std::alloc::{AllocError, Global};
 
 // A connection on which this is sent.
@@ -34,6 +34,16 @@ pub fn door_of<L: Link>(alloc: Global, streams: &[Stream]) -> Result<MemDoor<L>,
 {
     match MemDoor::new(alloc, connections(alloc, streams)?) {
         Ok(door) => Ok(door),
+        Err(_) => Err(AllocError),
+    }
+}
+
+/// Halls where no tunnel comes in.
+pub fn no_halls<L: Link>(alloc: Global) -> Result<MemHalls<L>, AllocError>
+    ensures { IfOk result (λ halls. halls.kept ≡ []) }
+{
+    match MemHalls::new(alloc, Vec::new(alloc)) {
+        Ok(halls) => Ok(halls),
         Err(_) => Err(AllocError),
     }
 }

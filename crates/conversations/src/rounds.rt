@@ -7,7 +7,7 @@ ghost use Rattle.admin_run.specs.Program.{BeginWithBook};
 
 use crate::comparing::{Difference, compare_bytes, compare_numbers};
 use crate::conversation::{Conversation, Round};
-use crate::door::door_of;
+use crate::door::{door_of, no_halls};
 use crate::objects::{AnyLink, AnySecrets, Objects};
 use admin_run::{Of, Ran, World, run, world_of};
 use cloud_keeper::{Keeper, MemKeeper};
@@ -18,7 +18,7 @@ use host_base::{MemSink, MemSource};
 use host_clock::{ListClock, Moments};
 use hub_core::Held;
 use plain_data::List;
-use serve_door::MemDoor;
+use serve_door::{MemDoor, MemHalls};
 use site_caps::{SiteDriver, SiteLaw};
 use std::alloc::Global;
 use std::sync::Wait;
@@ -99,6 +99,7 @@ type Kinds = Of<
     FakeSpawner,
     ListClock,
     MemDoor<AnyLink>,
+    MemHalls<AnyLink>,
 >;
 
 // What a run is given beside the objects that go on.
@@ -108,6 +109,7 @@ struct Given {
     out: MemSink,
     clock: ListClock,
     door: MemDoor<AnyLink>,
+    halls: MemHalls<AnyLink>,
     sites: Vec<PlainClub>,
 }
 
@@ -128,7 +130,7 @@ fn given_to(
     round: &Round,
     part: &Part,
 ) -> Result<Given, Fault>
-    ensures none { IfOk result (λ given. given.door.kept ≡ []) }
+    ensures none { IfOk result (λ given. (given.door.kept ≡ []) × (given.halls.kept ≡ [])) }
     ensures registered { IfOk result (λ given. IsRegistered (⟦<ClubLaw as SiteLaw>⟧.law.tags)
         (map (⟦<PlainClub as SiteDriver>⟧.tag_of) given.sites.items)) }
 {
@@ -139,6 +141,7 @@ fn given_to(
         out: MemSink::new(alloc, fails),
         clock: clock_of(alloc, round)?,
         door: door_of(alloc, round.streams.as_slice())?,
+        halls: no_halls(alloc)?,
         sites: plain_sites(alloc)?,
     })
 }
@@ -153,7 +156,7 @@ fn run_given<R: Threads + Wait + Sync>(
     objects: Objects,
 ) -> Ran<Kinds>
     requires book { BeginWithBook words.now → HasBook (⟦<MemKeeper as Keeper>⟧.keeping objects.keeper) }
-    requires none { given.door.kept ≡ [] }
+    requires none { (given.door.kept ≡ []) × (given.halls.kept ≡ []) }
     requires registered { IsRegistered (⟦<ClubLaw as SiteLaw>⟧.law.tags)
         (map (⟦<PlainClub as SiteDriver>⟧.tag_of) given.sites.items) }
 {
@@ -166,6 +169,7 @@ fn run_given<R: Threads + Wait + Sync>(
         objects.spawner,
         given.clock,
         given.door,
+        given.halls,
     );
     run(rt, alloc, words, world, given.sites)
 }
@@ -180,6 +184,7 @@ fn taken_apart(ran: Ran<Kinds>) -> (Came, Objects) {
         held,
         clock: _,
         door,
+        halls: _,
     } = world;
     let Held {
         keeper,

@@ -4,9 +4,9 @@ use Rattle.std.specs.Option.{option_map}
 use Rattle.grain_program.specs.Taking.{Takes, taken_of}
 use Rattle.grain_program.specs.declared.grain.GrainEnd.{GrainEnd}
 use Rattle.grain_program.specs.declared.grain.GrainEnd.TheVariants as grain_end
-use Rattle.serve_door.specs.Doors.{Connection, Doorway, HasGivenAll, Traffic, one_given}
+use Rattle.serve_door.specs.Doors.{Doorway, HasGivenAll, Traffic, Visit, one_given}
 
-abbrev traffic : ℕ → ℕ → List Connection → Traffic
+abbrev traffic : ℕ → ℕ → List Visit → Traffic
 traffic planned given returned = record { planned = planned; given = given; returned = returned }
 
 plus_none : (a n : ℕ) → n ≡ 0 → a ≡ a + n

@@ -1,43 +1,40 @@
--- Connections served one after another, and one more.
+-- Visits served one after another, and one more.
 use Rattle.std.proofs.Common.{◌≡◌, ◌∙◌, ℕ, ◌+◌, ◌++◌, ◌<◌, ◌≤◌, min, List, [], ◌∷◌, Option, None, Some, length, refl, ap, sym, subst, arith, append_assoc, append-nil, length-append}
 use Rattle.std.specs.List.{sum_by}
 use Rattle.std.specs.Option.{option_map}
 use Rattle.std.proofs.lemmas.List.Sums.{sum_by-append}
 use Rattle.hub_core.specs.Book.{Book}
-use Rattle.serve_door.specs.Connections.{AreServed, IsServed, ServesMany, door_after}
-use Rattle.serve_door.specs.Doors.{Connection, Doorway, IsDue, IsInOrder, IsOneOut, IsWithinPlan, Traffic, expecting, given_back, one_given}
+use Rattle.serve_door.specs.Connections.{AreServed, IsTunneled, ServesMany, WasServed, answered_in, door_after}
+use Rattle.serve_door.specs.Doors.{Doorway, IsDue, IsInOrder, IsOneOut, IsWithinPlan, Traffic, Tunnel, Tunneled, Visit, expecting, given_back, one_given}
 
-one_more : (old new newer : Book) (list : List Connection) (one : Connection) → AreServed old new list → IsServed new newer one → AreServed old newer (list ++ one ∷ [])
-one_more old new newer [] one is served = (newer, subst (λ (b : Book). IsServed b newer one) is served, refl)
+one_more : (old new newer : Book) (list : List Visit) (one : Visit) → AreServed old new list → WasServed new newer one → AreServed old newer (list ++ one ∷ [])
+one_more old new newer [] one is served = (newer, subst (λ (b : Book). WasServed b newer one) is served, refl)
 one_more old new newer (first ∷ more) one (between, is, rest) served = (between, is, one_more between new newer more one rest served)
 
-abbrev served_on : Connection → ℕ
-served_on one = one.end.served
+-- how many requests were answered in visits
+abbrev answered_on : List Visit → ℕ
+answered_on list = min (sum_by answered_in list) 18446744073709551615
 
--- how many requests were answered on connections
-abbrev answered_on : List Connection → ℕ
-answered_on list = min (sum_by (λ (one : Connection). one.end.served) list) 18446744073709551615
-
--- the traffic of a door once it gave these connections and was given them back
-abbrev traffic_after : List Connection → Traffic → Traffic
+-- the traffic of a door once it gave these visits and was given them back
+abbrev traffic_after : List Visit → Traffic → Traffic
 traffic_after list t = record t { given = t.given + length list; returned = t.returned ++ list }
 
 capped : (sum more : ℕ) → min (min sum 18446744073709551615 + more) 18446744073709551615 ≡ min (sum + more) 18446744073709551615
 capped sum more = omega (arith)
 
-answered_more : (list : List Connection) (one : Connection) → min (answered_on list + one.end.served) 18446744073709551615 ≡ answered_on (list ++ one ∷ [])
+answered_more : (list : List Visit) (one : Visit) → min (answered_on list + answered_in one) 18446744073709551615 ≡ answered_on (list ++ one ∷ [])
 answered_more list one =
-    let alone : sum_by served_on (one ∷ []) ≡ served_on one = omega arith in
-    capped (sum_by served_on list) (served_on one)
-    ∙ ap (λ n. min n 18446744073709551615) (sym (sum_by-append served_on list (one ∷ []) ∙ ap (λ n. sum_by served_on list + n) alone))
+    let alone : sum_by answered_in (one ∷ []) ≡ answered_in one = omega arith in
+    capped (sum_by answered_in list) (answered_in one)
+    ∙ ap (λ n. min n 18446744073709551615) (sym (sum_by-append answered_in list (one ∷ []) ∙ ap (λ n. sum_by answered_in list + n) alone))
 
-abbrev traffic : ℕ → ℕ → List Connection → Traffic
+abbrev traffic : ℕ → ℕ → List Visit → Traffic
 traffic planned given returned = record { planned = planned; given = given; returned = returned }
 
-more_given : (given : ℕ) (list : List Connection) (one : Connection) → given + length list + 1 ≡ given + length (list ++ one ∷ [])
+more_given : (given : ℕ) (list : List Visit) (one : Visit) → given + length list + 1 ≡ given + length (list ++ one ∷ [])
 more_given given list one = let long = length-append list (one ∷ []) in omega (arith, long)
 
-traffic_more : (told : Option Traffic) (list : List Connection) (one : Connection)
+traffic_more : (told : Option Traffic) (list : List Visit) (one : Visit)
     → option_map (λ (t : Traffic). record t { returned = t.returned ++ one ∷ [] }) (option_map (λ (t : Traffic). record t { given = t.given + 1 }) (option_map (traffic_after list) told))
     ≡ option_map (traffic_after (list ++ one ∷ [])) told
 traffic_more None list one = refl
@@ -58,40 +55,47 @@ traffic_none (Some t) =
 abbrev doorway : ℕ → Option Traffic → Doorway
 doorway faults told = record { faults = faults; traffic = told }
 
--- no connection yet
+-- no visit yet
 pub none_yet : (book : Book) (door : Doorway) → ServesMany book book door door 0
 none_yet book door = record {
-  connections = [];
+  visits = [];
   served = refl;
   doorway_is = (let same : doorway door.faults door.traffic ≡ doorway door.faults (option_map (traffic_after []) door.traffic) = cc (traffic_none door.traffic) in same);
   answered_is = refl;
 }
 
--- one connection more
-pub many_more : (old new newer : Book) (door now later : Doorway) (answered : ℕ) (one : Connection) → ServesMany old new door now answered → IsServed new newer one
-    → later ≡ given_back (one_given now) one → ServesMany old newer door later (min (answered + one.end.served) 18446744073709551615)
+-- one visit more
+pub many_more : (old new newer : Book) (door now later : Doorway) (answered : ℕ) (one : Visit) → ServesMany old new door now answered → WasServed new newer one
+    → later ≡ given_back (one_given now) one → ServesMany old newer door later (min (answered + answered_in one) 18446744073709551615)
 many_more old new newer door now later answered one many served is = record {
-  connections = many.connections ++ one ∷ [];
-  served = one_more old new newer many.connections one many.served served;
+  visits = many.visits ++ one ∷ [];
+  served = one_more old new newer many.visits one many.served served;
   doorway_is =
-      (let told : later.traffic ≡ option_map (traffic_after (many.connections ++ one ∷ [])) door.traffic =
+      (let told : later.traffic ≡ option_map (traffic_after (many.visits ++ one ∷ [])) door.traffic =
       ap (λ (d : Doorway). d.traffic) is
       ∙ ap (λ (d : Doorway). option_map (λ (t : Traffic). record t { returned = t.returned ++ one ∷ [] }) (option_map (λ (t : Traffic). record t { given = t.given + 1 }) d.traffic)) many.doorway_is
-      ∙ traffic_more door.traffic many.connections one in
-      let same : doorway later.faults later.traffic ≡ door_after door later.faults (many.connections ++ one ∷ []) = cc told in
+      ∙ traffic_more door.traffic many.visits one in
+      let same : doorway later.faults later.traffic ≡ door_after door later.faults (many.visits ++ one ∷ []) = cc told in
       same);
-  answered_is = ap (λ (n : ℕ). min (n + one.end.served) 18446744073709551615) many.answered_is ∙ answered_more many.connections one;
+  answered_is = ap (λ (n : ℕ). min (n + answered_in one) 18446744073709551615) many.answered_is ∙ answered_more many.visits one;
 }
+
+-- one tunnel more, whose messages aren't requests
+pub tunnel_more : (old new newer : Book) (door now later : Doorway) (one : Tunnel) → ServesMany old new door now 0 → IsTunneled new newer one → later ≡ given_back (one_given now) (Tunneled one)
+    → ServesMany old newer door later 0
+tunnel_more old new newer door now later one many served is =
+    let none : min (0 + 0) 18446744073709551615 ≡ 0 = omega arith in
+    subst (λ (n : ℕ). ServesMany old newer door later n) none (many_more old new newer door now later 0 (Tunneled one) many served is)
 
 -- none more was given
 pub no_more : (old new : Book) (door now later : Doorway) (answered : ℕ) → ServesMany old new door now answered → later ≡ record now { faults = later.faults }
     → ServesMany old new door later answered
 no_more old new door now later answered many is = record {
-  connections = many.connections;
+  visits = many.visits;
   served = many.served;
   doorway_is =
-      (let told : later.traffic ≡ option_map (traffic_after many.connections) door.traffic = ap (λ (d : Doorway). d.traffic) is ∙ ap (λ (d : Doorway). d.traffic) many.doorway_is in
-      let same : doorway later.faults later.traffic ≡ door_after door later.faults many.connections = cc told in
+      (let told : later.traffic ≡ option_map (traffic_after many.visits) door.traffic = ap (λ (d : Doorway). d.traffic) is ∙ ap (λ (d : Doorway). d.traffic) many.doorway_is in
+      let same : doorway later.faults later.traffic ≡ door_after door later.faults many.visits = cc told in
       same);
   answered_is = many.answered_is;
 }
@@ -108,7 +112,7 @@ out_of (Some x) order t is =
 pub is_out : (door : Doorway) → IsInOrder door → IsOneOut (one_given door)
 is_out door order = out_of door.traffic order
 
-order_of : (told : Option Traffic) (one : Connection) → ((t : Traffic) → told ≡ Some t → length t.returned ≤ t.given)
+order_of : (told : Option Traffic) (one : Visit) → ((t : Traffic) → told ≡ Some t → length t.returned ≤ t.given)
     → (t : Traffic) → option_map (λ (t : Traffic). record t { returned = t.returned ++ one ∷ [] }) (option_map (λ (t : Traffic). record t { given = t.given + 1 }) told) ≡ Some t → length t.returned ≤ t.given
 order_of None one order t is = cc is
 order_of (Some x) one order t is =
@@ -118,10 +122,10 @@ order_of (Some x) one order t is =
     subst (λ (y : Traffic). length y.returned ≤ y.given) same (omega (arith, few, long))
 
 -- and once it came back all are in order
-pub in_order : (door later : Doorway) (one : Connection) → IsInOrder door → later ≡ given_back (one_given door) one → IsInOrder later
+pub in_order : (door later : Doorway) (one : Visit) → IsInOrder door → later ≡ given_back (one_given door) one → IsInOrder later
 in_order door later one order is = subst (λ (d : Doorway). IsInOrder d) (sym is) (order_of door.traffic one order)
 
-due_of : (told : Option Traffic) (one : Connection) → ((t : Traffic) → told ≡ Some t → t.given < t.planned)
+due_of : (told : Option Traffic) (one : Visit) → ((t : Traffic) → told ≡ Some t → t.given < t.planned)
     → (t : Traffic) → option_map (λ (t : Traffic). record t { returned = t.returned ++ one ∷ [] }) (option_map (λ (t : Traffic). record t { given = t.given + 1 }) told) ≡ Some t → t.given ≤ t.planned
 due_of None one due t is = cc is
 due_of (Some x) one due t is =
@@ -130,7 +134,7 @@ due_of (Some x) one due t is =
     subst (λ (y : Traffic). y.given ≤ y.planned) same (omega (arith, less))
 
 -- one that was due is within the plan
-pub within_plan : (door later : Doorway) (one : Connection) → IsDue door → later ≡ given_back (one_given door) one → IsWithinPlan later
+pub within_plan : (door later : Doorway) (one : Visit) → IsDue door → later ≡ given_back (one_given door) one → IsWithinPlan later
 within_plan door later one due is = subst (λ (d : Doorway). IsWithinPlan d) (sym is) (due_of door.traffic one due)
 
 expected_of : (told : Option Traffic) (count : ℕ) → ((t : Traffic) → told ≡ Some t → length t.returned ≤ t.given)

@@ -4,8 +4,13 @@ use Rattle.host_base.specs.Outside.{Inlet, Outlet}
 use Rattle.hub_core.specs.Book.{Book}
 use Rattle.cloud_serve.specs.Served.{Served, Wired, with_book}
 use Rattle.cloud_serve.specs.declared.serve.ConnEnd.{ConnEnd}
-use Rattle.serve_door.specs.Connections.{IsServed}
-use Rattle.serve_door.specs.Doors.{IsFreshInlet, IsFreshOutlet}
+use Rattle.host_base.specs.declared.key.Key.{Key}
+use Rattle.ws_tunnel.specs.Hall.{Hall}
+use Rattle.tunnel_serve.specs.Exchanges.{Answer}
+use Rattle.tunnel_serve.specs.Tunnels.{TunnelRun}
+use Rattle.tunnel_serve.specs.declared.tunnel_end.TunnelEnd.{TunnelEnd}
+use Rattle.serve_door.specs.Connections.{IsServed, IsTunneled}
+use Rattle.serve_door.specs.Doors.{IsFreshHall, IsFreshInlet, IsFreshOutlet, tunnel}
 use Rattle.std.specs.Option.{option_map}
 use Rattle.grain_supervise.specs.declared.ask.Ask.{Ask}
 use Rattle.grain_supervise.specs.Line.{Line, fresh_line}
@@ -34,6 +39,17 @@ is_served inlet outlet line link before after wire end fresh whole empty another
   output = empty;
   link = fresh_is line link another;
   headline = headline;
+}
+
+-- a tunnel that was served from fresh messages over a fresh link
+pub is_tunneled : {D : Type 0} (gave : D → Key → Answer → D → Type 0) (book : D → Book) (old new : Hall) (line link link' : Line) (before after : D) (end : TunnelEnd) → IsFreshHall old → link ≡ fresh_line line
+    → TunnelRun gave book (record { hall = old; line = link }) (record { hall = new; line = link' }) before after end.end end.from end.places end.passed → IsTunneled (book before) (book after) (tunnel new link' end)
+is_tunneled gave book old new line link link' before after end fresh another ran = record {
+  old = record { hall = old; line = link };
+  messages = fresh;
+  link = fresh_is line link another;
+  course = ran.course;
+  run = ran.run;
 }
 
 -- what is known of each item of a list is known of its first one and of the others

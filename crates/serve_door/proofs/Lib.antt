@@ -1,3 +1,4 @@
 pub mod Chained
 pub mod Fresh
 pub mod Handles
+pub mod Employed

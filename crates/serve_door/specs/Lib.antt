@@ -1,3 +1,4 @@
 pub mod Doors
 pub mod Connections
 pub mod Working
+pub mod Inner

@@ -5,7 +5,8 @@ ghost use Rattle.host_base.specs.CallCounts.{next_count};
 ghost use Rattle.serve_door.specs.Doors.{IsFreshPair, IsOneOut, connection, mem_doorway};
 
 use crate::connection::Connection;
-use crate::door::{Door, NoneCame};
+use crate::door::Door;
+use crate::entrance::{Entrance, NoneCame};
 use cloud_serve::{ConnEnd, Wire};
 use grain_supervise::Link;
 use host_base::{MemSink, MemSource, Memory, Sink, Source};
@@ -70,11 +71,7 @@ impl<L: Link> MemDoor<L> {
     }
 }
 
-impl<L: Link + Drop> Door for MemDoor<L> {
-    type Input = MemSource;
-
-    type Output = MemSink;
-
+impl<L: Link + Drop> Entrance for MemDoor<L> {
     type Link = L;
 
     ghost doorway = { mem_doorway };
@@ -99,6 +96,12 @@ impl<L: Link + Drop> Door for MemDoor<L> {
     {
         self.faults = self.faults.saturating_add(handle.faults);
     }
+}
+
+impl<L: Link + Drop> Door for MemDoor<L> {
+    type Input = MemSource;
+
+    type Output = MemSink;
 
     fn accept(&mut self) -> Result<(MemSource, MemSink), NoneCame>
         // It gives the first connection that is left, ends where it is to give none, and fails where none is left, which counts

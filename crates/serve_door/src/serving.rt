@@ -2,9 +2,10 @@
 ghost use Rattle.std.specs.Prelude.{◌≡◌, ◌≤◌, IfOk, OnErr, IsErrOf};
 ghost use Rattle.host_base.specs.Outside.{Rose};
 ghost use Rattle.serve_door.specs.Connections.{IsServed, ServesMany};
-ghost use Rattle.serve_door.specs.Doors.{Connection as TheConnection, HasGivenAll, IsInOrder, IsWithinPlan, given_back, one_given};
+ghost use Rattle.serve_door.specs.Doors.{Connected, Connection as TheConnection, HasGivenAll, IsInOrder, IsWithinPlan, given_back, one_given};
 
-use crate::door::{Door, NoneCame};
+use crate::door::Door;
+use crate::entrance::NoneCame;
 use cloud_serve::{Wire, serve_conn};
 use front_http::Routes;
 use grain_supervise::Link;
@@ -12,18 +13,18 @@ use hub_core::Desk;
 use std::alloc::Global;
 use std::sync::Wait;
 
-/// Why no further connection was served.
+/// Why no further connection or tunnel was served.
 #[derive(Clone, Copy, PartialEq, Eq)]
 pub enum Stop {
     /// All that the door was to give were served.
     All,
     /// The door failed, which it counted.
     DoorFailed,
-    /// Memory ran out between two connections.
+    /// Memory ran out between two of them.
     Memory,
 }
 
-/// Why no further connection was served, and how many requests were answered on those that were.
+/// Why no further connection or tunnel was served, and how many requests were answered on connections that were.
 #[derive(Clone, Copy, PartialEq, Eq)]
 pub struct Stopped {
     pub stop: Stop,
@@ -41,7 +42,7 @@ fn serve_next<E: Door, D: Desk>(
     requires { IsInOrder (E.doorway door.old) }
     ensures serves { IfOk result (λ served. (one : TheConnection)
         × IsServed (D.book desk.old) (D.book desk.new) one × (one.end.served ≡ served)
-        × (E.doorway door.new ≡ given_back (one_given (E.doorway door.old)) one)) }
+        × (E.doorway door.new ≡ given_back (one_given (E.doorway door.old)) (Connected one))) }
     ensures within { IsWithinPlan (E.doorway door.old) → IsWithinPlan (E.doorway door.new) }
     ensures begins { (D.book desk.new).start ≡ (D.book desk.old).start }
     ensures unserved { OnErr result (desk.new ≡ desk.old) }

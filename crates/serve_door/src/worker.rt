@@ -1,80 +1,106 @@
-//! A worker, which serves connections at a door of its own.
+//! A worker, who serves at posts of his own.
 
-ghost use Rattle.std.specs.Prelude.{◌≡◌};
-ghost use Rattle.serve_door.specs.Doors.{IsInOrder};
-ghost use Rattle.serve_door.specs.Working.{Works};
+ghost use Rattle.std.specs.Prelude.{◌≡◌, Some, None};
+ghost use Rattle.serve_door.specs.Working.{AreReady, IsReadyAt, WorksAt, WorksBoth};
 
 use crate::door::Door;
-use crate::serving::{Stop, Stopped, serve_all};
-use front_http::Routes;
+use crate::entrance::Entrance;
+use crate::hall_door::HallDoor;
+use crate::post::Post;
 use hub_core::Desk;
 use hub_jobs::Job;
 use std::alloc::Global;
 use std::marker::Model;
 use std::sync::Wait;
 
-/// A worker: its door, its link to the grains, and how it stopped.
+/// A worker: his post at the door and his post at the halls, where he has them. He waits by a handle.
 #[derive(Drop)]
-pub struct Worker<'a, E: Door, R> {
+pub struct Worker<'a, E: Entrance, H: Entrance, R> {
     rt: &'a R,
-    door: E,
-    link: E::Link,
-    stopped: Stopped,
+    door: Option<Post<E>>,
+    halls: Option<Post<H>>,
 }
 
-impl<'a, E: Door, R> Model for Worker<'a, E, R> {
-    ghost use Rattle.serve_door.specs.Working.{Post};
+impl<'a, E: Entrance, H: Entrance, R> Model for Worker<'a, E, H, R> {
+    ghost use Rattle.serve_door.specs.Working.{Posts};
 
-    ghost Value = { Post };
+    ghost Value = { Posts };
 
-    ghost view = { λ worker. record { doorway = E.doorway worker.door; stopped = worker.stopped } };
+    ghost view = { λ worker. record { door = worker.door; halls = worker.halls } };
 }
 
-impl<'a, E: Door + Drop, R> Worker<'a, E, R> {
-    /// A worker who served none yet. It waits by a handle.
-    pub fn new(rt: &'a R, door: E, link: E::Link) -> Self
-        ensures { result.doorway ≡ E.doorway door }
+impl<'a, E: Entrance + Drop, H: Entrance + Drop, R> Worker<'a, E, H, R> {
+    /// A worker at the door.
+    pub fn at_door(rt: &'a R, post: Post<E>) -> Self
+        ensures { result ≡ record { door = Some post; halls = None } }
     {
         Worker {
             rt,
-            door,
-            link,
-            stopped: Stopped {
-                stop: Stop::Memory,
-                answered: 0,
-            },
+            door: Some(post),
+            halls: None,
         }
     }
 
-    /// The worker's door, handed back, and how it stopped.
-    pub fn into_parts(self) -> (E, Stopped)
-        ensures door { E.doorway result.0 ≡ self.entry.doorway }
-        ensures stopped { result.1 ≡ self.entry.stopped }
+    /// A worker at the halls.
+    pub fn at_halls(rt: &'a R, post: Post<H>) -> Self
+        ensures { result ≡ record { door = None; halls = Some post } }
     {
-        let Worker {
-            rt: _,
-            door,
-            link: _,
-            stopped,
-        } = self;
-        (door, stopped)
+        Worker {
+            rt,
+            door: None,
+            halls: Some(post),
+        }
+    }
+
+    /// The worker's posts, handed back.
+    pub fn into_posts(self) -> (Option<Post<E>>, Option<Post<H>>)
+        ensures door { result.0 ≡ self.entry.door }
+        ensures halls { result.1 ≡ self.entry.halls }
+    {
+        let Worker { rt: _, door, halls } = self;
+        (door, halls)
     }
 }
 
-impl<'a, E: Door + Drop, R: Wait> Job for Worker<'a, E, R> {
-    ghost ready = { λ worker. IsInOrder worker.doorway };
+// Serves the connections at a post, where there is one.
+fn serve_at_door<R: Wait, E: Door + Drop, D: Desk>(
+    rt: &R,
+    alloc: Global,
+    post: &mut Option<Post<E>>,
+    desk: &mut D,
+)
+    requires { IsReadyAt post.old }
+    ensures { WorksAt (D.book desk.old) (D.book desk.new) post.old post.new }
+{
+    match post {
+        Some(post) => post.serve_connections(rt, alloc, desk),
+        None => {}
+    }
+}
 
-    ghost does = { λ before after old new. Works before after old new };
+// Serves the tunnels at a post, where there is one.
+fn serve_at_halls<R: Wait, H: HallDoor + Drop, D: Desk>(
+    rt: &R,
+    alloc: Global,
+    post: &mut Option<Post<H>>,
+    desk: &mut D,
+)
+    requires { IsReadyAt post.old }
+    ensures { WorksAt (D.book desk.old) (D.book desk.new) post.old post.new }
+{
+    match post {
+        Some(post) => post.serve_messages(rt, alloc, desk),
+        None => {}
+    }
+}
+
+impl<'a, E: Door + Drop, H: HallDoor + Drop, R: Wait> Job for Worker<'a, E, H, R> {
+    ghost ready = { AreReady };
+
+    ghost does = { WorksBoth };
 
     fn work<D: Desk>(&mut self, alloc: Global, desk: &mut D) {
-        // A router isn't known to cross threads, so each worker makes its own.
-        let Ok(routes) = Routes::new(alloc) else {
-            self.stopped = Stopped {
-                stop: Stop::Memory,
-                answered: 0,
-            };
-            return;
-        };
-        self.stopped = serve_all(self.rt, alloc, &routes, &mut self.door, desk, &self.link);
+        serve_at_door(self.rt, alloc, &mut self.door, desk);
+        serve_at_halls(self.rt, alloc, &mut self.halls, desk);
     }
 }

@@ -41,6 +41,8 @@ pub struct Acceptor {
     waiters: Waiters,
     ready: Sender<SharedClient>,
     activity: SharedActivity,
+    // Whether it says what was done. Of two acceptors one does.
+    tells: bool,
     // When silence was looked at, and when a line was printed, and which.
     swept: Instant,
     told: Instant,
@@ -167,12 +169,14 @@ fn client_of(alloc: Global, stream: Silent) -> io::Result<SharedClient> {
 }
 
 impl Acceptor {
-    /// An acceptor of a port of the address 127.0.0.1, or of one that is free where it is 0, and where its clients come out.
+    /// An acceptor of a port of the address 127.0.0.1, or of one that is free where it is 0, and where its clients come out. It may
+    /// tell what was done.
     pub fn bind<R: Net + Clock>(
         rt: &R,
         alloc: Global,
         port: u16,
         activity: SharedActivity,
+        tells: bool,
     ) -> io::Result<(Self, Receiver<SharedClient>)> {
         let poll = Poll::new(rt)?;
         let events = Events::with_capacity(alloc, MOST_EVENTS)?;
@@ -191,6 +195,7 @@ impl Acceptor {
             waiters: Waiters::new(alloc)?,
             ready,
             activity,
+            tells,
             swept: now,
             told: now,
             line,
@@ -279,7 +284,7 @@ impl Acceptor {
         Ok(())
     }
 
-    /// Accepts connections until the server is to end, and says once a second on standard error what was done.
+    /// Accepts connections until the server is to end, and says once a second on standard error what was done, where it is to tell.
     pub fn run<R: Wait + Clock + Eprint>(mut self, rt: &R) {
         for _ in rt.forever() {
             if self.activity.is_ending() {
@@ -288,7 +293,9 @@ impl Acceptor {
             if self.turn(rt).is_err() {
                 thread::sleep(rt, millis(TURN));
             }
-            let _ = self.tell(rt);
+            if self.tells {
+                let _ = self.tell(rt);
+            }
         }
     }
 }

@@ -38,7 +38,7 @@ impl Counter {
 #[derive(Drop)]
 pub struct Activity {
     ending: AtomicU64,
-    /// Connections that wait for their first byte, or for a worker.
+    /// Connections that wait for their first byte, or for a worker, those of tunnels among them.
     pub waiting: Counter,
     /// Connections that workers serve.
     pub serving: Counter,
@@ -60,6 +60,12 @@ pub struct Activity {
     pub spawn_faults: Counter,
     /// Pieces of what those programs printed that couldn't be logged.
     pub log_faults: Counter,
+    /// Tunnels that workers serve.
+    pub tunnels: Counter,
+    /// Tunnels that were served.
+    pub tunneled: Counter,
+    /// Messages of tunnels that went to grains.
+    pub passed: Counter,
 }
 
 /// A handle of them, which threads share.
@@ -81,6 +87,9 @@ impl Activity {
             link_faults: Counter::new(),
             spawn_faults: Counter::new(),
             log_faults: Counter::new(),
+            tunnels: Counter::new(),
+            tunneled: Counter::new(),
+            passed: Counter::new(),
         };
         Ok(Arc::new(alloc, activity)?)
     }
@@ -98,7 +107,7 @@ impl Activity {
     /// What is counted, as a line of words and numbers; nothing of a key or a token is in it.
     pub fn line(&self, alloc: Global) -> Result<String, AllocError> {
         format!(in alloc;
-            "lumbyte: serving={} waiting={} served={} silent={} turned_away={} answered={} faults_in={} faults_out={} faults_link={} faults_spawn={} faults_log={}",
+            "lumbyte: serving={} waiting={} served={} silent={} turned_away={} answered={} faults_in={} faults_out={} faults_link={} faults_spawn={} faults_log={} tunnels={} tunneled={} passed={}",
             self.serving.counted(),
             self.waiting.counted(),
             self.served.counted(),
@@ -109,7 +118,10 @@ impl Activity {
             self.output_faults.counted(),
             self.link_faults.counted(),
             self.spawn_faults.counted(),
-            self.log_faults.counted()
+            self.log_faults.counted(),
+            self.tunnels.counted(),
+            self.tunneled.counted(),
+            self.passed.counted()
         )
     }
 }

@@ -7,7 +7,6 @@ use crate::client::SharedClient;
 use crate::limits::{MOST_READING, MOST_SILENT, MOST_STILL, TURN, is_late, late, millis};
 use host_base::{ReadFailed, Source};
 use std::io;
-use std::io::Read;
 use std::marker::Model;
 use std::time::{Clock, Instant};
 
@@ -54,14 +53,6 @@ fn comes(client: &SharedClient, activity: &SharedActivity) -> bool {
     false
 }
 
-// Takes what is there.
-fn read_from(client: &SharedClient, buf: &mut [u8]) -> io::Result<usize>
-    ensures { IfOk result (λ n. n ≤ length buf.old) }
-{
-    let mut stream = &client.stream;
-    stream.read(buf)
-}
-
 // Takes the first bytes of a request, or none.
 fn read_first(client: &SharedClient, activity: &SharedActivity, buf: &mut [u8]) -> io::Result<usize>
     ensures { IfOk result (λ n. n ≤ length buf.old) }
@@ -69,13 +60,13 @@ fn read_first(client: &SharedClient, activity: &SharedActivity, buf: &mut [u8]) 
     if client.has_ended() || activity.is_ending() {
         return Ok(0);
     }
-    match read_from(client, buf) {
+    match client.read(buf) {
         Ok(n) => Ok(n),
         Err(error) => {
             if !is_late(&error) {
                 Err(error)
             } else if comes(client, activity) {
-                read_from(client, buf)
+                client.read(buf)
             } else {
                 Ok(0)
             }
@@ -157,7 +148,7 @@ fn read_next<R: Clock>(
 {
     if client.is_within() {
         bound(rt, client, within, began)?;
-        return read_from(client, buf);
+        return client.read(buf);
     }
     if *within {
         client.stream.set_read_timeout(Some(millis(TURN)))?;

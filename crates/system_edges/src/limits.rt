@@ -4,11 +4,12 @@ use std::io;
 use std::io::ErrorKind;
 use std::time::Duration;
 
-/// How many connections at the most wait for their first byte. Each takes a descriptor, of which a process often has 1,024;
-/// where none is left the one that was silent longest is closed.
+/// How many connections at the most wait for their first byte at one acceptor. Each takes a descriptor, of which a process often has
+/// 1,024; where none is left the acceptor closes the one that was silent longest at it. Two acceptors, of connections and of tunnels,
+/// have a set each: 2 times 1,024 that wait for their first byte and 256 for a worker, so 2,560, beside the 192 that workers serve.
 pub const MOST_WAITING: usize = 1024;
 
-/// How many connections at the most whose first byte is there wait for a worker; further ones are closed.
+/// How many connections at the most whose first byte is there wait for a worker, of each acceptor; further ones are closed.
 pub const MOST_READY: usize = 256;
 
 /// How many of the system's reports are taken at once.
@@ -24,15 +25,20 @@ pub const TURN: u64 = 500;
 /// How often it is told what was done, at the most.
 pub const TELLING: u64 = 1_000;
 
-/// How long no byte may come within a request, or none be taken of an answer.
+/// How long no byte may come within a request, or none be taken of an answer. The client of a tunnel may be silent for as long, and
+/// for as long again once it was sent a ping.
 pub const MOST_STILL: u64 = 30_000;
 
 /// How long a request may take from its second read on, so that no client holds a worker by a byte now and then: 1 MiB in that time
 /// is 18 KiB a second.
 pub const MOST_READING: u64 = 60_000;
 
-/// How long an answer may take after its first write: 4 MiB in that time are 35 KiB a second.
+/// How long an answer may take after its first write, or what goes to the client of a tunnel: 4 MiB in that time are 35 KiB a second.
 pub const MOST_WRITING: u64 = 120_000;
+
+/// How long the client of a tunnel may take to ask for it, and to send its key and one message, from when a worker took it: no client
+/// holds a worker by silence. A tunnel that was opened may be idle as long as its client answers pings.
+pub const MOST_OPENING: u64 = 30_000;
 
 /// How long a run's program may take to answer, from the connecting on.
 pub const MOST_ASKING: u64 = 60_000;

@@ -3,16 +3,16 @@ ghost use Rattle.serve_door.specs.Doors.{IsFreshInlet, IsFreshOutlet};
 
 use crate::activity::SharedActivity;
 use crate::client::SharedClient;
+use crate::client_queue::ClientQueue;
 use crate::client_sink::ClientSink;
 use crate::client_source::ClientSource;
 use crate::lingering::close_slowly;
-use crate::plan::Plan;
 use cloud_serve::ConnEnd;
 use crossbeam_channel::Receiver;
 use grain_supervise::Link;
 use host_base::Memory;
 use hub_core::Desk;
-use serve_door::{Door, NoneCame};
+use serve_door::{Door, Entrance, NoneCame};
 use std::alloc::{AllocError, Global};
 use std::marker::{Model, PhantomData};
 use std::sync::{Arc, Wait};
@@ -24,10 +24,7 @@ use std::time::Clock;
 #[derive(Drop)]
 pub struct TcpDoor<'a, R, L> {
     rt: &'a R,
-    clients: Option<Receiver<SharedClient>>,
-    activity: SharedActivity,
-    plan: Plan,
-    faults: u64,
+    queue: ClientQueue,
     over: PhantomData<L>,
 }
 
@@ -36,7 +33,7 @@ impl<'a, R, L> Model for TcpDoor<'a, R, L> {
 
     ghost Value = { ℕ };
 
-    ghost view = { λ s. s.faults };
+    ghost view = { λ s. s.queue };
 }
 
 impl<'a, R: Wait + Clock, L> TcpDoor<'a, R, L> {
@@ -51,10 +48,7 @@ impl<'a, R: Wait + Clock, L> TcpDoor<'a, R, L> {
     {
         Ok(TcpDoor {
             rt,
-            clients,
-            activity,
-            plan: Plan::none(alloc)?,
-            faults: 0,
+            queue: ClientQueue::new(alloc, clients, activity)?,
             over: PhantomData,
         })
     }
@@ -63,7 +57,7 @@ impl<'a, R: Wait + Clock, L> TcpDoor<'a, R, L> {
     pub fn faults(&self) -> u64
         ensures { result ≡ self.now }
     {
-        self.faults
+        self.queue.faults()
     }
 
     // What is read of a client and what is written to it.
@@ -75,7 +69,7 @@ impl<'a, R: Wait + Clock, L> TcpDoor<'a, R, L> {
         ensures output { IfOk result (λ pair. IsFreshOutlet pair.1) }
     {
         let output = ClientSink::new(self.rt, Arc::try_clone(&client)?);
-        let input = ClientSource::new(self.rt, client, Arc::try_clone(&self.activity)?);
+        let input = ClientSource::new(self.rt, client, self.queue.share_activity()?);
         Ok((input, output))
     }
 
@@ -83,10 +77,36 @@ impl<'a, R: Wait + Clock, L> TcpDoor<'a, R, L> {
     fn next(&self) -> Option<(ClientSource<'a, R>, ClientSink<'a, R>)>
         ensures { IfSome result (λ pair. (IsFreshInlet pair.0) × (IsFreshOutlet pair.1)) }
     {
-        let clients = self.clients.as_ref()?;
-        let client = clients.recv(self.rt).ok()?;
-        self.activity.waiting.take_one();
+        let client = self.queue.next(self.rt)?;
         self.halves(client).ok()
+    }
+}
+
+impl<'a, R: Wait + Clock, L: Link + Drop> Entrance for TcpDoor<'a, R, L> {
+    type Link = L;
+
+    ghost doorway = { λ faults. record { faults = faults; traffic = None } };
+
+    fn expect(&mut self, count: u32) {
+        self.queue.expect(count);
+    }
+
+    fn another(&self, alloc: Global) -> Result<Self, Memory> {
+        let _ = alloc;
+        Ok(TcpDoor {
+            rt: self.rt,
+            queue: self.queue.another()?,
+            over: PhantomData,
+        })
+    }
+
+    fn take_back(&mut self, handle: Self) {
+        let TcpDoor {
+            rt: _,
+            queue,
+            over: _,
+        } = handle;
+        self.queue.take_back(queue);
     }
 }
 
@@ -95,47 +115,17 @@ impl<'a, R: Wait + Clock, L: Link + Drop> Door for TcpDoor<'a, R, L> {
 
     type Output = ClientSink<'a, R>;
 
-    type Link = L;
-
-    ghost doorway = { λ faults. record { faults = faults; traffic = None } };
-
-    fn expect(&mut self, count: u32) {
-        self.plan.expect(count);
-    }
-
-    fn another(&self, alloc: Global) -> Result<Self, Memory> {
-        let _ = alloc;
-        let clients = match &self.clients {
-            Some(clients) => Some(clients.clone()?),
-            None => None,
-        };
-        Ok(TcpDoor {
-            rt: self.rt,
-            clients,
-            activity: Arc::try_clone(&self.activity)?,
-            plan: self.plan.share()?,
-            faults: 0,
-            over: PhantomData,
-        })
-    }
-
-    fn take_back(&mut self, handle: Self) {
-        self.faults = self.faults.saturating_add(handle.faults);
-    }
-
     fn accept(&mut self) -> Result<(ClientSource<'a, R>, ClientSink<'a, R>), NoneCame> {
-        if self.activity.is_ending() || !self.plan.take() {
+        if !self.queue.take_turn() {
             return Err(NoneCame::Ended);
         }
-        if let Some(pair) = self.next() {
-            self.activity.serving.add_one();
-            return Ok(pair);
+        match self.next() {
+            Some(pair) => {
+                self.queue.activity().serving.add_one();
+                Ok(pair)
+            }
+            None => Err(self.queue.none_came()),
         }
-        if self.activity.is_ending() {
-            return Err(NoneCame::Ended);
-        }
-        self.faults = self.faults.saturating_add(1);
-        Err(NoneCame::Failed)
     }
 
     fn done<D: Desk>(
@@ -147,7 +137,7 @@ impl<'a, R: Wait + Clock, L: Link + Drop> Door for TcpDoor<'a, R, L> {
         desk: &D,
     ) {
         let _ = (link, desk);
-        let activity = &self.activity;
+        let activity = self.queue.activity();
         activity.serving.take_one();
         activity.served.add_one();
         activity.answered.add(end.served);

@@ -7,7 +7,7 @@ use cloud_serve::ConnEnd;
 use grain_supervise::Link;
 use host_base::{Memory, StdSink, StdSource};
 use hub_core::Desk;
-use serve_door::{Door, NoneCame};
+use serve_door::{Door, Entrance, NoneCame};
 use std::alloc::Global;
 use std::io;
 use std::marker::{Model, PhantomData};
@@ -62,11 +62,7 @@ fn next_streams(listener: &UnixListener) -> io::Result<(UnixStream, UnixStream)>
     Ok((input, output))
 }
 
-impl<L: Link + Drop> Door for UnixDoor<L> {
-    type Input = StdSource<UnixStream>;
-
-    type Output = StdSink<UnixStream>;
-
+impl<L: Link + Drop> Entrance for UnixDoor<L> {
     type Link = L;
 
     ghost doorway = { λ faults. record { faults = faults; traffic = None } };
@@ -95,6 +91,12 @@ impl<L: Link + Drop> Door for UnixDoor<L> {
     {
         self.faults = self.faults.saturating_add(handle.faults);
     }
+}
+
+impl<L: Link + Drop> Door for UnixDoor<L> {
+    type Input = StdSource<UnixStream>;
+
+    type Output = StdSink<UnixStream>;
 
     fn accept(&mut self) -> Result<(StdSource<UnixStream>, StdSink<UnixStream>), NoneCame>
         ensures input { IfOk result (λ pair. IsFreshInlet pair.0) }

@@ -9,6 +9,7 @@ mod gate;
 mod gated;
 mod gated_keeper;
 mod given;
+mod halls;
 mod holding;
 mod keeping;
 mod making;

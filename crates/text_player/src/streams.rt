@@ -2,6 +2,7 @@
 
 ghost use Rattle.std.specs.Prelude.{All, IfOk};
 ghost use Rattle.serve_door.specs.Doors.{IsInOrder, mem_doorway};
+ghost use Rattle.serve_door.specs.Working.{AreReady};
 
 use crate::book::book_of;
 use crate::passes::on_passes;
@@ -9,7 +10,7 @@ use front_http::Routes;
 use grain_supervise::{AskFault, EchoLink, Link};
 use host_base::{Answer, Fails, GrainId, MemSink, MemSource, Memory, RunId};
 use hub_core::SoloDesk;
-use serve_door::{Door, MemDoor, Stop, Worker, serve_all};
+use serve_door::{Entrance, MemDoor, MemHalls, Post, Stop, Worker, serve_all};
 use std::alloc::Global;
 use std::num::NonZeroUsize;
 use std::sync::atomic::{AtomicU64, Ordering};
@@ -107,17 +108,22 @@ fn door_of<L: Link + Drop>(alloc: Global, request: &str) -> Result<MemDoor<L>, F
     Ok(door)
 }
 
+// A worker at a door in memory.
+type Doorman<'a, R> = Worker<'a, MemDoor<HeldLink>, MemHalls<HeldLink>, R>;
+
 // A worker for each request, at a door of its own.
 fn workers_of<'a, R>(
     rt: &'a R,
     alloc: Global,
     link: &HeldLink,
-) -> Result<Vec<Worker<'a, MemDoor<HeldLink>, R>>, Fault>
-    ensures { IfOk result (λ workers. All (λ worker. IsInOrder worker.doorway) workers.items) }
+) -> Result<Vec<Doorman<'a, R>>, Fault>
+    ensures { IfOk result (λ workers. All AreReady workers.items) }
 {
     let mut workers = Vec::new(alloc);
-    workers.push(Worker::new(rt, door_of(alloc, REQUESTS[0])?, link.another(alloc)?))?;
-    workers.push(Worker::new(rt, door_of(alloc, REQUESTS[1])?, link.another(alloc)?))?;
+    let first = Post::new(door_of(alloc, REQUESTS[0])?, link.another(alloc)?);
+    workers.push(Worker::at_door(rt, first))?;
+    let second = Post::new(door_of(alloc, REQUESTS[1])?, link.another(alloc)?);
+    workers.push(Worker::at_door(rt, second))?;
     Ok(workers)
 }
 
@@ -145,10 +151,11 @@ fn written_alone<R: Wait>(rt: &R, alloc: Global, request: &str) -> Result<Vec<u8
 fn compared<'a, R: Wait>(
     rt: &R,
     alloc: Global,
-    worker: Worker<'a, MemDoor<HeldLink>, R>,
+    worker: Doorman<'a, R>,
     request: &str,
 ) -> Result<(u64, bool), Fault> {
-    let (door, stopped) = worker.into_parts();
+    let (post, _) = worker.into_posts();
+    let (door, stopped) = post.ok_or(Fault::Unreadable)?.into_parts();
     let answered = if stopped.stop == Stop::All {
         stopped.answered
     } else {
@@ -164,7 +171,7 @@ fn served<'a, R: Threads + Wait + Sync>(
     rt: &'a R,
     alloc: Global,
     stage: Arc<AtomicU64, Global>,
-) -> Result<Vec<Worker<'a, MemDoor<HeldLink>, R>>, Fault> {
+) -> Result<Vec<Doorman<'a, R>>, Fault> {
     let link = HeldLink {
         link: EchoLink::new(alloc, Fails::empty(alloc)),
         stage,

@@ -116,15 +116,16 @@ fn message_of(alloc: Global, word: &str) -> Result<Message, Fault> {
     }
 }
 
-// What a row asks for: messages, and before which of them which grant is revoked.
+/// What a row asks for: messages, and before which of them which grant is revoked.
 #[derive(Drop)]
-struct Asked {
-    messages: Vec<Message>,
-    before: Option<u32>,
-    grant: GrantId,
+pub struct Asked {
+    pub messages: Vec<Message>,
+    pub before: Option<u32>,
+    pub grant: GrantId,
 }
 
-fn asked_of(alloc: Global, row: &str) -> Result<Asked, Fault> {
+/// The messages of a row, `text:TEXT` or `bytes:TEXT`, and the grant that is revoked before one of them, `revoked:N`.
+pub fn asked_of(alloc: Global, row: &str) -> Result<Asked, Fault> {
     let mut messages = Vec::new(alloc);
     let mut before = None;
     let mut grant = GrantId(0);
@@ -167,8 +168,8 @@ fn put_places(alloc: Global, told: &mut String, places: &Places) -> Result<(), F
     Ok(())
 }
 
-// What is told of a tunnel that was served: what was asked, what was put, and how it ended.
-fn told_of(
+/// What is told of a tunnel that was served: what was asked, what was put, and how it ended.
+pub fn told_of(
     alloc: Global,
     messages: &MemMessages,
     link: &EchoLink,

@@ -157,16 +157,18 @@ module _ {D : Type 0} (gave : D → Key → Answer → D → Type 0) (book : D �
       let d = did_none gave book (digest_in []) old new desk [] 0 line s.moved in
       record {
         course = Unopened;
-        from_is = is;
-        lawful = s.ends;
         asked_desk = refl;
-        none = d.none;
-        places_are = refl;
-        asked_of = d.asked_of;
-        passed_is = refl;
-        moved = d.moved;
-        left = s.left;
-        cause = s.cause;
+        run = record {
+          from_is = is;
+          lawful = s.ends;
+          none = d.none;
+          places_are = refl;
+          asked_of = d.asked_of;
+          passed_is = refl;
+          moved = d.moved;
+          left = s.left;
+          cause = s.cause;
+        };
       }
 
   left_misopened : (e : HallEnd) (old new : Hall) → EndsMisopened e → LeftAt e old new
@@ -184,16 +186,18 @@ module _ {D : Type 0} (gave : D → Key → Answer → D → Type 0) (book : D �
       let d = did_none gave book (digest_in []) old (record { hall = old.hall; line = new.line }) desk [] 0 line (record { left = λ list told. (list, refl, told); put = λ list told. told ∙ ap Some (sym (append-nil list)); whole = refl; counts = omega arith }) in
       record {
         course = Misopened m.first;
-        from_is = is;
-        lawful = (m.no_key, m.ends);
         asked_desk = refl;
-        none = d.none;
-        places_are = refl;
-        asked_of = d.asked_of;
-        passed_is = refl;
-        moved = m.moved;
-        left = left_misopened e old.hall new.hall m.ends;
-        cause = m.cause;
+        run = record {
+          from_is = is;
+          lawful = (m.no_key, m.ends);
+          none = d.none;
+          places_are = refl;
+          asked_of = d.asked_of;
+          passed_is = refl;
+          moved = m.moved;
+          left = left_misopened e old.hall new.hall m.ends;
+          cause = m.cause;
+        };
       }
 
   -- the messages behind the key were served
@@ -204,22 +208,24 @@ module _ {D : Type 0} (gave : D → Key → Answer → D → Type 0) (book : D �
       let same : who ≡ digest_in text = o.opened.who_is in
       record {
         course = Opened text s.es s.hand;
-        from_is = is;
-        lawful = (
-          o.opened.is_key,
-          (
-            s.high,
-            subst (λ (w : Digest). AllGoOn (book after) from w 1 s.es s.high) same (subst (λ (n : ℕ). AllGoOn (book after) n who 1 s.es s.high) (sym is) s.lawful),
-            subst (λ (w : Digest). EndsWith e s.hand (book after) s.high w (length s.es)) same s.ends,
-          ),
-        );
         asked_desk = subst (λ (w : Digest). WereAsked gave (key.Session w) before (s.es ++ in_hand s.hand) after) same s.did.asked_desk;
-        none = s.did.none;
-        places_are = s.did.places_are;
-        asked_of = subst (λ (l : _). AskedOf l new.line (flat_map (λ (x : Exchange). x.asked) (s.es ++ in_hand s.hand))) line s.did.asked_of;
-        passed_is = omega (arith, s.did.counts_is);
-        moved = subst (λ (m : Message). Moved old.hall new.hall (m ∷ map (λ (x : Exchange). x.message) (s.es ++ in_hand s.hand)) (flat_map (λ (x : Exchange). x.put) (s.es ++ in_hand s.hand))) o.opened.first_is
-            (moved_trans old.hall now.hall new.hall (o.first ∷ []) (map (λ (x : Exchange). x.message) (s.es ++ in_hand s.hand)) [] (flat_map (λ (x : Exchange). x.put) (s.es ++ in_hand s.hand)) o.moved s.did.moved);
-        left = left_from e old.hall now.hall new.hall (o.first ∷ []) [] o.moved s.left;
-        cause = cause_from e old.hall now.hall new.hall o.moved.counts s.did.moved.counts s.cause;
+        run = record {
+          from_is = is;
+          lawful = (
+            o.opened.is_key,
+            (
+              s.high,
+              subst (λ (w : Digest). AllGoOn (book after) from w 1 s.es s.high) same (subst (λ (n : ℕ). AllGoOn (book after) n who 1 s.es s.high) (sym is) s.lawful),
+              subst (λ (w : Digest). EndsWith e s.hand (book after) s.high w (length s.es)) same s.ends,
+            ),
+          );
+          none = s.did.none;
+          places_are = s.did.places_are;
+          asked_of = subst (λ (l : _). AskedOf l new.line (flat_map (λ (x : Exchange). x.asked) (s.es ++ in_hand s.hand))) line s.did.asked_of;
+          passed_is = omega (arith, s.did.counts_is);
+          moved = subst (λ (m : Message). Moved old.hall new.hall (m ∷ map (λ (x : Exchange). x.message) (s.es ++ in_hand s.hand)) (flat_map (λ (x : Exchange). x.put) (s.es ++ in_hand s.hand))) o.opened.first_is
+              (moved_trans old.hall now.hall new.hall (o.first ∷ []) (map (λ (x : Exchange). x.message) (s.es ++ in_hand s.hand)) [] (flat_map (λ (x : Exchange). x.put) (s.es ++ in_hand s.hand)) o.moved s.did.moved);
+          left = left_from e old.hall now.hall new.hall (o.first ∷ []) [] o.moved s.left;
+          cause = cause_from e old.hall now.hall new.hall o.moved.counts s.did.moved.counts s.cause;
+        };
       }

@@ -112,6 +112,24 @@ abbrev pub LeftAt : HallEnd → Hall → Hall → Type 0
 LeftAt end.Closed old new = (list : List Message) → old.left ≡ Some list → new.left ≡ Some []
 LeftAt _ old new = Unit {0}
 
+-- A COURSE WAS SERVED on a history: by what the desk told of it before, of which it had seen `from` entries, and what it told in
+-- the end.
+pub record IsRun (before after : Book) (old new : Wired) (course : Course) (end : HallEnd) (from : ℕ) (places : List ℕ) (passed : ℕ)
+    : Type 0 where
+  -- Places begin at what the desk had seen; each message is lawful at its place in that one history.
+  pub from_is : from ≡ length before.seen
+  pub lawful : IsLawful end after from course
+  -- The desk was given no order.
+  pub none : TakesNone before after
+  pub places_are : places ≡ flat_map (λ e. places_in e.judged) (exchanges course)
+  -- The link was asked the texts of the messages that go through and no others; each failure is counted.
+  pub asked_of : AskedOf old.line new.line (flat_map (λ e. e.asked) (exchanges course))
+  pub passed_is : passed ≡ length (flat_map (λ e. e.asked) (exchanges course))
+  -- All messages that were taken are those of the course, and nothing else was put.
+  pub moved : Moved old.hall new.hall (taken course) (put_in end course)
+  pub left : LeftAt end old.hall new.hall
+  pub cause : CauseAt end old.hall new.hall
+
 -- A desk was asked for the verdict on a key, by `gave` between the desk before and the desk after, or wasn't asked.
 module _ {D : Type 0} (gave : D → Key → Answer → D → Type 0) where
   abbrev pub WasAsked : Key → D → Option Answer → D → Type 0
@@ -132,17 +150,6 @@ module _ {D : Type 0} (gave : D → Key → Answer → D → Type 0) where
   pub record TunnelRun (book : D → Book) (old new : Wired) (before after : D) (end : HallEnd) (from : ℕ) (places : List ℕ) (passed : ℕ)
       : Type 0 where
     pub course : Course
-    -- Places begin at what the desk had seen; each message is lawful at its place in that one history.
-    pub from_is : from ≡ length (book before).seen
-    pub lawful : IsLawful end (book after) from course
-    -- The desk was asked for one verdict for each message that isn't too long; it was given no order.
+    pub run : IsRun (book before) (book after) old new course end from places passed
+    -- The desk was asked for one verdict for each message that isn't too long.
     pub asked_desk : WereAskedIn before course after
-    pub none : TakesNone (book before) (book after)
-    pub places_are : places ≡ flat_map (λ e. places_in e.judged) (exchanges course)
-    -- The link was asked the texts of the messages that go through and no others; each failure is counted.
-    pub asked_of : AskedOf old.line new.line (flat_map (λ e. e.asked) (exchanges course))
-    pub passed_is : passed ≡ length (flat_map (λ e. e.asked) (exchanges course))
-    -- All messages that were taken are those of the course, and nothing else was put.
-    pub moved : Moved old.hall new.hall (taken course) (put_in end course)
-    pub left : LeftAt end old.hall new.hall
-    pub cause : CauseAt end old.hall new.hall

@@ -14,7 +14,7 @@ returns-in-Err-clause-plays g c = rw (← c.world.view_is)
     inr (record {
       status_is = refl;
       same = c.joined-world.ensures.tells
-          ∙ ap (λ (h : Backing). the_world (g.W.Input.Source.inlet inside.input) (g.W.Output.Sink.outlet inside.out) (g.W.Door.Link.Link.line inside.link) h (g.W.Clock.Clock.moments inside.clock) (g.W.Door.Door.doorway inside.door)) (ap (λ (o : Objects _). o.tell) c.in-Err.ensures.err);
+          ∙ ap (λ (h : Backing). the_world (g.W.Input.Source.inlet inside.input) (g.W.Output.Sink.outlet inside.out) (g.W.Door.Link.Link.line inside.link) h (g.W.Clock.Clock.moments inside.clock) (g.W.Door.Entrance.doorway inside.door) (g.W.Halls.Entrance.doorway inside.halls)) (ap (λ (o : Objects _). o.tell) c.in-Err.ensures.err);
     }))
 
 pub returns-clause-plays : goal.returns-clause-plays

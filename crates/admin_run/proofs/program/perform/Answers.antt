@@ -6,7 +6,7 @@ pub returns-in-Check-clause-does : goal.returns-in-Check-clause-does
 returns-in-Check-clause-does g c = rw c.in-Check.is c.check.ensures.checks
 
 pub returns-in-Serve-clause-does : goal.returns-in-Serve-clause-does
-returns-in-Serve-clause-does g c = rw c.in-Serve.is c.serve.ensures.serves
+returns-in-Serve-clause-does g c = rw c.in-Serve.is (rw c.tunnels_in.ensures at c.serve.ensures.serves)
 
 pub returns-in-Unknown-clause-does : goal.returns-in-Unknown-clause-does
 returns-in-Unknown-clause-does g c = rw c.in-Unknown.is c.usage.ensures.tells

@@ -6,7 +6,7 @@ use Rattle.admin_run.proofs.serving.serve.Goals as goal
 pub returns-then-told-ne0-clause-serves : goal.returns-then-told-ne0-clause-serves
 returns-then-told-ne0-clause-serves g c = rw (← c.world.view_is, ← c.world-inside.view_is)
     (let five = is_five c.announce-told.result c.announce-told.ensures.either c.if-told-ne0.true in
-    inr (stops_at_login _ _ c.announce-told.result _ _ _ _ _ _ c.in-Ok.ensures.begins _ c.in-Ok.ensures.outlive c.announce-told.ensures.tells five))
+    inr (stops_at_login _ _ _ c.announce-told.result _ _ _ _ _ _ c.in-Ok.ensures.begins _ c.in-Ok.ensures.outlive c.announce-told.ensures.tells five))
 
 pub returns-then-told-ne0-clause-cause : goal.returns-then-told-ne0-clause-cause
 returns-then-told-ne0-clause-cause g c = rw (← c.world.view_is, ← c.world-inside.view_is)
@@ -22,7 +22,7 @@ serve_tables-requires-clause-order g c κs within = rw (← c.world.view_is, ←
 
 pub returns-clause-serves : goal.returns-clause-serves
 returns-clause-serves g c = rw (← c.world.view_is, ← c.world-inside.view_is)
-    (inr (serves_from _ _ c.serve_tables.result.status _ _ _ _ _ _ c.in-Ok.ensures.begins _ c.serve_tables.result.world.tells c.announce-told.result c.if-told-ne0.false c.announce-told.ensures.tells
+    (inr (serves_from _ _ _ c.serve_tables.result.status _ _ _ _ _ _ c.in-Ok.ensures.begins _ c.serve_tables.result.world.tells c.announce-told.result c.if-told-ne0.false c.announce-told.ensures.tells
     c.announce-told.ensures.counts c.serve_tables.ensures.counts c.serve_tables.ensures.serves c.serve_tables.ensures.others))
 
 pub returns-clause-cause : goal.returns-clause-cause

@@ -5,6 +5,6 @@ use Rattle.grain_program.proofs.grain.run_grain.Given as goal
 
 abbrev pub invariant-connections : goal.invariant-connections
 invariant-connections g l = record {
-  counts : (g.E.Door.doorway l.fn.door).faults ≤ (g.E.Door.doorway l.door).faults;
-  taken : (g.E.Door.doorway l.door).traffic ≡ option_map (taken_of l.count l._taken) (g.E.Door.doorway l.fn.door).traffic;
+  counts : (g.E.Entrance.doorway l.fn.door).faults ≤ (g.E.Entrance.doorway l.door).faults;
+  taken : (g.E.Entrance.doorway l.door).traffic ≡ option_map (taken_of l.count l._taken) (g.E.Entrance.doorway l.fn.door).traffic;
 }

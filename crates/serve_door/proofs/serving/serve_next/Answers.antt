@@ -1,5 +1,5 @@
 use Rattle.std.proofs.Common.{refl, ap, ◌∙◌}
-use Rattle.serve_door.specs.Doors.{Doorway, connection, given_back}
+use Rattle.serve_door.specs.Doors.{Connected, Doorway, connection, given_back}
 use Rattle.serve_door.proofs.Fresh.{is_served}
 use Rattle.serve_door.proofs.serving.serve_next.Goals as goal
 
@@ -20,5 +20,5 @@ returns-in-Ok-accept-clause-serves g c =
       one,
       is_served _ _ (g.E.Link.Link.line c.args.link.now) _ _ _ _ c.serve_conn-end.result c.in-Ok-accept.ensures.input whole c.in-Ok-accept.ensures.output c.in-Ok.ensures served,
       refl,
-      c.done.ensures ∙ ap (λ (d : Doorway). given_back d one) c.in-Ok-accept.ensures.given,
+      c.done.ensures ∙ ap (λ (d : Doorway). given_back d (Connected one)) c.in-Ok-accept.ensures.given,
     )

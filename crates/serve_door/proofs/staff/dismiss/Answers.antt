@@ -1,41 +1,42 @@
-use Rattle.std.proofs.Common.{◌∙◌, List, ap, sym, arith}
-use Rattle.std.proofs.lemmas.Iterator.Adapters.{YieldsList-from_vec}
-use Rattle.std.proofs.lemmas.Iterator.Consumers.{YieldsList-end}
-use Rattle.serve_door.specs.Doors.{Doorway, with_faults_of}
-use Rattle.serve_door.specs.Working.{Post, all_together, together, with_handles}
+use Rattle.std.proofs.Common.{◌≡◌, ◌∙◌, ◌++◌, ◌∷◌, [], List, ap}
+use Rattle.serve_door.specs.Inner.{door_posts, hall_posts}
+use Rattle.serve_door.specs.Working.{Post, Posts, all_together, together, workers_at}
 use Rattle.serve_door.specs.declared.serving.Stopped.{Stopped}
-use Rattle.serve_door.proofs.Handles.{handles_more, last_same, together_more, unchanged}
+use Rattle.serve_door.proofs.Employed.{door_posts_at, hall_posts_at}
 use Rattle.serve_door.proofs.staff.dismiss.Goals as goal
 
-pub handles-preserved : goal.handles-preserved
-handles-preserved g c =
-    let worker = c.in-Some-worker.worker in
-    let so_far = c.handles.invariant in
-    record {
-      door = λ handles main is.
-          c.take_back.ensures ∙ ap (λ (h : Doorway). with_faults_of (g.E.Door.doorway c.handles.door) h) c.into_parts-handle.ensures.door
-          ∙ ap (λ (d : Doorway). with_faults_of d worker.doorway) (so_far.door handles main is) ∙ handles_more main.doorway c.handles.yielded worker;
-      stopped = λ handles main is.
-          c.together-all.ensures ∙ ap (λ (s : Stopped). together c.handles.all s) c.into_parts-handle.ensures.stopped
-          ∙ ap (λ (s : Stopped). together s worker.stopped) (so_far.stopped handles main is) ∙ together_more main.stopped c.handles.yielded worker;
-    }
+door_of : (workers : List Posts) (doors handles at_halls : List Post) (main hall : Post) → doors ≡ door_posts workers
+    → workers ≡ workers_at (handles ++ main ∷ []) (at_halls ++ hall ∷ []) → doors ≡ handles ++ main ∷ []
+door_of workers doors handles at_halls main hall collected is =
+    collected ∙ (ap (λ (w : List Posts). door_posts w) is ∙ door_posts_at (handles ++ main ∷ []) (at_halls ++ hall ∷ []))
+
+halls_of : (workers : List Posts) (halls handles at_halls : List Post) (main hall : Post) → halls ≡ hall_posts workers
+    → workers ≡ workers_at (handles ++ main ∷ []) (at_halls ++ hall ∷ []) → halls ≡ at_halls ++ hall ∷ []
+halls_of workers halls handles at_halls main hall collected is =
+    collected ∙ (ap (λ (w : List Posts). hall_posts w) is ∙ hall_posts_at (handles ++ main ∷ []) (at_halls ++ hall ∷ []))
+
+pub close_posts-door-requires : goal.close_posts-door-requires
+close_posts-door-requires g c =
+    let (handles, at_halls, main, hall, is) = c.requires.all in
+    (handles, main, door_of _ _ handles at_halls main hall c.collect.ensures.doors is)
+
+pub close_posts-halls-requires : goal.close_posts-halls-requires
+close_posts-halls-requires g c =
+    let (handles, at_halls, main, hall, is) = c.requires.all in
+    (at_halls, hall, halls_of _ _ handles at_halls main hall c.collect.ensures.halls is)
 
 pub returns-clause-door : goal.returns-clause-door
-returns-clause-door g c = λ handles main is.
-    let rest = c.pop.new.self.items in
-    let yielded = c.handles.yielded in
-    let made = c.into_iter-worker-iterator.ensures.into_iter_gives in
-    let whole = YieldsList-from_vec {s = c.into_iter-worker-iterator.result} rest made.0 (omega arith) in
-    let all = YieldsList-end whole yielded c.handles.worker-iterator c.handles.yielded_by c.next.result c.next.new.self c.in-None.is c.next.ensures.steps in
-    let same = last_same rest handles c.in-Some.main main (sym c.in-Some.ensures.items ∙ is) in
-    c.handles.invariant.door handles main is ∙ ap (λ (list : List Post). with_handles main.doorway list) (sym (unchanged yielded) ∙ all.0 ∙ same.0)
+returns-clause-door g c = λ handles at_halls main hall is.
+    c.close_posts-door.ensures.door handles main (door_of _ _ handles at_halls main hall c.collect.ensures.doors is)
+
+pub returns-clause-halls : goal.returns-clause-halls
+returns-clause-halls g c = λ handles at_halls main hall is.
+    c.close_posts-halls.ensures.door at_halls hall (halls_of _ _ handles at_halls main hall c.collect.ensures.halls is)
 
 pub returns-clause-stopped : goal.returns-clause-stopped
-returns-clause-stopped g c = λ handles main is.
-    let rest = c.pop.new.self.items in
-    let yielded = c.handles.yielded in
-    let made = c.into_iter-worker-iterator.ensures.into_iter_gives in
-    let whole = YieldsList-from_vec {s = c.into_iter-worker-iterator.result} rest made.0 (omega arith) in
-    let all = YieldsList-end whole yielded c.handles.worker-iterator c.handles.yielded_by c.next.result c.next.new.self c.in-None.is c.next.ensures.steps in
-    let same = last_same rest handles c.in-Some.main main (sym c.in-Some.ensures.items ∙ is) in
-    c.handles.invariant.stopped handles main is ∙ ap (λ (list : List Post). all_together main.stopped list) (sym (unchanged yielded) ∙ all.0 ∙ same.0)
+returns-clause-stopped g c = λ handles at_halls main hall is.
+    c.together.ensures
+    ∙ (ap (λ (s : Stopped). together s c.close_posts-halls.result.1)
+    (c.close_posts-door.ensures.stopped handles main (door_of _ _ handles at_halls main hall c.collect.ensures.doors is))
+    ∙ ap (λ (s : Stopped). together (all_together main.stopped handles) s)
+    (c.close_posts-halls.ensures.stopped at_halls hall (halls_of _ _ handles at_halls main hall c.collect.ensures.halls is)))
