@@ -217,19 +217,24 @@ class Started:
 
 
 class Server(Started):
-    """The program's line `serve`, on a file of a folder."""
+    """The program's line `serve`, on a file of a folder, with a port for tunnels and their number where both are given."""
 
-    def __init__(self, program, folder, port, count, file="club.db", **how):
-        self.folder, self.file, self.port, self.held = folder, file, port.number, port
+    def __init__(self, program, folder, port, count, file="club.db", tunnels=None, **how):
+        self.folder, self.file, self.port, self.held, self.tunnels = folder, file, port.number, (port, tunnels), None
         self.is_new = not os.path.exists(os.path.join(folder, file))
-        super().__init__(program, ["serve", file, str(self.port), str(count)], folder, **how)
+        words = ["serve", file, str(self.port), str(count)]
+        if tunnels:
+            self.tunnels = tunnels[0].number
+            words += [str(self.tunnels), str(tunnels[1])]
+        super().__init__(program, words, folder, **how)
         until(f"a server on port {self.port}", self.is_up)
 
     def is_up(self):
-        """Whether it takes connections, and has said the first login where its file was new, or has ended."""
+        """Whether it takes connections, and tunnels where it has them, and has said the first login where its file was new, or has ended."""
         if self.has_ended():
             return True
-        return "127.0.0.1" in listeners_on(self.port) and (not self.is_new or b"\n" in self.printed())
+        ports = [self.port] if self.tunnels is None else [self.port, self.tunnels]
+        return all("127.0.0.1" in listeners_on(port) for port in ports) and (not self.is_new or b"\n" in self.printed())
 
     def login(self):
         """The first login, where it printed one."""

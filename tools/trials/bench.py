@@ -12,7 +12,7 @@ from trials.talk import Talk
 from trials.tally import Tally
 
 # What a server says on standard error, a line a second.
-TELLING = re.compile(r"^lumbyte:( [a-z_]+=\d+){11}\n", re.MULTILINE)
+TELLING = re.compile(r"^lumbyte:( [a-z_]+=\d+){14}\n", re.MULTILINE)
 
 
 class Bench:
