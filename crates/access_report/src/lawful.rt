@@ -1,27 +1,23 @@
 //! What owners hold, and what grants let through.
 
-ghost use Rattle.std.specs.Prelude.{◌≡◌, ◌↔◌, ◌<◌, ℕ, IsTrue, false, length};
+ghost use Rattle.std.specs.Prelude.{◌≡◌, ◌↔◌, ◌<◌, IsTrue};
 ghost use Rattle.perm_roles.specs.PermSet.{Has};
-ghost use Rattle.perm_roles.specs.Roles.{GivesPermission as AssignmentGives};
 ghost use Rattle.share_graph.specs.declared.facts.Fact as the_facts;
-ghost use Rattle.share_graph.specs.declared.facts.Fact.TheVariants as the_fact;
 ghost use Rattle.share_graph.specs.declared.facts.Node.TheVariants as node;
 ghost use Rattle.share_graph.specs.declared.rows.App as the_app;
 ghost use Rattle.share_graph.specs.Coherent.{IsCoherent};
-ghost use Rattle.share_graph.specs.Derivation.{IsFactOf, IsLive, IsOpenSite, LetsThrough, Owns};
-ghost use Rattle.share_graph.specs.Fitting.{IsSoundManifest, IsAssignmentFor};
+ghost use Rattle.share_graph.specs.Derivation.{IsFactOf, IsOpenSite, LetsThrough, Owns};
 ghost use Rattle.share_graph.specs.Nodes.{Gives};
 ghost use Rattle.share_graph.specs.Rows.{IsGrain, IsGrant};
 ghost use Rattle.least_access.specs.Held.{IsIn};
 ghost use Rattle.access_report.specs.Steps.{IsOwned};
 
-use app_manifest::Manifest;
 use host_base::{AccountId, GrainId, GrantId};
+use least_access::passing::{given, is_live};
 use least_access::{Held, owned};
-use perm_roles::{Assignment, PermSet};
+use perm_roles::PermSet;
 use share_graph::{
-    Fact, Grain, Grant, Node, Tables, app as find_app, app_of, grain as find_grain, is_kept, lasts,
-    may_receive,
+    Fact, Grain, Grant, Node, Tables, app as find_app, grain as find_grain, is_kept, may_receive,
 };
 
 // Whether a set has a position.
@@ -76,29 +72,6 @@ pub fn own_of(tables: &Tables, node: Node) -> Held
     }
 }
 
-// What an assignment gives by a manifest that it fits.
-fn given_by(manifest: &Manifest, assignment: &Assignment) -> PermSet
-    requires manifest { IsSoundManifest manifest.now }
-    requires assignment { IsAssignmentFor manifest.now assignment.now }
-    ensures { (p : ℕ) → Has result p ↔ AssignmentGives manifest.now.roles
-        (length manifest.now.permissions) assignment.now p }
-{
-    let count = manifest.permissions.as_slice().len() as u8;
-    perm_roles::granted(manifest.roles.as_slice(), count, assignment)
-}
-
-// The permissions that a grant gives.
-fn given(tables: &Tables, num: GrantId, grant: &Grant) -> PermSet
-    requires coherent { IsCoherent tables.now }
-    requires row { IsGrant tables.now num grant.now }
-    ensures { (p : ℕ) → Has result p ↔ Gives tables.now grant.now (the_fact.Perm p) }
-{
-    match app_of(tables, grant.grain) {
-        Some(app) => given_by(&app.manifest, &grant.assignment),
-        None => unreachable!(),
-    }
-}
-
 // Whether a grant gives a fact.
 fn gives(tables: &Tables, num: GrantId, grant: &Grant, fact: Fact) -> bool
     requires coherent { IsCoherent tables.now }
@@ -111,23 +84,13 @@ fn gives(tables: &Tables, num: GrantId, grant: &Grant, fact: Fact) -> bool
     }
 }
 
-// Whether a grant isn't revoked and hasn't ended by itself.
-fn is_live(tables: &Tables, num: GrantId, grant: &Grant) -> bool
-    requires { IsGrant tables.now num grant.now }
-    ensures { IsTrue result ↔ IsLive tables.now num grant.now }
-{
-    !grant.revoked && lasts(tables.moment, grant.expires)
-}
-
 /// Whether a grant passes a fact on where its source holds it.
 pub fn lets_through(tables: &Tables, num: GrantId, grant: &Grant, fact: Fact) -> bool
     requires coherent { IsCoherent tables.now }
     requires row { IsGrant tables.now num grant.now }
     ensures { IsTrue result ↔ LetsThrough tables.now num grant.now fact }
 {
-    is_live(tables, num, grant)
-        && may_receive(tables, grant.target)
-        && gives(tables, num, grant, fact)
+    is_live(tables, grant) && may_receive(tables, grant.target) && gives(tables, num, grant, fact)
 }
 
 /// Whether a grant of the site, with its needs met, gives entry.
@@ -135,5 +98,5 @@ pub fn is_open_site(tables: &Tables, num: GrantId, grant: &Grant) -> bool
     requires { IsGrant tables.now num grant.now }
     ensures { IsTrue result ↔ IsOpenSite tables.now num grant.now }
 {
-    is_live(tables, num, grant) && is_kept(tables, grant.grain)
+    is_live(tables, grant) && is_kept(tables, grant.grain)
 }

@@ -2,7 +2,6 @@
 
 ghost use Rattle.std.specs.Prelude.{◌≡◌, IfOk};
 ghost use Rattle.std.specs.List.{filter_map};
-ghost use Rattle.region_access.specs.declared.tie.Tie.TheVariants as the_tie;
 ghost use Rattle.region_access.specs.Ties.{IsTiesOf, tied_in};
 ghost use Rattle.share_graph.specs.Coherent.{IsCoherent};
 ghost use Rattle.least_access.specs.Solved.{IsSolutionOf};
@@ -11,23 +10,13 @@ ghost use Rattle.access_report.specs.Found.{entry_of as the_entry_of};
 
 use crate::entry::Entry;
 use crate::finding::{add_grants, add_owner};
-use host_base::{GrainId, GrantId, Memory};
+use host_base::{GrainId, Memory};
 use least_access::{Held, Solved};
-use region_access::{Tie, Ties};
+use region_access::{Tie, Ties, tied_by};
 use share_graph::{Node, Tables};
 use std::alloc::Global;
 use std::collections::BTreeMap;
 use std::collections::btree_map::Iter;
-
-// The grants on a grain.
-fn grants_on(ties: &Ties, grain: GrainId) -> &[GrantId]
-    ensures { result.now ≡ tied_in ties.now.entries (the_tie.Grain grain) }
-{
-    match ties.get(&Tie::Grain(grain)) {
-        Some(tied) => tied.as_slice(),
-        None => &[],
-    }
-}
 
 // The entry of a node, if what is held there has entry.
 fn entry_of(node: &Node, held: &Held) -> Option<Entry>
@@ -71,6 +60,7 @@ pub fn who(
 {
     let mut found = BTreeMap::new(alloc);
     add_owner(&mut found, solved, tables, grain)?;
-    add_grants(&mut found, solved, tables, grain, grants_on(ties, grain))?;
+    let grants = tied_by(ties, Tie::Grain(grain));
+    add_grants(&mut found, solved, tables, grain, grants)?;
     entries_of(alloc, found.iter())
 }

@@ -1,6 +1,7 @@
 -- What a desk answers, by the row of its command.
 use Rattle.std.specs.Prelude.{◌≡◌, ℕ, Some, Result, Ok, Err}
-use Rattle.desk_base.specs.Terms.{Digest, Event, HasDigest, IsUnused, Kind, Made, Refusal, State}
+use Rattle.desk_base.specs.Terms.{DeskFault, Digest, Event, HasDigest, IsUnused, Kind, Made, Refusal, State}
+use Rattle.share_graph.specs.declared.desk.DeskFault.TheVariants as fault
 use Rattle.share_graph.specs.declared.event.Event.TheVariants as event
 use Rattle.share_graph.specs.declared.refusal.Refusal.TheVariants.{TokenClash}
 use Rattle.desk_base.specs.declared.outcome.Draft.{Draft}
@@ -8,6 +9,7 @@ use Rattle.desk_base.specs.declared.outcome.Outcome.{Outcome}
 use Rattle.desk_base.specs.declared.outcome.Outcome.TheVariants as outcome
 use Rattle.desk_base.specs.declared.stop.Stop.{Stop}
 use Rattle.desk_base.specs.declared.stop.Stop.TheVariants as stop
+use Rattle.desk_base.specs.Made.{nothing_made}
 use Rattle.desk_base.specs.Steps.{Step, Refuses, Keeps, Makes, Plain, Drawn}
 
 -- the event with a digest, where its row has one
@@ -48,6 +50,12 @@ IsCarried Row (Err stop.Memory) = (step : Step) × Row step
 IsCarried Row (Err (stop.Refused r)) = Row (Refuses r)
 IsCarried Row (Err (stop.Same made)) = Row (Keeps made)
 IsCarried Row (Ok out) = Row (step_of out)
+
+-- THE ANSWER of a desk to a question, by its row and by what answers it; nothing is changed
+abbrev pub IsAnswered : {X : Type 0} → (Step → Type 0) → (X → Type 0) → Result X DeskFault → Type 0
+IsAnswered Row Tells (Ok told) = Row (Keeps nothing_made) × Tells told
+IsAnswered Row Tells (Err (fault.Refused r)) = Row (Refuses r)
+IsAnswered Row Tells (Err fault.Memory) = Unit {0}
 
 -- the digest, which no row has, completes the draft
 abbrev pub Completes : State → Digest → Draft → Event × Made → Type 0

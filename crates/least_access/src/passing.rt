@@ -32,8 +32,8 @@ fn given_by(manifest: &Manifest, assignment: &Assignment) -> PermSet
     perm_roles::granted(manifest.roles.as_slice(), count, assignment)
 }
 
-// The permissions that a grant gives.
-fn given(tables: &Tables, num: GrantId, grant: &Grant) -> PermSet
+/// The permissions that a grant gives.
+pub fn given(tables: &Tables, num: GrantId, grant: &Grant) -> PermSet
     requires coherent { IsCoherent tables.now }
     requires row { IsGrant tables.now num grant.now }
     ensures { (p : ℕ) → Has result p ↔ Gives tables.now grant.now (Fact.Perm p) }
@@ -44,8 +44,8 @@ fn given(tables: &Tables, num: GrantId, grant: &Grant) -> PermSet
     }
 }
 
-// Whether a grant isn't revoked and hasn't ended by itself.
-fn is_live(tables: &Tables, grant: &Grant) -> bool
+/// Whether a grant isn't revoked and hasn't ended by itself.
+pub fn is_live(tables: &Tables, grant: &Grant) -> bool
     ensures { IsTrue result ↔ ((grant.now.revoked ≡ false) × Lasts tables.now.moment grant.now.expires) }
 {
     !grant.revoked && lasts(tables.moment, grant.expires)

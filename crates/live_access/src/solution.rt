@@ -15,13 +15,14 @@ ghost use Rattle.share_graph.specs.Rows.{IsGrant};
 ghost use Rattle.share_graph.specs.Trees.{HasTree};
 ghost use Rattle.share_graph.specs.WellFormed.{IsWithinLimits};
 ghost use Rattle.least_access.specs.Solved.{HeldAt, IsSolutionOf};
+ghost use Rattle.region_access.specs.Arriving.{IsArrivalsOf};
 ghost use Rattle.region_access.specs.Room.{HasEmptyPlace};
 ghost use Rattle.region_access.specs.Seeds.{IsSeedOf};
 ghost use Rattle.region_access.specs.Ties.{IsTiesOf, tied_in};
 ghost use Rattle.region_work.specs.Fed.{fed_in};
 ghost use Rattle.region_work.specs.Prepared.{HasGrants};
 ghost use Rattle.region_work.specs.Starting.{bound_by, needs_by, most_evaluations};
-ghost use Rattle.region_work.specs.Working.{owed_by};
+ghost use Rattle.region_work.specs.Working.{IsIndexOf, owed_by};
 ghost use Rattle.live_access.specs.Kept.{IsSolvedFor};
 ghost use Rattle.live_access.specs.Ready.{AreSeedsFor, IsBefore, IsReadyFor, most_looks};
 ghost use Rattle.live_access.specs.Staying.{TakesNothing};
@@ -35,6 +36,7 @@ use region_access::{
     Indexes, Ties, arrivals_of, collect, distinct, drop_empty, edges_of, find_region, seeds_of,
     solve_anew, ties_of,
 };
+use region_work::edges::Edges;
 use region_work::emptying::empty_at;
 use region_work::{Probe, grow_region, solve_region};
 use share_graph::{Event, Node, Tables};
@@ -102,6 +104,20 @@ impl Solution {
         ensures { (t : Tables) → IsSolvedFor t self.now → IsTiesOf t (tied_in result.now.entries) }
     {
         &self.indexes.ties
+    }
+
+    /// The grants that each node feeds, as their source or in a need.
+    pub fn edges(&self) -> &Edges
+        ensures { (t : Tables) → IsSolvedFor t self.now → IsIndexOf t (fed_in result.now.entries) }
+    {
+        &self.indexes.edges
+    }
+
+    /// The grants that go to each node.
+    pub fn arrivals(&self) -> &Edges
+        ensures { (t : Tables) → IsSolvedFor t self.now → IsArrivalsOf t (fed_in result.now.entries) }
+    {
+        &self.indexes.arrivals
     }
 
     // Whether revoking a grant takes nothing, as far as the other grants tell that go to its node.

@@ -32,4 +32,4 @@ pub use reaching::{distinct, find_region};
 pub use room::Room;
 pub use seeds::seeds_of;
 pub use tie::Tie;
-pub use tying::ties_of;
+pub use tying::{tied_by, ties_of};

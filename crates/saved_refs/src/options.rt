@@ -1,7 +1,8 @@
 //! What may be chosen.
 
 ghost use Rattle.desk_base.specs.Terms.{IsOne, IsSolutionOf, IsWellFormed};
-ghost use Rattle.saved_refs.specs.Options.{Options, AreOptions, IsAnswered};
+ghost use Rattle.desk_base.specs.Outcomes.{IsAnswered};
+ghost use Rattle.saved_refs.specs.Options.{Options, AreOptions};
 
 use crate::choosing::{append_those, choices_of};
 use desk_base::caller_on;

@@ -8,3 +8,4 @@ mod reaching;
 mod showing;
 
 pub use judging::verdict;
+pub use names::names_of;

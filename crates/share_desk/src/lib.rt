@@ -8,6 +8,6 @@ mod sharing;
 mod tokens;
 
 pub use redeeming::redeem;
-pub use revoking::revoke;
+pub use revoking::{may_revoke, revoke};
 pub use sharing::share;
 pub use tokens::{child, make_token};

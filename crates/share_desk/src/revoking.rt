@@ -33,8 +33,8 @@ fn is_root_maker(tables: &Tables, num: GrantId, account: AccountId) -> bool
     root_maker(tables, num) == account
 }
 
-// Whether an account may take a grant back.
-fn may_revoke(tables: &Tables, account: AccountId, num: GrantId, grant: &Grant) -> bool
+/// Whether an account may take a grant back: it owns the grain, gave first on the way of the grant, or is whom it goes to.
+pub fn may_revoke(tables: &Tables, account: AccountId, num: GrantId, grant: &Grant) -> bool
     requires checked { IsChecked tables.now }
     requires there { IsGrant tables.now num grant.now }
     ensures { IsTrue result ↔ MayRevoke tables.now account num grant.now }

@@ -9,11 +9,11 @@ use Rattle.state_step.proofs.Extending.{Extends, fits_same, knows_of_grain}
 use Rattle.state_step.proofs.NextTables.{with_tables, still_sound_grant, still_sound_saved, next_tables, tables_numbered}
 use Rattle.state_step.proofs.Sound.{sound_of}
 
-abbrev at_moment : Tables → ℕ → Tables
+abbrev pub at_moment : Tables → ℕ → Tables
 at_moment t m = record t { moment = m }
 
 -- the rows stay, and no digest comes or goes
-ticked_formed : (s : State) → IsWellFormed s → (m : ℕ) → IsWellFormed (with_tables s (at_moment s.tables m))
+pub ticked_formed : (s : State) → IsWellFormed s → (m : ℕ) → IsWellFormed (with_tables s (at_moment s.tables m))
 ticked_formed s formed m =
     let u : Tables = at_moment s.tables m in
     let sound = sound_of s.tables formed.tables in
