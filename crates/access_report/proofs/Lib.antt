@@ -6,9 +6,15 @@ pub mod Placed
 pub mod Told
 pub mod Marked
 pub mod KeptSteps
-pub mod Turned
 pub mod Rested
+pub mod Backwards
 pub mod Complete
 pub mod Without
 pub mod Lifted
 pub mod Lost
+pub mod Queued
+pub mod FedGrants
+pub mod Joined
+pub mod Spread
+pub mod Begun
+pub mod Traced

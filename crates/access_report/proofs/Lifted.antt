@@ -1,5 +1,5 @@
 -- What is known of nodes, and what grants add to it.
-use Rattle.std.proofs.Common.{◌≡◌, ◌≢◌, ◌<◌, ◌≤◌, ◌+◌, ◌⊎◌, ◌↔◌, ℕ, List, Some, Contains, IsSome, length, take, get_or, sym, subst, inl, inr}
+use Rattle.std.proofs.Common.{◌≡◌, ◌≢◌, ◌<◌, ◌≤◌, ◌+◌, ◌↔◌, ℕ, List, Option, Contains, length, take, get_or, sym, ◌∙◌, subst, inl, inr}
 use Rattle.std.proofs.lemmas.List.{take_more, take_all}
 use Rattle.std.proofs.lemmas.List.Elements.{Contains-push_cases}
 use Rattle.host_base.specs.declared.ids.GrantId.{GrantId}
@@ -12,22 +12,21 @@ use Rattle.share_graph.specs.Nodes.{node_of}
 use Rattle.share_graph.proofs.Least.{follows_more}
 use Rattle.least_access.specs.declared.held.Held.{Held}
 use Rattle.least_access.specs.Held.{IsIn}
-use Rattle.least_access.specs.Solved.{Table, held_at, HeldAt}
+use Rattle.least_access.specs.Solved.{Table, HeldAt}
 use Rattle.region_work.proofs.Sums.{contains_none}
 use Rattle.access_report.specs.Lifting.{IsKnown, IsFilled, AreFilled, HoldAll}
-use Rattle.access_report.proofs.Turned.{has_same, has_then, has_more, has_gained, new_facts}
+use Rattle.access_report.specs.Turns.{IsJoined}
+use Rattle.access_report.proofs.Joined.{has_same, has_then}
 use Rattle.access_report.proofs.Without.{derived_without}
 
 -- a node was filled
-pub is_filled : (t : Tables) (solved : Table) (region : List Node) (old new : Table) (node : Node) (before known after : Held) → IsSome (held_at old node)
-    → ((fact : Fact) → IsIn before fact ↔ HeldAt old node fact) → ((fact : Fact) → IsIn after fact ↔ (IsIn before fact ⊎ IsIn known fact))
-    → held_at new node ≡ Some after → ((other : Node) → other ≢ node → held_at new other ≡ held_at old other)
+pub is_filled : (t : Tables) (solved : Table) (region : List Node) (old new : Table) (node : Node) (known : Held) (gained : Option Node) → IsJoined node known old new gained
     → ((fact : Fact) → IsIn known fact ↔ IsKnown t solved region node fact) → IsFilled t solved region node old new
-is_filled t solved region old new node before known after place was both same others exact = record {
-  more = has_more old new node before known after place was both same others;
-  known = λ fact is. has_gained old new node before known after place was both same others fact ((exact fact).1 is);
+is_filled t solved region old new node known gained joined exact = record {
+  more = joined.gain.more;
+  known = λ fact is. joined.has fact ((exact fact).1 is);
   only = λ at fact h.
-      elim (new_facts old new node before known after place was both same others at fact h) [
+      elim (joined.only at fact h) [
         | inl earlier ↦ inl earlier
         | inr (one, fresh) ↦ inr (subst (λ (n : Node). IsKnown t solved region n fact) one ((exact fact).0 fresh))
       ];
@@ -53,14 +52,12 @@ pub filled_all : (t : Tables) (solved : Table) (region nodes : List Node) (old n
 filled_all t solved region nodes old new n all done = subst (λ (xs : List Node). AreFilled t solved region xs old new) (take_all n nodes all) done
 
 -- what another grant adds holds without it
-pub lifted_without : (t : Tables) (g h : GrantId) (grant : Grant) (seen old new : Table) (before gained after : Held) → IsSome (held_at old (node_of h grant))
-    → ((fact : Fact) → IsIn before fact ↔ HeldAt old (node_of h grant) fact) → ((fact : Fact) → IsIn after fact ↔ (IsIn before fact ⊎ IsIn gained fact))
-    → held_at new (node_of h grant) ≡ Some after → ((other : Node) → other ≢ node_of h grant → held_at new other ≡ held_at old other)
-    → ((fact : Fact) → IsIn gained fact ↔ Follows t (HeldAt seen) h grant (node_of h grant) fact) → h ≢ g → HoldAll t g seen → HoldAll t g old → HoldAll t g new
-lifted_without t g h grant seen old new before gained after place was both same others exact other all_seen all_old at fact has =
-    elim (new_facts old new (node_of h grant) before gained after place was both same others at fact has) [
-      | inl earlier ↦ all_old at fact earlier
+pub lifted_without : (t : Tables) (g h : GrantId) (grant : Grant) (node : Node) (held : Held) (old new : Table) (gained : Option Node) → node ≡ node_of h grant
+    → ((fact : Fact) → IsIn held fact ↔ Follows t (HeldAt old) h grant (node_of h grant) fact) → IsJoined node held old new gained → h ≢ g → HoldAll t g old → HoldAll t g new
+lifted_without t g h grant node held old new gained here exact joined other all at fact has =
+    elim (joined.only at fact has) [
+      | inl earlier ↦ all at fact earlier
       | inr (one, fresh) ↦
-          subst (λ (n : Node). HoldsWithout t g n fact) one
-          (derived_without t g h grant other (node_of h grant) fact (follows_more t (HeldAt seen) (HoldsWithout t g) all_seen h grant (node_of h grant) fact ((exact fact).0 fresh)))
+          subst (λ (n : Node). HoldsWithout t g n fact) (sym here ∙ one)
+          (derived_without t g h grant other (node_of h grant) fact (follows_more t (HeldAt old) (HoldsWithout t g) all h grant (node_of h grant) fact ((exact fact).0 fresh)))
     ]

@@ -20,24 +20,6 @@ Keeps old new = (p : ℕ) → Contains old p → Contains new p
 pub cited_more : (steps : List Step) (old new : List ℕ) → Keeps old new → (at : Node) (fact : Fact) → IsCited steps old at fact → IsCited steps new at fact
 cited_more steps old new keeps at fact cited said = let (place, listed, says) = cited said in (place, keeps place listed, says)
 
--- no step before the place says it
-abbrev pub NoneSays : List Step → ℕ → Node → Fact → Type 0
-NoneSays steps n at fact = (k : ℕ) (step : Step) → k < n → slice_get steps k ≡ Some step → (step.node ≡ at) × (step.fact ≡ fact) → ⊥
-
-pub none_more : (steps : List Step) (n : ℕ) (at : Node) (fact : Fact) (step : Step) → slice_get steps n ≡ Some step → ((step.node ≡ at) × (step.fact ≡ fact) → ⊥) → NoneSays steps n at fact → NoneSays steps (n + 1) at fact
-none_more steps n at fact step here not earlier k other less is says =
-    let sides : (k < n) ⊎ (n ≡ k) = grind arith in
-    elim sides [
-      | inl before ↦ earlier k other before is says
-      | inr last ↦
-          let there : slice_get steps k ≡ Some step = subst (λ (j : ℕ). slice_get steps j ≡ Some step) last here in
-          let same : other ≡ step = cc in
-          not (subst (λ (s : Step). (s.node ≡ at) × (s.fact ≡ fact)) same says)
-    ]
-
-pub none_said : (steps : List Step) (n : ℕ) (at : Node) (fact : Fact) → length steps ≤ n → NoneSays steps n at fact → IsSaid steps at fact → ⊥
-none_said steps n at fact all none (place, says) = let early : place < length steps = says.earlier in none place says.step (omega arith) says.there (says.of_node, says.of_fact)
-
 -- what the first needs ask is cited
 abbrev pub CitesBelow : List Step → List Need → List ℕ → ℕ → Type 0
 CitesBelow steps needs from n = (k : ℕ) (q : Need) → k < n → slice_get needs k ≡ Some q → (at : Node) (asked : Fact) → Asks q at asked → IsCited steps from at asked

@@ -59,7 +59,7 @@ feeders_at (first ∷ grants) zero grant at is listed =
     Contains-append_left (feeders first) (all_feeders grants) at (subst (λ (x : Grant). Contains (feeders x) at) same listed)
 feeders_at (first ∷ grants) (suc i) grant at is listed = Contains-append_right (feeders first) (all_feeders grants) at (feeders_at grants i grant at is listed)
 
-feeders_in : (grants : List Grant) (n : ℕ) (grant : Grant) (at : Node) → row grants n ≡ Some grant → Contains (feeders grant) at → Contains (all_feeders grants) at
+pub feeders_in : (grants : List Grant) (n : ℕ) (grant : Grant) (at : Node) → row grants n ≡ Some grant → Contains (feeders grant) at → Contains (all_feeders grants) at
 feeders_in grants zero grant at is listed = cc is
 feeders_in grants (suc i) grant at is listed = feeders_at grants i grant at is listed
 
@@ -93,18 +93,6 @@ in_or_not (y ∷ ys) x =
             | inl there ↦ inl ((contains_cons y ys x).1 (inr there))
             | inr not ↦ inr (λ c. elim ((contains_cons y ys x).0 c) [ inl e ↦ other e | inr l ↦ not l ])
           ]
-    ]
-
--- where a longer list of nodes that differ has no more nodes, it has no others
-pub no_others : (xs ys : List Node) → AreOnce xs → ((at : Node) → Contains xs at → Contains ys at) → length ys ≤ length xs → (at : Node) → Contains ys at → Contains xs at
-no_others xs ys once within short at listed =
-    elim (in_or_not xs at) [
-      | inl there ↦ there
-      | inr fresh ↦
-          let more : AreOnce (xs ++ at ∷ []) = all_pairs_push (λ (a : Node) (b : Node). a ≢ b) xs at once (λ k d below same. fresh (subst (λ (n : Node). Contains xs n) same (Contains-get_or xs k d below))) in
-          let less = few (xs ++ at ∷ []) ys more (λ other c. elim (Contains-push_cases xs at other c) [ inl before ↦ within other before | inr last ↦ subst (λ (n : Node). Contains ys n) last listed ]) in
-          let long = length_push xs at in
-          absurd (omega arith)
     ]
 
 -- the nodes that one need more names
@@ -155,39 +143,8 @@ fed_next t nodes old new grants n d grant within row more so_far at =
           ]),
     )
 
-pub fed_all : (t : Tables) (nodes all wider : List Node) (grants : List GrantId) (n : ℕ) → length grants ≤ n → AreFedBy t nodes (take n grants) all → ((at : Node) → Contains wider at ↔ Contains all at) → AreFedBy t nodes grants wider
-fed_all t nodes all wider grants n end fed same at =
-    let whole = subst (λ (gs : List GrantId). AreFedBy t nodes gs all) (take_all n grants end) fed in
-    (λ listed. (whole at).0 ((same at).0 listed), λ f. (same at).1 ((whole at).1 f))
-
--- ---- wider and wider
-
--- each of the nodes once, the node among them, and none but what it can rest on
-pub record Wide (t : Tables) (node : Node) (nodes : List Node) : Type 0 where
-  pub once : AreOnce nodes
-  pub goal : Contains nodes node
-  pub within : (at : Node) → Contains nodes at → Contains (universe t node) at
-
-pub wide_one : (t : Tables) (node : Node) (nodes : List Node) → nodes ≡ node ∷ [] → Wide t node nodes
-wide_one t node nodes is = subst (λ (xs : List Node). Wide t node xs) (sym is) (record {
-  once = λ i j d less below. absurd (omega arith);
-  goal = (0, omega arith, refl);
-  within = λ at listed. (contains_cons node (all_feeders t.grants) at).1 (inl (only node at listed));
-})
-
-pub wide_next : (t : Tables) (node : Node) (nodes wider : List Node) (grants : List GrantId) → AreOnce wider → AreFedBy t nodes grants wider → Wide t node nodes → Wide t node wider
-wide_next t node nodes wider grants once fed wide = record {
-  once = once;
-  goal = (fed node).1 (inl wide.goal);
-  within = λ at listed.
-      elim ((fed at).0 listed) [
-        | inl before ↦ wide.within at before
-        | inr (g, grant, has, is, within_it) ↦ (contains_cons node (all_feeders t.grants) at).1 (inr (feeders_in t.grants g.0 grant at is within_it))
-      ];
-}
-
-pub wide_few : (t : Tables) (node : Node) (nodes : List Node) → Wide t node nodes → length nodes ≤ length (universe t node)
-wide_few t node nodes wide = few nodes (universe t node) wide.once wide.within
+pub fed_all : (t : Tables) (nodes all : List Node) (grants : List GrantId) (n : ℕ) → length grants ≤ n → AreFedBy t nodes (take n grants) all → AreFedBy t nodes grants all
+fed_all t nodes all grants n end fed = subst (λ (gs : List GrantId). AreFedBy t nodes gs all) (take_all n grants end) fed
 
 -- the rows that go to nodes
 pub arrive_rows : (t : Tables) (into : Node → List GrantId) → IsArrivalsOf t into → (nodes : List Node) (grants : List GrantId) → IsArrivalsAt nodes into grants → (g : GrantId) → Contains grants g
@@ -196,14 +153,3 @@ arrive_rows t into index nodes grants arrive g listed =
     let (at, inside, has) = (arrive.exact g).0 listed in
     let (grant, is, goes) = (index.exact at g).0 has in
     (grant, is, subst (λ (n : Node). Contains nodes n) (sym goes) inside)
-
--- once they get no wider, they are all
-pub is_rest : (t : Tables) (into : Node → List GrantId) → IsArrivalsOf t into → (node : Node) (nodes wider : List Node) (grants : List GrantId) → Wide t node nodes → IsArrivalsAt nodes into grants
-    → AreOnce wider → AreFedBy t nodes grants wider → length wider ≤ length nodes → IsRestOf t node nodes grants
-is_rest t into index node nodes wider grants wide arrive once fed short = record {
-  goal = wide.goal;
-  rows = arrive_rows t into index nodes grants arrive;
-  grants_all = λ g grant is inside. (arrive.exact g).1 (node_of g grant, inside, (index.exact (node_of g grant) g).1 (grant, is, refl));
-  fed = λ g grant at listed is feeds.
-      no_others nodes wider wide.once (λ other inside. (fed other).1 (inl inside)) short at ((fed at).1 (inr (g, grant, listed, is, feeds_in grant at feeds)));
-}

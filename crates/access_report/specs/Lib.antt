@@ -6,6 +6,8 @@ pub mod Lifting
 pub mod Losing
 pub mod Found
 pub mod Telling
+pub mod Placing
 pub mod Pruning
-pub mod Turns
 pub mod Resting
+pub mod Waiting
+pub mod Turns

@@ -8,26 +8,26 @@ ghost use Rattle.region_work.specs.Fed.{fed_in};
 ghost use Rattle.access_report.specs.Explaining.{Concluding, Explains};
 ghost use Rattle.access_report.specs.Telling.{IsSaid};
 
-use crate::placing::place_of;
+use crate::feeding::feeds_of;
 use crate::pruning::pruned;
 use crate::resting::rest_of;
-use crate::rounds::{begin, tell_until};
+use crate::spreading::{begin, start, tell_until};
 use crate::step::Step;
+use crate::trace::Trace;
 use host_base::Memory;
 use region_work::edges::Edges;
-use region_work::emptying::empty_at;
 use share_graph::{Fact, Node, Tables};
 use std::alloc::Global;
 
 // The steps on which it rests that a node holds a fact, with the one that says so as the last.
-fn conclude(alloc: Global, steps: &[Step], node: Node, fact: Fact) -> Result<Vec<Step>, Memory>
-    requires { IsSaid steps.now node fact }
-    ensures { IfOk result (λ kept. Concluding steps.now node fact kept.items) }
+fn conclude(alloc: Global, trace: &Trace, node: Node, fact: Fact) -> Result<Vec<Step>, Memory>
+    requires { IsSaid trace.now node fact }
+    ensures { IfOk result (λ kept. Concluding trace.now node fact kept.items) }
 {
-    let Some(place) = place_of(steps, node, fact) else {
+    let Some(place) = trace.place_of(node, fact) else {
         unreachable!()
     };
-    let kept = pruned(alloc, steps, place)?;
+    let kept = pruned(alloc, trace.steps(), place as usize)?;
     Ok(kept)
 }
 
@@ -47,13 +47,12 @@ pub fn explain(
         (λ steps. Explains tables.now steps.items node fact)) }
 {
     let rest = rest_of(alloc, tables, arrivals, node)?;
-    let mut table = empty_at(alloc, rest.nodes.as_slice())?;
-    let mut steps = Vec::new(alloc);
-    begin(alloc, tables, &mut steps, &mut table, rest.nodes.as_slice())?;
-    let grants = rest.grants.as_slice();
-    if !tell_until(alloc, tables, &mut steps, &mut table, grants, node, fact)? {
+    let fed = feeds_of(alloc, tables, rest.grants.as_slice())?;
+    let mut work = start(alloc, tables, &rest)?;
+    begin(alloc, tables, &fed, &mut work, rest.nodes.as_slice())?;
+    if !tell_until(alloc, tables, &fed, &mut work, node, fact)? {
         return Ok(None);
     }
-    let kept = conclude(alloc, steps.as_slice(), node, fact)?;
+    let kept = conclude(alloc, &work.trace, node, fact)?;
     Ok(Some(kept))
 }

@@ -4,8 +4,10 @@
 mod citing;
 mod entry;
 mod explaining;
+mod feeding;
 mod finding;
 mod following;
+mod joining;
 mod lawful;
 mod lifting;
 mod listing;
@@ -14,11 +16,13 @@ mod needs;
 mod placing;
 mod previewing;
 mod pruning;
+mod queue;
 mod resting;
-mod rounds;
 mod sounding;
+mod spreading;
 mod step;
 mod telling;
+mod trace;
 
 pub use entry::Entry;
 pub use explaining::explain;

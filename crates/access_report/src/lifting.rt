@@ -1,6 +1,6 @@
 //! What nodes hold by some grants alone.
 
-ghost use Rattle.std.specs.Prelude.{◌≡◌, ◌≢◌, ◌↔◌, ◌∷◌, [], List, Contains, IfOk, IsSome, OnOk};
+ghost use Rattle.std.specs.Prelude.{◌≢◌, ◌↔◌, List, Contains, IsSome, OnOk};
 ghost use Rattle.host_base.specs.declared.ids.GrantId as the_id;
 ghost use Rattle.share_graph.specs.declared.facts.Fact as the_facts;
 ghost use Rattle.share_graph.specs.declared.facts.Node as the_node;
@@ -12,16 +12,20 @@ ghost use Rattle.least_access.specs.Held.{IsIn};
 ghost use Rattle.least_access.specs.Solved.{HeldAt, held_at};
 ghost use Rattle.region_work.specs.Emptying.{IsEmptyAt};
 ghost use Rattle.access_report.specs.Lifting.{AreFilled, HoldAll, IsFilled, IsKnown};
-ghost use Rattle.access_report.specs.Turns.{HasMore, IsClosedBy, IsTurn};
+ghost use Rattle.access_report.specs.Turns.{HasMore, IsClosedBy, IsSpread, IsTurn};
 
+use crate::feeding::{feeds_of, wake};
 use crate::finding::held_by;
+use crate::joining::join;
 use crate::lawful::own_of;
-use crate::rounds::copy_of;
+use crate::queue::Queue;
 use host_base::{GrantId, Memory};
 use least_access::passing::passed;
-use least_access::table::{Table, holding, put};
+use least_access::table::Table;
 use least_access::{Held, Solved};
+use region_work::edges::Edges;
 use share_graph::{Node, Tables, grant as find_grant, node_of};
+use std::alloc::Global;
 
 // What is known of a node before the others are asked: at a node of a region what it holds as an owner, and else what it holds.
 fn known_at(tables: &Tables, solved: &Solved, region: &Table, node: Node) -> Held
@@ -44,9 +48,8 @@ fn fill_at(tables: &Tables, solved: &Solved, region: &Table, table: &mut Table, 
     ensures filled { (nodes : List the_node.Node) → IsEmptyAt nodes region.now.entries
         → IsFilled tables.now solved.now nodes node table.old.entries table.new.entries }
 {
-    let before = holding(table, node);
     let known = known_at(tables, solved, region, node);
-    put(table, node, before.union(&known));
+    join(table, node, &known);
 }
 
 /// Adds what is known of nodes.
@@ -62,51 +65,52 @@ pub fn fill(tables: &Tables, solved: &Solved, region: &Table, table: &mut Table,
     }
 }
 
-// Adds what a grant of that number passes on by what another table has, and says whether it is more than there was.
-fn lift(tables: &Tables, table: &mut Table, seen: &Table, num: GrantId) -> bool
+// Adds what a grant of that number passes on, and gives its node, if that gained something.
+fn lift(tables: &Tables, table: &mut Table, num: GrantId) -> Option<Node>
     requires coherent { IsCoherent tables.now }
     requires row { (grant : the_grant.Grant) × IsGrant tables.now num grant
         × IsSome (held_at table.old.entries (the_node_of num grant)) }
-    ensures turn { IsTurn tables.now seen.now.entries (num ∷ []) table.old.entries table.new.entries result }
-    ensures without { (g : the_id.GrantId) → num ≢ g → HoldAll tables.now g seen.now.entries
-        → HoldAll tables.now g table.old.entries → HoldAll tables.now g table.new.entries }
+    ensures turn { IsTurn tables.now num table.old.entries table.new.entries result }
+    ensures without { (g : the_id.GrantId) → num ≢ g → HoldAll tables.now g table.old.entries
+        → HoldAll tables.now g table.new.entries }
 {
     let Some(grant) = find_grant(tables, num) else {
         unreachable!()
     };
     let node = node_of(num, grant);
-    let gained = passed(tables, seen, num, grant);
-    let before = holding(table, node);
-    let after = before.union(&gained);
-    if after == before {
-        return false;
-    }
-    put(table, node, after);
-    true
+    let gained = passed(tables, table, num, grant);
+    join(table, node, &gained)
 }
 
-// Adds what grants pass on by what a table has at first, and says whether it is more than there was.
-fn lift_all(tables: &Tables, table: &mut Table, grants: &[GrantId]) -> Result<bool, Memory>
+// Adds what a grant of that number passes on, and has those wait that may pass on more by it.
+fn lift_next(
+    tables: &Tables,
+    fed: &Edges,
+    table: &mut Table,
+    queue: &mut Queue,
+    num: GrantId,
+) -> Result<(), Memory>
     requires coherent { IsCoherent tables.now }
-    requires rows { (num : the_id.GrantId) → Contains grants.now num
-        → (grant : the_grant.Grant) × IsGrant tables.now num grant
+    requires row { (grant : the_grant.Grant) × IsGrant tables.now num grant
         × IsSome (held_at table.old.entries (the_node_of num grant)) }
-    ensures turn { IfOk result
-        (λ raised. IsTurn tables.now table.old.entries grants.now table.old.entries table.new.entries raised) }
-    ensures without { OnOk result ((g : the_id.GrantId) → (Contains grants.now g → ⊥)
-        → HoldAll tables.now g table.old.entries → HoldAll tables.now g table.new.entries) }
+    ensures spread { OnOk result
+        (IsSpread tables.now fed.now.entries num table.old.entries queue.old table.new.entries queue.new) }
+    ensures without { OnOk result ((g : the_id.GrantId) → num ≢ g → HoldAll tables.now g table.old.entries
+        → HoldAll tables.now g table.new.entries) }
 {
-    let seen = copy_of(table)?;
-    let mut raised = false;
-    for num in grants {
-        let more = lift(tables, table, &seen, *num);
-        raised = raised || more;
-    }
-    Ok(raised)
+    let gained = lift(tables, table, num);
+    wake(fed, queue, gained)?;
+    Ok(())
 }
 
-/// Adds what follows by grants, until nothing more does.
-pub fn settle(tables: &Tables, table: &mut Table, grants: &[GrantId]) -> Result<(), Memory>
+/// Adds what follows by grants, until nothing more does. A grant has a turn at first, and one whenever a node gained something by which
+/// it may pass on more.
+pub fn settle(
+    alloc: Global,
+    tables: &Tables,
+    table: &mut Table,
+    grants: &[GrantId],
+) -> Result<(), Memory>
     requires coherent { IsCoherent tables.now }
     requires rows { (num : the_id.GrantId) → Contains grants.now num
         → (grant : the_grant.Grant) × IsGrant tables.now num grant
@@ -116,9 +120,11 @@ pub fn settle(tables: &Tables, table: &mut Table, grants: &[GrantId]) -> Result<
     ensures without { OnOk result ((g : the_id.GrantId) → (Contains grants.now g → ⊥)
         → HoldAll tables.now g table.old.entries → HoldAll tables.now g table.new.entries) }
 {
-    loop {
-        if !lift_all(tables, table, grants)? {
-            return Ok(());
-        }
+    let fed = feeds_of(alloc, tables, grants)?;
+    let mut queue = Queue::new(alloc);
+    queue.add_all(grants)?;
+    'turns: while let Some(num) = queue.take() {
+        lift_next(tables, &fed, table, &mut queue, num)?;
     }
+    Ok(())
 }

@@ -107,7 +107,7 @@ fn held_without(
     let inside = empty_at(alloc, region)?;
     let mut table = empty_at(alloc, known.as_slice())?;
     fill(tables, solved, &inside, &mut table, known.as_slice());
-    settle(tables, &mut table, grants)?;
+    settle(alloc, tables, &mut table, grants)?;
     Ok(table)
 }
 

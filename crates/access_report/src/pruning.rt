@@ -3,9 +3,7 @@
 ghost use Rattle.std.specs.Prelude.{◌≡◌, ◌⊎◌, ◌≤◌, ◌<◌, ◌+◌, ◌∷◌, ◌++◌, [], ℕ, Some, Contains, IfOk, OnOk, length, slice_get, slice_index_or, false};
 ghost use Rattle.access_report.specs.Pruning.{AreMarks, AreMoved, IsKeptAs, IsKeptIf, IsMarked, IsMarkedAt, IsNamed, IsPruned};
 
-use crate::placing::add;
 use crate::step::Step;
-use crate::telling::add_step;
 use host_base::Memory;
 use plain_data::List;
 use std::alloc::Global;
@@ -96,7 +94,10 @@ fn add_moved(places: &[usize], at: u32, to: &mut Vec<u32>) -> Result<(), Memory>
     let Some(place) = places.get(at as usize) else {
         return Ok(());
     };
-    add(to, *place)?;
+    let Ok(place) = u32::try_from(*place) else {
+        return Err(Memory);
+    };
+    to.push(place)?;
     Ok(())
 }
 
@@ -109,6 +110,16 @@ fn moved(alloc: Global, places: &[usize], from: &[u32]) -> Result<Vec<u32>, Memo
         add_moved(places, *at, &mut to)?;
     }
     Ok(to)
+}
+
+// Adds a step to a list.
+fn add_step(steps: &mut Vec<Step>, step: Step) -> Result<(), Memory>
+    ensures { OnOk result (steps.new.items ≡ steps.old.items ++ step ∷ []) }
+{
+    match steps.push(step) {
+        Ok(_) => Ok(()),
+        Err(_) => Err(Memory),
+    }
 }
 
 // Adds a step, with its places as they were moved.

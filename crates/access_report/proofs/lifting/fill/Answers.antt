@@ -3,7 +3,7 @@ use Rattle.std.proofs.lemmas.List.Elements.{Contains-get_or}
 use Rattle.share_graph.specs.declared.facts.Node.{Node}
 use Rattle.share_graph.specs.declared.facts.Node.TheVariants as node
 use Rattle.access_report.proofs.Lifted.{filled_none, filled_next, filled_all}
-use Rattle.access_report.proofs.Turned.{has_same, has_then}
+use Rattle.access_report.proofs.Joined.{has_same, has_then}
 use Rattle.access_report.proofs.lifting.fill.Goals as goal
 
 -- what a read past the end would give

@@ -7,7 +7,7 @@ use Rattle.access_report.proofs.placing.add_need.Goals as goal
 
 pub returns-in_ok-add_set-in-PermissionsHeld-clause-there : goal.returns-in_ok-add_set-in-PermissionsHeld-clause-there
 returns-in_ok-add_set-in-PermissionsHeld-clause-there c at asked a =
-    let steps = c.args.steps.now in
+    let steps = c.args.trace.now in
     let holder = c.in-PermissionsHeld.holder in
     let from = c.add_set.new.from.items in
     cites_held steps holder c.in-PermissionsHeld.set from

@@ -4,5 +4,5 @@ use Rattle.access_report.proofs.placing.add_set.Given as goal
 abbrev pub invariant-loop-pos : goal.invariant-loop-pos
 invariant-loop-pos l = record {
   keeps : Keeps l.fn.from.items l.from.items;
-  cited : CitesSet l.steps l.set l.from.items l.node l.pos;
+  cited : CitesSet l.trace l.set l.from.items l.node l.pos;
 }

@@ -14,7 +14,7 @@ pub settle-requires-clause-rows : goal.settle-requires-clause-rows
 settle-requires-clause-rows c num listed =
     let (grant, is, inside) = c.requires.rows num listed in
     let at = node_of num grant in
-    let known = (c.in_ok-known.ensures.fed at).1 (inl inside) in
+    let known = (c.in_ok-known.ensures at).1 (inl inside) in
     (grant, is, c.fill.ensures.more.places at ((c.in_ok-table.ensures.places at).1 (subst (λ (ns : List Node). Contains ns at) (sym c.as_slice.ensures.value) known)))
 
 pub returns : goal.returns
@@ -26,9 +26,9 @@ returns c =
     subst (λ (ns : List Node). AreFilled t c.args.solved.now region ns c.in_ok-table.table.entries c.fill.new.table.entries) c.as_slice-2.ensures.value
     (c.fill.ensures.filled region c.in_ok-inside.ensures) in
     record {
-      owned = λ at fact inside is. c.in_ok-settle.ensures.more.facts at fact (filled.known at fact ((c.in_ok-known.ensures.fed at).1 (inl inside)) (inl (inside, is)));
+      owned = λ at fact inside is. c.in_ok-settle.ensures.more.facts at fact (filled.known at fact ((c.in_ok-known.ensures at).1 (inl inside)) (inl (inside, is)));
       outer = λ h grant at fact listed is feeds outside held.
-          c.in_ok-settle.ensures.more.facts at fact (filled.known at fact ((c.in_ok-known.ensures.fed at).1 (inr (h, grant, listed, is, feeds_in grant at feeds))) (inr (outside, held)));
+          c.in_ok-settle.ensures.more.facts at fact (filled.known at fact ((c.in_ok-known.ensures at).1 (inr (h, grant, listed, is, feeds_in grant at feeds))) (inr (outside, held)));
       closed = c.in_ok-settle.ensures.closed;
       without = λ g not all.
           c.in_ok-settle.ensures.without g not

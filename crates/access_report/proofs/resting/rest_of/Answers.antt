@@ -1,64 +1,44 @@
-use Rattle.std.proofs.Common.{◌<◌, ◌≤◌, ◌-◌, ℕ, List, Contains, length, subst, arith}
+use Rattle.std.proofs.Common.{◌<◌, ◌≤◌, ◌++◌, [], List, Contains, length, ◌∙◌, ap, subst, arith}
 use Rattle.host_base.specs.declared.ids.GrantId.{GrantId}
-use Rattle.share_graph.specs.declared.facts.Node.{Node}
-use Rattle.region_access.specs.Arriving.{IsArrivalsAt}
 use Rattle.region_work.specs.Fed.{fed_in}
+use Rattle.region_access.proofs.Visited.{at_any}
 use Rattle.access_report.specs.Resting.{AreFedBy}
-use Rattle.access_report.proofs.Rested.{universe, arrive_rows, is_rest, wide_next, wide_few}
+use Rattle.access_report.proofs.Backwards.{arriving_rows, back_few, back_next, back_none, is_rest}
 use Rattle.access_report.proofs.resting.rest_of.Goals as goal
 
-pub widened-requires : goal.widened-requires
-widened-requires c num listed =
-    let nodes = c.loop-nodes.nodes.items in
-    let grants = c.in_ok-grants.grants.items in
-    let into = fed_in c.args.arrivals.now.entries in
-    let arrive = subst (λ (ns : List Node). IsArrivalsAt ns into grants) c.as_slice.ensures.value c.in_ok-grants.ensures in
-    let (grant, is, inside) = arrive_rows c.args.tables.now into c.requires nodes grants arrive num (subst (λ (gs : List GrantId). Contains gs num) c.as_slice-in-loop-nodes-2.ensures.value listed) in
+pub loop-next-init : goal.loop-next-init
+loop-next-init c =
+    back_none c.args.tables.now (fed_in c.args.arrivals.now.entries) c.args.node c.new-nodes.result.items c.visit.new.nodes.items c.visit.new.places.entries c.new-grants.result.items
+    c.new-nodes.ensures.items c.new-grants.ensures.items c.in_ok-visit.ensures
+
+pub visit_feeders-requires-clause-rows : goal.visit_feeders-requires-clause-rows
+visit_feeders-requires-clause-rows c num arrives =
+    let (grant, is, goes) =
+    arriving_rows c.args.tables.now (fed_in c.args.arrivals.now.entries) c.requires c.index.result.now num (subst (λ (gs : List GrantId). Contains gs num) c.fed_by-arriving.ensures arrives) in
     (grant, is)
 
-pub returns-then-len : goal.returns-then-len
-returns-then-len c =
+pub loop-next-smaller : goal.loop-next-smaller
+loop-next-smaller c =
+    let few = back_few c.args.tables.now (fed_in c.args.arrivals.now.entries) c.args.node c.loop-next.nodes.items c.loop-next.places.entries c.loop-next.grants.items c.loop-next.next c.loop-next.invariant in
+    let within = c.loop-next-test.true in
+    let len = c.len.ensures in
+    omega (arith, c.loop-next.nodes.ok.0)
+
+pub loop-next-preserved : goal.loop-next-preserved
+loop-next-preserved c =
     let t = c.args.tables.now in
-    let nodes = c.loop-nodes.nodes.items in
-    let grants = c.in_ok-grants.grants.items in
-    let wider = c.in_ok-wider.wider.items in
     let into = fed_in c.args.arrivals.now.entries in
-    let arrive = subst (λ (ns : List Node). IsArrivalsAt ns into grants) c.as_slice.ensures.value c.in_ok-grants.ensures in
-    let fed : AreFedBy t nodes grants wider =
-    subst (λ (gs : List GrantId). AreFedBy t nodes gs wider) c.as_slice-in-loop-nodes-2.ensures.value
-    (subst (λ (ns : List Node). AreFedBy t ns c.as_slice-in-loop-nodes-2.result.now wider) c.as_slice-in-loop-nodes.ensures.value c.in_ok-wider.ensures.fed) in
-    let a = c.len.ensures in
-    let b = c.len-in-loop-nodes.ensures in
-    let test = c.if-len.true in
-    let short : length wider ≤ length nodes = omega (arith, c.in_ok-wider.wider.ok.0, c.loop-nodes.nodes.ok.0) in
-    is_rest t into c.requires c.args.node nodes wider grants c.loop-nodes.invariant arrive c.in_ok-wider.ensures.once fed short
+    let nodes = c.loop-next.nodes.items in
+    let here = c.index.result.now in
+    let within : c.loop-next.next < length nodes = omega (arith, c.loop-next.nodes.ok.0) in
+    let (feeding, fed, visits) = c.in_ok-visit_feeders.ensures in
+    back_next t into c.requires c.args.node nodes c.visit_feeders.new.nodes.items feeding c.loop-next.places.entries c.visit_feeders.new.places.entries c.loop-next.grants.items
+    c.extend_from_slice.new.self.items c.loop-next.next here within (at_any nodes c.loop-next.next here within c.index.ensures) c.loop-next.invariant
+    (subst (λ (gs : List GrantId). AreFedBy t [] gs feeding) c.fed_by-arriving.ensures fed) visits
+    (c.in_ok-extend_from_slice.ensures.items ∙ ap (λ (gs : List GrantId). c.loop-next.grants.items ++ gs) c.fed_by-arriving.ensures)
 
-pub loop-nodes-preserved : goal.loop-nodes-preserved
-loop-nodes-preserved c =
-    let t = c.args.tables.now in
-    let nodes = c.loop-nodes.nodes.items in
-    let grants = c.in_ok-grants.grants.items in
-    let wider = c.in_ok-wider.wider.items in
-    let fed : AreFedBy t nodes grants wider =
-    subst (λ (gs : List GrantId). AreFedBy t nodes gs wider) c.as_slice-in-loop-nodes-2.ensures.value
-    (subst (λ (ns : List Node). AreFedBy t ns c.as_slice-in-loop-nodes-2.result.now wider) c.as_slice-in-loop-nodes.ensures.value c.in_ok-wider.ensures.fed) in
-    wide_next t c.args.node nodes wider grants c.in_ok-wider.ensures.once fed c.loop-nodes.invariant
-
-pub loop-nodes-smaller : goal.loop-nodes-smaller
-loop-nodes-smaller c =
-    let t = c.args.tables.now in
-    let nodes = c.loop-nodes.nodes.items in
-    let grants = c.in_ok-grants.grants.items in
-    let wider = c.in_ok-wider.wider.items in
-    let fed : AreFedBy t nodes grants wider =
-    subst (λ (gs : List GrantId). AreFedBy t nodes gs wider) c.as_slice-in-loop-nodes-2.ensures.value
-    (subst (λ (ns : List Node). AreFedBy t ns c.as_slice-in-loop-nodes-2.result.now wider) c.as_slice-in-loop-nodes.ensures.value c.in_ok-wider.ensures.fed) in
-    let few = wide_few t c.args.node wider (wide_next t c.args.node nodes wider grants c.in_ok-wider.ensures.once fed c.loop-nodes.invariant) in
-    let a = c.len.ensures in
-    let b = c.len-in-loop-nodes.ensures in
-    let test = c.if-len.false in
-    let longer : length nodes < length wider = omega (arith, c.in_ok-wider.wider.ok.0, c.loop-nodes.nodes.ok.0) in
-    less_left (length (universe t c.args.node)) (length nodes) (length wider) longer few
-  where
-    less_left : (u n w : ℕ) → n < w → w ≤ u → u - w < u - n
-    less_left u n w longer few = omega arith
+pub returns : goal.returns
+returns c =
+    let end : length c.loop-next.nodes.items ≤ c.loop-next.next = omega (arith, c.loop-next.nodes.ok.0) in
+    is_rest c.args.tables.now (fed_in c.args.arrivals.now.entries) c.requires c.args.node c.loop-next.nodes.items c.loop-next.places.entries c.loop-next.grants.items c.loop-next.next end
+    c.loop-next.invariant

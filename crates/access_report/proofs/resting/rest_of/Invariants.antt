@@ -1,9 +1,11 @@
 use Rattle.std.proofs.Common.{◌-◌, length}
-use Rattle.access_report.proofs.Rested.{Wide, universe}
+use Rattle.region_work.specs.Fed.{fed_in}
+use Rattle.access_report.proofs.Backwards.{Backwards}
+use Rattle.access_report.proofs.Rested.{universe}
 use Rattle.access_report.proofs.resting.rest_of.Given as goal
 
-abbrev pub invariant-loop-nodes : goal.invariant-loop-nodes
-invariant-loop-nodes l = Wide l.tables l.fn.node l.nodes.items
+abbrev pub invariant-loop-next : goal.invariant-loop-next
+invariant-loop-next l = Backwards l.tables (fed_in l.arrivals.entries) l.fn.node l.nodes.items l.places.entries l.grants.items l.next
 
-abbrev pub decreases-loop-nodes : goal.decreases-loop-nodes
-decreases-loop-nodes l = length (universe l.tables l.fn.node) - length l.nodes.items
+abbrev pub decreases-loop-next : goal.decreases-loop-next
+decreases-loop-next l = length (universe l.tables l.fn.node) - l.next

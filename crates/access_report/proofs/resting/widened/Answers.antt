@@ -1,30 +1,15 @@
-use Rattle.std.proofs.Common.{◌↔◌, List, Contains, get_or, subst}
+use Rattle.std.proofs.Common.{◌↔◌, List, Contains, subst}
 use Rattle.std.proofs.lemmas.Result.{IfOk-weaker}
-use Rattle.std.proofs.lemmas.List.Elements.{Contains-get_or}
-use Rattle.host_base.specs.declared.ids.GrantId.{GrantId}
 use Rattle.share_graph.specs.declared.facts.Node.{Node}
-use Rattle.access_report.proofs.Rested.{fed_none, fed_next, fed_all}
+use Rattle.access_report.specs.Resting.{AreFedBy}
 use Rattle.access_report.proofs.resting.widened.Goals as goal
 
--- what a read past the end would give
-abbrev blank : GrantId
-blank = record { 0 = 0 }
-
-pub loop-num-init : goal.loop-num-init
-loop-num-init c = fed_none c.args.tables.now c.args.nodes.now c.in_ok-all.all.items c.args.grants.now c.in_ok-all.ensures.items
-
-pub push_feeders_of-requires : goal.push_feeders_of-requires
-push_feeders_of-requires c = c.requires (get_or c.args.grants.now c.loop-num.num-index blank) (Contains-get_or c.args.grants.now c.loop-num.num-index blank c.loop-num-test.true)
-
-pub loop-num-preserved : goal.loop-num-preserved
-loop-num-preserved c =
-    let (grant, is) = c.requires (get_or c.args.grants.now c.loop-num.num-index blank) (Contains-get_or c.args.grants.now c.loop-num.num-index blank c.loop-num-test.true) in
-    fed_next c.args.tables.now c.args.nodes.now c.loop-num.all.items c.push_feeders_of.new.nodes.items c.args.grants.now c.loop-num.num-index blank grant c.loop-num-test.true is
-    (c.in_ok-push_feeders_of.ensures grant is) c.loop-num.invariant
-
-pub returns-clause-fed : goal.returns-clause-fed
-returns-clause-fed c =
+pub returns : goal.returns
+returns c =
+    let all = c.push_all_feeders.new.nodes.items in
+    let fed : AreFedBy c.args.tables.now c.args.nodes.now c.args.grants.now all =
+    subst (λ (ns : List Node). AreFedBy c.args.tables.now ns c.args.grants.now all) c.in_ok-all.ensures.items c.in_ok-push_all_feeders.ensures in
     IfOk-weaker c.distinct.result _ _
-    (λ wider same.
-    fed_all c.args.tables.now c.args.nodes.now c.loop-num.all.items wider.items c.args.grants.now c.loop-num.num-index c.loop-num-test.false c.loop-num.invariant
-    (λ at. subst (λ (xs : List Node). Contains wider.items at ↔ Contains xs at) c.as_slice.ensures.value (same at))) c.distinct.ensures.same
+    (λ wider same at.
+    (let both = subst (λ (xs : List Node). Contains wider.items at ↔ Contains xs at) c.as_slice.ensures.value (same at) in
+    (λ listed. (fed at).0 (both.0 listed), λ f. both.1 ((fed at).1 f)))) c.distinct.ensures.same
