@@ -4,7 +4,10 @@ import os
 from served import Port, Started, exchange
 from trials.talk import Account, asked, whole_answer
 
-USAGE = "status 2: usage: admin_cli play | serve FILE PORT COUNT [WSPORT WSCOUNT] | gen N SEED | check FILE | grain SOCKET COUNT\n"
+USAGE = (
+    "status 2: usage: admin_cli play | serve FILE PORT COUNT [WSPORT WSCOUNT] | gen N SEED | check FILE | grain SOCKET COUNT"
+    " | access FILE GRAIN | preview FILE GRANT\n"
+)
 # Words that are none of the program's lines.
 WRONG = [
     "", "--help", "PLAY", "pla", "play now", "serve", "serve a.db 8080", "serve a.db 0 1", "serve a.db 65536 1", "serve a.db 8080 0",
@@ -12,6 +15,7 @@ WRONG = [
     "serve a.db 8080 1 8081 0", "serve a.db 8080 1 8081 1000001", "serve -a.db 8080 1 8081 1", "serve a.db 8080 0 8081 1", "serve a.db 8080 1 8081 1 1",
     "gen 1", "gen 0 1", "gen 100001 1", "gen 00000000001 1", "gen 1 x", "gen 1 -1", "check", "check a.db b.db", "check -a.db", "check \udcff.db",
     "grain a.sock", "grain a.sock 0", "grain a.sock 1000000001",
+    "access", "access a.db", "access a.db x", "access a.db 4294967296", "access -a.db 1", "preview a.db 00000000001", "preview a.db 1 1",
 ]
 ADA = Account(1, "ada", "Ada%20Holm")
 ADA_LOGIN = "AQEB" * 10 + "AQE"

@@ -19,10 +19,10 @@ use std::alloc::Global;
 use std::sync::Wait;
 use std::thread::Threads;
 use std::time::Clock;
-use system_edges::UnixDoor;
+use system_edges::{SystemClock, UnixDoor};
 
-// Judges the rows of a keeper.
-fn check_kept<R: Threads + Wait + Sync, S: Alter + Drop + Send, C: SiteDriver + Drop + Send>(
+// Runs a line on the rows of a keeper alone, by the system's clock.
+fn run_kept<R: Threads + Wait + Clock + Sync, S: Alter + Drop + Send, C: SiteDriver + Drop + Send>(
     rt: &HostRuntime,
     wait: &R,
     words: &[String],
@@ -36,7 +36,8 @@ where
     requires elsewhere { ServeAtDoor words.now → ⊥ }
 {
     let door = MemDoor::new(rt.alloc(), Vec::new(rt.alloc()))?;
-    Ok(run_with(rt, wait, words, keeper, door, sites))
+    let clock = SystemClock::new(wait);
+    Ok(run_with(rt, wait, words, keeper, clock, door, sites))
 }
 
 // Runs a line that needs neither a file nor a door.
@@ -71,9 +72,9 @@ where
 {
     match line_of(rt.alloc(), words)? {
         Line::Serve { .. } => run_serve(rt, wait, words, post, first, sites),
-        Line::Check => {
+        Line::Check | Line::Access { .. } | Line::Preview { .. } => {
             let keeper = keeper_of(rt, path_of(words), first);
-            check_kept(rt, wait, words, keeper, sites)
+            run_kept(rt, wait, words, keeper, sites)
         }
         Line::Grain { .. } => {
             let door = UnixDoor::bind(rt, path_of(words));

@@ -52,15 +52,16 @@ where
     run(wait, alloc, words, world, sites).status
 }
 
-// Runs a line that serves no connections at a door, with a keeper, a door and the drivers of its sites, over standard input and
+// Runs a line that serves no connections at a door, with a keeper, a clock, a door and the drivers of its sites, over standard input and
 // output. The link, the secrets and the spawner are those in memory, so that the same words and input give the same output; the halls
 // are too, and have no tunnels.
 pub(crate) fn run_with<
     R: Threads + Wait + Sync,
     K: Keeper + Drop + Send,
+    T: Clock + Drop + Send,
     E: Door + Entrance<Link = EchoLink> + Drop + Send,
     C: SiteDriver + Drop + Send,
->(rt: &HostRuntime, wait: &R, words: &[String], keeper: K, door: E, sites: Vec<C>) -> u8
+>(rt: &HostRuntime, wait: &R, words: &[String], keeper: K, clock: T, door: E, sites: Vec<C>) -> u8
 where
     C::Law: Send,
     E::Input: Send,
@@ -81,7 +82,7 @@ where
         keeper,
         SeqSecrets::new(),
         FakeSpawner::new(alloc, Fails::empty(alloc)),
-        StillClock::new(0),
+        clock,
         door,
         halls,
     );
@@ -102,7 +103,7 @@ where
     requires elsewhere { ServeAtDoor words.now → ⊥ }
 {
     match book_keeper(rt.alloc(), Fails::empty(rt.alloc())) {
-        Ok(keeper) => run_with(rt, wait, words, keeper, door, sites),
+        Ok(keeper) => run_with(rt, wait, words, keeper, StillClock::new(0), door, sites),
         Err(Memory) => NO_MEMORY,
     }
 }

@@ -8,5 +8,6 @@ pub mod Logins
 pub mod Made
 pub mod Played
 pub mod Registered
+pub mod Reported
 pub mod Told
 pub mod Workers

@@ -6,6 +6,7 @@ pub mod Making
 pub mod Outside
 pub mod Playing
 pub mod Program
+pub mod Reporting
 pub mod Serving
 pub mod Statuses
 pub mod Terms

@@ -8,7 +8,9 @@ use Rattle.admin_run.specs.Judging.{ChecksRows}
 use Rattle.admin_run.specs.Making.{Makes}
 use Rattle.admin_run.specs.Outside.{Outside, DoesNothing, TellsUsage}
 use Rattle.admin_run.specs.Playing.{Plays, ServesGrain}
+use Rattle.admin_run.specs.Reporting.{ReportsOn}
 use Rattle.admin_run.specs.Serving.{Serves}
+use Rattle.admin_run.specs.declared.reporting.Subject.TheVariants as subject
 
 -- whether a line begins with the small book
 abbrev pub FromBook : Line → Type 0
@@ -31,6 +33,8 @@ Does law line.Check may_leave old new status = ChecksRows old new status
 Does law (line.Grain count) may_leave old new status = ServesGrain count old new status
 Does law (line.Serve port count tunnels) may_leave old new status =
     Serves law count (tunnels_in tunnels) may_leave old new status
+Does law (line.Access n) may_leave old new status = ReportsOn (subject.Access (record { 0 = n })) old new status
+Does law (line.Preview g) may_leave old new status = ReportsOn (subject.Preview (record { 0 = g })) old new status
 Does law line.Unknown may_leave old new status = TellsUsage old new status
 
 -- the words begin with the small book

@@ -17,11 +17,15 @@ pub use Rattle.host_base.specs.Drawing.{Coming, Drawer}
 pub use Rattle.host_base.specs.InMemory.{is_at_end}
 pub use Rattle.host_base.specs.Outside.{CountStands, Inlet, Outlet, Rose}
 pub use Rattle.host_base.specs.declared.digest.Digest.{Digest}
+pub use Rattle.host_clock.specs.Ticking.{Ticks}
 pub use Rattle.hub_core.specs.Book.{Backing, Book, CountsOn}
 pub use Rattle.hub_core.specs.Opening.{AreLoaded, AreOfKeeper, HasBadRow, opened}
 pub use Rattle.hub_core.specs.Sharing.{book_at}
 pub use Rattle.hub_core.specs.Stopping.{OutliveStops}
 pub use Rattle.hub_jobs.specs.Jobs.{DoneAtOnce}
+pub use Rattle.report_desk.specs.Lines.{AreAccessLines, AreLossLines}
+pub use Rattle.report_desk.specs.declared.holder.ReportLine.{ReportLine}
+pub use Rattle.report_texts.specs.Lines.{access_text, preview_text}
 pub use Rattle.request_maker.specs.Generated.{generated}
 pub use Rattle.row_tables.specs.Checks.{GivesTables, IsBadRow}
 pub use Rattle.row_tables.specs.Kept.{AreRowsOf, IsStored}
@@ -33,6 +37,7 @@ pub use Rattle.serve_door.specs.declared.{serving.Stop.Stop, serving.Stopped.Sto
 pub use Rattle.sha2.specs.Sha256.{sha256}
 pub use Rattle.share_graph.specs.Checked.{IsChecked}
 pub use Rattle.share_graph.specs.History.{replay}
+pub use Rattle.share_graph.specs.Known.{HasGrain, HasGrant}
 pub use Rattle.share_graph.specs.WellFormed.{IsWellFormed}
 pub use Rattle.share_graph.specs.declared.{event.Event.Event, state.State.State, state.Tables.Tables}
 pub use Rattle.shared_hub.specs.Since.{HasKept, SpawnedSince}

@@ -8,18 +8,21 @@ ghost use Rattle.admin_run.specs.Connection.{HasBook};
 ghost use Rattle.admin_run.specs.Outside.{AreInOrder, DoesNothing, HasStatusCause, TellsUsage};
 ghost use Rattle.admin_run.specs.Judging.{ChecksRows};
 ghost use Rattle.admin_run.specs.Playing.{ServesGrain};
+ghost use Rattle.admin_run.specs.Reporting.{ReportsOn};
 ghost use Rattle.admin_run.specs.Program.{AtDoor, BeginWithBook, Does, FromBook, ServeAtDoor};
 
 use crate::judging::judge;
 use crate::making::make;
 use crate::playing::play;
+use crate::reporting::{Subject, report};
 use crate::serving::{Counts, serve};
 use crate::statuses::status_of_end;
 use crate::telling::{USAGE, tell};
 use crate::world::{LinkOf, Ran, Setting, World};
 use command_line::{Line, Tunnels, line_of};
 use grain_program::run_grain;
-use host_base::Memory;
+use host_base::{GrainId, GrantId, Memory};
+use host_clock::Clock;
 use serve_door::{Door, HallDoor};
 use site_caps::SiteDriver;
 use std::alloc::Global;
@@ -33,6 +36,17 @@ fn check<W: Setting>(alloc: Global, world: World<W>) -> Ran<W>
 {
     let mut world = world;
     let status = judge(alloc, &mut world.out, &mut world.held.keeper);
+    Ran { status, world }
+}
+
+// Reports on the rows of the keeper, at the clock's moment.
+fn reports<W: Setting>(alloc: Global, world: World<W>, asked: Subject) -> Ran<W>
+    ensures reports { ReportsOn asked world.tells result.world.tells result.status }
+    ensures cause { HasStatusCause world.tells result.world.tells result.status }
+{
+    let mut world = world;
+    let moment = world.clock.now();
+    let status = report(alloc, &mut world.out, &mut world.held.keeper, moment, asked);
     Ran { status, world }
 }
 
@@ -111,6 +125,8 @@ where
             };
             serve(rt, alloc, world, counts, sites)
         }
+        Line::Access { grain } => reports(alloc, world, Subject::Access(GrainId(grain))),
+        Line::Preview { grant } => reports(alloc, world, Subject::Preview(GrantId(grant))),
         Line::Unknown => usage(world),
     }
 }
@@ -119,7 +135,8 @@ where
 /// outlive a stop, with a driver for each site; `gen COUNT SEED` serves so many requests of a seed in the same way, over memory, and prints their
 /// summary; `serve FILE PORT COUNT` serves so many connections at its door from the rows of the keeper, with a driver for each
 /// site, and with `WSPORT WSCOUNT` so many tunnels at its halls beside them; `check FILE` says what the rows of the keeper state; `grain SOCKET COUNT` prints `ready` and answers so many
-/// connections at its door with what they were asked; any other words get the usage line.
+/// connections at its door with what they were asked; `access FILE GRAIN` prints who has access to a grain by the keeper's rows, and
+/// `preview FILE GRANT` what revoking a grant would take, at the clock's moment; any other words get the usage line.
 pub fn run<R: Threads + Wait + Sync, W: Setting + Send, C: SiteDriver + Drop + Send>(
     rt: &R,
     alloc: Global,

@@ -1,12 +1,13 @@
 -- What one request comes to: its turn, and when a turn is lawful.
 use Rattle.std.specs.Prelude.{◌≡◌, ◌≢◌, ℕ, ◌+◌, ◌⊎◌, ◌++◌, Bool, true, false, List, [], ◌∷◌, Option, Some, None, Result, Ok, Err, length, codes}
-use Rattle.cloud_serve.specs.Terms.{Ask, Asked, Book, command_text, denial_text, done_text, fault_text, GivesText, grain_text, Handed, Judged, Key, Law, options_text, OrderFault, own_text, Permit, Placed, RelayFault, Relays, Reply, Request, Showing, site_text, SiteFault, Verdict, wants_head}
+use Rattle.cloud_serve.specs.Terms.{access_data, Ask, Asked, Book, command_text, data_text, denial_text, done_text, fault_text, GivesText, grain_text, Handed, Judged, Key, Law, Listing, options_text, OrderFault, own_text, Permit, Placed, preview_data, RelayFault, Relays, Reply, Request, Showing, site_text, SiteFault, Verdict, wants_head, why_data}
 use Rattle.host_base.specs.declared.verdict.Denial.TheVariants as denial
 use Rattle.host_base.specs.declared.verdict.Verdict.TheVariants as verdict
 use Rattle.bridge_headers.specs.declared.fault.RelayFault.TheVariants as fault
 use Rattle.cloud_serve.specs.declared.showing.Showing.TheVariants as showing
 use Rattle.share_graph.specs.declared.refusal.Refusal.TheVariants as refusal
 use Rattle.desk_orders.specs.declared.reply.OrderFault.TheVariants as order_fault
+use Rattle.desk_orders.specs.declared.reply.Listing.TheVariants as listing
 use Rattle.desk_orders.specs.declared.reply.Reply.TheVariants as reply
 use Rattle.site_caps.specs.declared.fault.SiteFault.TheVariants as site_fault
 use Rattle.reply_texts.specs.declared.done.Handed.TheVariants as handed
@@ -80,12 +81,19 @@ handed_of session None = handed.Nothing
 handed_of (Some session) (Some text) = handed.Key text
 handed_of None (Some text) = handed.Token text
 
+-- the text of the answer to a question
+abbrev pub listing_text : Listing → Bool → List ℕ
+listing_text (listing.Options list) head_only = options_text list head_only
+listing_text (listing.Access lines) head_only = data_text (access_data lines) head_only
+listing_text (listing.Losses lines) head_only = data_text (preview_data lines) head_only
+listing_text (listing.Why reasons) head_only = data_text (why_data reasons) head_only
+
 -- The text of the answer to an order. Want of memory has no text here: it breaks the turn off.
 abbrev pub AnswersOrder : Result Reply OrderFault → Bool → List ℕ → Type 0
 AnswersOrder (Ok (reply.Made made text)) head_only answer =
     answer ≡ done_text made (handed_of made.session text) head_only
 AnswersOrder (Ok (reply.Refused why)) head_only answer = answer ≡ command_text why head_only
-AnswersOrder (Ok (reply.Options list)) head_only answer = answer ≡ options_text list head_only
+AnswersOrder (Ok (reply.Listed told)) head_only answer = answer ≡ listing_text told head_only
 AnswersOrder (Err order_fault.Store) head_only answer = answer ≡ fault_text own.StoreFailed head_only
 AnswersOrder (Err order_fault.Secrets) head_only answer = answer ≡ fault_text own.SecretsFailed head_only
 AnswersOrder (Err order_fault.Start) head_only answer = answer ≡ fault_text own.StartFailed head_only

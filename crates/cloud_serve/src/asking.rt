@@ -8,7 +8,7 @@ ghost use Rattle.cloud_serve.specs.declared.showing.Showing.{Showing};
 
 use crate::commands::{
     admin_mark, enabled_mark, new_account, new_app, new_child, new_grain, new_manifest, new_share,
-    new_token, opening, plain, redemption,
+    new_token, opening, plain, reasons, redemption,
 };
 use crate::powerbox::{choice, claim, drop_reference, options, reference, restoration};
 use crate::showing::Showing;
@@ -64,6 +64,9 @@ fn stated(
         Route::Wake => Some(plain(alloc, bearer, Command::StartRun(None), body)),
         Route::GrainQuery(num) => Some(options(alloc, who, GrainId(num), body)),
         Route::GrainChoose(num) => Some(choice(alloc, who, GrainId(num), body)),
+        Route::GrainAccess(num) => Some(plain(alloc, login, Command::Access(GrainId(num)), body)),
+        Route::GrainWhy(num) => Some(reasons(alloc, who, GrainId(num), body)),
+        Route::GrantPreview(num) => Some(plain(alloc, login, Command::Preview(GrantId(num)), body)),
         Route::Claim => Some(claim(alloc, who, body)),
         Route::Save => Some(reference(alloc, who, body)),
         Route::Restore => Some(restoration(alloc, who, body)),

@@ -1,6 +1,6 @@
 //! The commands that the bodies of the desk's routes state.
 ghost use Rattle.desk_bodies.specs.Answers.{Answers};
-ghost use Rattle.desk_bodies.specs.Bodies.{account_body, child_body, grain_body, manifest_body, mark_body, plain_body, redeem_body, share_body, tab_body, token_body};
+ghost use Rattle.desk_bodies.specs.Bodies.{account_body, child_body, grain_body, manifest_body, mark_body, plain_body, redeem_body, share_body, tab_body, token_body, why_body};
 ghost use Rattle.desk_orders.specs.Commands.{IsStated};
 ghost use Rattle.desk_orders.specs.declared.order.Command.TheVariants as command;
 ghost use Rattle.share_graph.specs.declared.desk.Caller.TheVariants as caller;
@@ -8,9 +8,9 @@ ghost use Rattle.cloud_serve.specs.Commands.{stating, wants, opens};
 
 use crate::showing::Showing;
 use desk_bodies::{
-    AccountFields, BodyFault, ChildFields, GrainFields, ShareFields, TokenFields, account_fields,
-    child_fields, grain_fields, manifest_field, mark_field, no_fields, share_fields, tab_field,
-    token_field, token_fields,
+    AccountFields, BodyFault, ChildFields, GrainFields, ShareFields, TokenFields, account_field,
+    account_fields, child_fields, grain_fields, manifest_field, mark_field, no_fields,
+    share_fields, tab_field, token_field, token_fields,
 };
 use host_base::{AccountId, AppId, Digest, GrainId};
 use hub_core::{Command, Order};
@@ -99,6 +99,21 @@ pub fn plain(alloc: Global, who: Caller, asked: Command, body: &[u8]) -> Result<
 {
     no_fields(alloc, body)?;
     Ok(Showing::Wants(Order::new(who, asked)))
+}
+
+/// Why an account has access to a grain.
+pub fn reasons(
+    alloc: Global,
+    who: Digest,
+    grain: GrainId,
+    body: &[u8],
+) -> Result<Showing, BodyFault>
+    ensures { Answers (stating
+        (λ account. wants (caller.Login who) (command.Why grain account))
+        (why_body body.now)) result }
+{
+    let account = account_field(alloc, body)?;
+    Ok(Showing::Wants(Order::new(Caller::Login(who), Command::Why(grain, account))))
 }
 
 /// A share of a grain.

@@ -4,7 +4,7 @@ ghost use Rattle.hub_core.specs.Book.{Book};
 ghost use Rattle.cloud_serve.specs.Routes.{Shows};
 ghost use Rattle.grain_supervise.specs.Line.{Line};
 ghost use Rattle.cloud_serve.specs.Inner.{AsksOnce, ShowsKey, Takes};
-ghost use Rattle.cloud_serve.specs.Turns.{AnswersBack, AnswersItem, AnswersOrder, ask_of, handed_of, is_done};
+ghost use Rattle.cloud_serve.specs.Turns.{AnswersBack, AnswersItem, AnswersOrder, ask_of, handed_of, is_done, listing_text};
 ghost use Rattle.hub_core.specs.Book.{TakesNone};
 ghost use Rattle.cloud_serve.specs.declared.showing.Showing.TheVariants as shown;
 
@@ -16,11 +16,12 @@ use grain_supervise::{AskFault, Link, LongAnswer, whole_answer};
 use host_base::{
     ANSWER_READ, Answer, Bytes, Denial, GrainId, Key, Memory, Permit, Request, RunId, Verdict,
 };
-use hub_core::{Desk, Order, OrderFault, Reply};
+use hub_core::{Desk, Listing, Order, OrderFault, Reply};
 use reply_texts::{
     Handed, OwnFault, command_reply, denial_reply, done_reply, fault_reply, options_reply,
     own_reply, site_reply, wants_head,
 };
+use report_texts::{access_reply, preview_reply, why_reply};
 use share_graph::{Made, Refusal};
 use site_caps::SiteFault;
 use std::alloc::Global;
@@ -187,7 +188,19 @@ fn was_done(answer: &Result<Reply, OrderFault>) -> bool
 {
     match answer {
         Ok(Reply::Made(_, _)) => true,
-        Ok(Reply::Refused(_)) | Ok(Reply::Options(_)) | Err(_) => false,
+        Ok(Reply::Refused(_)) | Ok(Reply::Listed(_)) | Err(_) => false,
+    }
+}
+
+// The text of the answer to a question.
+fn listing_reply(alloc: Global, listing: &Listing, head_only: bool) -> Result<Bytes, Memory>
+    ensures { IfOk result (λ text. text ≡ listing_text listing.now head_only) }
+{
+    match listing {
+        Listing::Options(list) => options_reply(alloc, list.as_slice(), head_only),
+        Listing::Access(lines) => access_reply(alloc, lines.as_slice(), head_only),
+        Listing::Losses(lines) => preview_reply(alloc, lines.as_slice(), head_only),
+        Listing::Why(reasons) => why_reply(alloc, reasons.as_slice(), head_only),
     }
 }
 
@@ -205,7 +218,7 @@ fn order_text(
                 let handed = handed(&made, text);
                 done_reply(alloc, &made, &handed, head_only)
             }
-            Reply::Options(list) => options_reply(alloc, list.as_slice(), head_only),
+            Reply::Listed(listing) => listing_reply(alloc, &listing, head_only),
             Reply::Refused(refusal) => command_reply(alloc, &refusal, head_only),
         },
         Err(fault) => match fault {

@@ -1,15 +1,16 @@
 -- What the lines' words are like.
-use Rattle.std.proofs.Common.{◌≡◌, ◌≢◌, ◌<◌, ◌∙◌, ℕ, List, length, [], ◌∷◌, Option, None, Some, map, codes, get_or, String, string_bytes, sym, ap, ap₂, subst, refl, arith}
+use Rattle.std.proofs.Common.{◌≡◌, ◌≢◌, ◌<◌, ◌∙◌, ◌⊎◌, inl, inr, ℕ, true, true≢false, bytes_eq, List, length, [], ◌∷◌, Option, None, Some, map, codes, get_or, String, string_bytes, sym, ap, ap₂, subst, refl, arith}
 use Rattle.std.proofs.Math.ListN.{get_or-map, length-map}
 use Rattle.std.specs.List.{All}
 use Rattle.std.specs.Str.Parse.{IsNumeral}
 use Rattle.std.specs.declared.alloc.Global.{Global}
 use Rattle.std.proofs.lemmas.List.Elements.{All-cons, All-nil}
+use Rattle.std.proofs.lemmas.Slice.Eq.{bytes_eq-Decides}
 use Rattle.std.proofs.lemmas.Str.Parse.{digit_from_value}
 use Rattle.command_line.specs.declared.line.Line.{Line}
 use Rattle.command_line.specs.declared.line.Line.TheVariants as line
 use Rattle.command_line.specs.declared.line.Tunnels.{Tunnels}
-use Rattle.command_line.specs.Words.{IsCheck, IsCount, IsGen, IsGrainLine, IsLine, IsNoLine, IsOneOfLines, IsPath, IsPlay, IsServe, IsServeBoth}
+use Rattle.command_line.specs.Words.{IsAccess, IsCheck, IsCount, IsGen, IsGrainLine, IsLine, IsNoLine, IsOneOfLines, IsPath, IsPlay, IsPreview, IsServe, IsServeBoth}
 
 -- a word's text says the number that the words' texts have at its place
 pub count_said : (limit count : ℕ) (words : List (String Global)) (texts : List (List ℕ)) (place : ℕ) (word : String Global) (text : List ℕ)
@@ -37,6 +38,12 @@ check_path = begins 99 (codes "heck") (λ e. omega arith)
 
 grain_path : IsPath (codes "grain")
 grain_path = begins 103 (codes "rain") (λ e. omega arith)
+
+access_path : IsPath (codes "access")
+access_path = begins 97 (codes "ccess") (λ e. omega arith)
+
+preview_path : IsPath (codes "preview")
+preview_path = begins 112 (codes "review") (λ e. omega arith)
 
 -- digits begin with no `-`
 digits_path : (digits : List ℕ) → IsNumeral 10 digits → IsPath digits
@@ -95,6 +102,14 @@ module _ (words : List (String Global)) where
   grain_plain count is = subst AllPaths (sym is.words_are)
       (three_paths (codes "grain") is.socket is.count_digits grain_path is.path (digits_path is.count_digits is.count_is.number.numeral))
 
+  access_plain : (grain : ℕ) → IsAccess words grain → AllPaths (map string_bytes words)
+  access_plain grain is = subst AllPaths (sym is.words_are)
+      (three_paths (codes "access") is.file is.grain_digits access_path is.path (digits_path is.grain_digits is.grain_is.number.numeral))
+
+  preview_plain : (grant : ℕ) → IsPreview words grant → AllPaths (map string_bytes words)
+  preview_plain grant is = subst AllPaths (sym is.words_are)
+      (three_paths (codes "preview") is.file is.grant_digits preview_path is.path (digits_path is.grant_digits is.grant_is.number.numeral))
+
   -- words of which one begins with `-` are no line
   pub no_line_with_option : (All IsPath (map string_bytes words) → ⊥) → IsNoLine words
   no_line_with_option bad = record {
@@ -104,17 +119,45 @@ module _ (words : List (String Global)) where
     gen = λ count seed is. bad (gen_plain count seed is);
     check = λ is. bad (check_plain is);
     grain = λ count is. bad (grain_plain count is);
+    access = λ grain is. bad (access_plain grain is);
+    preview = λ grant is. bad (preview_plain grant is);
   }
 
--- the words of either `serve` begin with it
-serve_words : (words : List (String Global)) (port count : ℕ) (tunnels : Option Tunnels) → IsLine words (line.Serve port count tunnels)
-    → (rest : List (List ℕ)) × (map string_bytes words ≡ codes "serve" ∷ rest)
-serve_words words port count None is = (_, is.words_are)
-serve_words words port count (Some tunnels) is = (_, is.words_are)
+-- words of a line are not no line
+none_known : (words : List (String Global)) (one : Line) → IsLine words one → IsNoLine words → one ≡ line.Unknown
+none_known words line.Play is none = absurd (none.play is)
+none_known words (line.Serve port count None) is none = absurd (none.serve port count is)
+none_known words (line.Serve port count (Some tunnels)) is none = absurd (none.serve_both port count tunnels is)
+none_known words (line.Gen count seed) is none = absurd (none.gen count seed is)
+none_known words line.Check is none = absurd (none.check is)
+none_known words (line.Grain count) is none = absurd (none.grain count is)
+none_known words (line.Access grain) is none = absurd (none.access grain is)
+none_known words (line.Preview grant) is none = absurd (none.preview grant is)
+none_known words line.Unknown is none = refl
 
-no_serve : (words : List (String Global)) (port count : ℕ) (tunnels : Option Tunnels) → IsLine words (line.Serve port count tunnels) → IsNoLine words → ⊥
-no_serve words port count None is none = none.serve port count is
-no_serve words port count (Some tunnels) is none = none.serve_both port count tunnels is
+-- the word that a line begins with
+abbrev first_word : Line → List ℕ
+first_word line.Play = codes "play"
+first_word (line.Serve port count tunnels) = codes "serve"
+first_word (line.Gen count seed) = codes "gen"
+first_word line.Check = codes "check"
+first_word (line.Grain count) = codes "grain"
+first_word (line.Access grain) = codes "access"
+first_word (line.Preview grant) = codes "preview"
+first_word line.Unknown = []
+
+-- the words of a line begin with its word, but for the line that is none
+begun : (words : List (String Global)) (one : Line) → IsLine words one
+    → (one ≡ line.Unknown) ⊎ ((rest : List (List ℕ)) × (map string_bytes words ≡ first_word one ∷ rest))
+begun words line.Play is = inr ([], is)
+begun words (line.Serve port count None) is = inr (_, is.words_are)
+begun words (line.Serve port count (Some tunnels)) is = inr (_, is.words_are)
+begun words (line.Gen count seed) is = inr (_, is.words_are)
+begun words line.Check is = inr (_, is.words_are)
+begun words (line.Grain count) is = inr (_, is.words_are)
+begun words (line.Access grain) is = inr (_, is.words_are)
+begun words (line.Preview grant) is = inr (_, is.words_are)
+begun words line.Unknown is = inl refl
 
 -- words are one `serve` at most
 one_serve : (words : List (String Global)) (p n q m : ℕ) (some other : Option Tunnels)
@@ -129,42 +172,29 @@ one_serve words p n q m (Some t) (Some u) a b =
     let same : t ≡ u = ap₂ (λ (port count : ℕ). let tunnels : Tunnels = record { port = port; count = count } in tunnels) ports counts in
     cc (a.words_are, b.words_are, a.port_is.number.value, b.port_is.number.value, a.count_is.number.value, b.count_is.number.value)
 
+-- lines of the same words that begin alike are one
+one_kind : (words : List (String Global)) (one other : Line) → bytes_eq (first_word one) (first_word other) ≡ true
+    → IsLine words one → IsLine words other → one ≡ other
+one_kind words line.Play line.Play same a b = refl
+one_kind words (line.Serve p n x) (line.Serve q m y) same a b = one_serve words p n q m x y a b
+one_kind words (line.Gen n s) (line.Gen m t) same a b =
+    cc (a.words_are, b.words_are, a.count_is.number.value, b.count_is.number.value, a.seed_is.value, b.seed_is.value)
+one_kind words line.Check line.Check same a b = refl
+one_kind words (line.Grain n) (line.Grain m) same a b = cc (a.words_are, b.words_are, a.count_is.number.value, b.count_is.number.value)
+one_kind words (line.Access n) (line.Access m) same a b = cc (a.words_are, b.words_are, a.grain_is.number.value, b.grain_is.number.value)
+one_kind words (line.Preview n) (line.Preview m) same a b = cc (a.words_are, b.words_are, a.grant_is.number.value, b.grant_is.number.value)
+one_kind words line.Unknown line.Unknown same a b = refl
+one_kind words _ _ same a b = absurd (true≢false (sym same))
+
+same_words : (words : List (List ℕ)) (v w : List ℕ) (rest more : List (List ℕ)) → words ≡ v ∷ rest → words ≡ w ∷ more → bytes_eq v w ≡ true
+same_words words v w rest more a b = (bytes_eq-Decides v w).1 (cc (a, b))
+
 -- words are one line at most
 pub one_line : (words : List (String Global)) → IsOneOfLines words
-one_line words line.Play line.Play a b = refl
-one_line words line.Play (line.Serve q m y) a b = cc (a, (serve_words words q m y b).1)
-one_line words line.Play (line.Gen m t) a b = cc (a, b.words_are)
-one_line words line.Play line.Check a b = cc (a, b.words_are)
-one_line words line.Play (line.Grain m) a b = cc (a, b.words_are)
-one_line words line.Play line.Unknown a b = absurd (b.play a)
-one_line words (line.Serve p n x) line.Play a b = cc ((serve_words words p n x a).1, b)
-one_line words (line.Serve p n x) (line.Serve q m y) a b = one_serve words p n q m x y a b
-one_line words (line.Serve p n x) (line.Gen m t) a b = cc ((serve_words words p n x a).1, b.words_are)
-one_line words (line.Serve p n x) line.Check a b = let other : ◌≡◌ {A = ℕ} 115 99 = cc ((serve_words words p n x a).1, b.words_are) in absurd (omega arith)
-one_line words (line.Serve p n x) (line.Grain m) a b = let other : ◌≡◌ {A = ℕ} 115 103 = cc ((serve_words words p n x a).1, b.words_are) in absurd (omega arith)
-one_line words (line.Serve p n x) line.Unknown a b = absurd (no_serve words p n x a b)
-one_line words (line.Gen n s) line.Play a b = cc (a.words_are, b)
-one_line words (line.Gen n s) (line.Serve q m y) a b = cc (a.words_are, (serve_words words q m y b).1)
-one_line words (line.Gen n s) (line.Gen m t) a b =
-    cc (a.words_are, b.words_are, a.count_is.number.value, b.count_is.number.value, a.seed_is.value, b.seed_is.value)
-one_line words (line.Gen n s) line.Check a b = cc (a.words_are, b.words_are)
-one_line words (line.Gen n s) (line.Grain m) a b = let other : ◌≡◌ {A = ℕ} 101 114 = cc (a.words_are, b.words_are) in absurd (omega arith)
-one_line words (line.Gen n s) line.Unknown a b = absurd (b.gen n s a)
-one_line words line.Check line.Play a b = cc (a.words_are, b)
-one_line words line.Check (line.Serve q m y) a b = let other : ◌≡◌ {A = ℕ} 99 115 = cc (a.words_are, (serve_words words q m y b).1) in absurd (omega arith)
-one_line words line.Check (line.Gen m t) a b = cc (a.words_are, b.words_are)
-one_line words line.Check line.Check a b = refl
-one_line words line.Check (line.Grain m) a b = cc (a.words_are, b.words_are)
-one_line words line.Check line.Unknown a b = absurd (b.check a)
-one_line words (line.Grain n) line.Play a b = cc (a.words_are, b)
-one_line words (line.Grain n) (line.Serve q m y) a b = let other : ◌≡◌ {A = ℕ} 103 115 = cc (a.words_are, (serve_words words q m y b).1) in absurd (omega arith)
-one_line words (line.Grain n) (line.Gen m t) a b = let other : ◌≡◌ {A = ℕ} 114 101 = cc (a.words_are, b.words_are) in absurd (omega arith)
-one_line words (line.Grain n) line.Check a b = cc (a.words_are, b.words_are)
-one_line words (line.Grain n) (line.Grain m) a b = cc (a.words_are, b.words_are, a.count_is.number.value, b.count_is.number.value)
-one_line words (line.Grain n) line.Unknown a b = absurd (b.grain n a)
-one_line words line.Unknown line.Play a b = absurd (a.play b)
-one_line words line.Unknown (line.Serve q m y) a b = absurd (no_serve words q m y b a)
-one_line words line.Unknown (line.Gen m t) a b = absurd (a.gen m t b)
-one_line words line.Unknown line.Check a b = absurd (a.check b)
-one_line words line.Unknown (line.Grain m) a b = absurd (a.grain m b)
-one_line words line.Unknown line.Unknown a b = refl
+one_line words one other a b = elim (begun words one a) [
+  | inl none ↦ none ∙ sym (none_known words other b (subst (IsLine words) none a))
+  | inr first ↦ elim (begun words other b) [
+    | inl none ↦ none_known words one a (subst (IsLine words) none b) ∙ sym none
+    | inr second ↦ one_kind words one other (same_words (map string_bytes words) (first_word one) (first_word other) first.0 second.0 first.1 second.1) a b
+  ]
+]

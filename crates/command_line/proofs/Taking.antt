@@ -10,7 +10,7 @@ use Rattle.clap.specs.Lexer.{strip_byte}
 use Rattle.clap.specs.Simple.{App, Shape, built_leaf, inherited, marked_built, with_leaf_noted}
 use Rattle.clap.specs.Walk.{Held, Rule, Text, Walk, arg_by_index, finished, idle, nothing_held, settled, to_positional, value, walk, walk_from, walked, word_met}
 use Rattle.clap.proofs.OnLiterals.{clap_on_literals}
-use Rattle.command_line.specs.Program.{check, gen, grain, program, serve}
+use Rattle.command_line.specs.Program.{access, check, gen, grain, preview, program, serve}
 use Rattle.command_line.specs.declared.line.Tunnels.{Tunnels}
 use Rattle.command_line.specs.Words.{IsNoLine, IsPath, IsServeBoth}
 
@@ -130,6 +130,46 @@ module _ (u v : Text) (first : IsPlain u) (second : IsPlain v) where
   unfolding clap_on_literals
   takes_grain = (λ i. or_else (grain_leaf i) [])
 
+module _ (u v : Text) (first : IsPlain u) (second : IsPlain v) where
+  abbrev access_one : Held
+  access_one = behind (leaf access) 1 u nothing_held
+
+  access_walk : walk (leaf access).rules [] nothing_held (u ∷ v ∷ []) ≡ at_place (behind (leaf access) 2 v access_one) 3
+  unfolding clap_on_literals
+  access_walk = walk_past (leaf access).rules 1 u nothing_held (v ∷ []) first ∙ word_walked (leaf access).rules 2 v access_one second
+
+  access_faults : walk_fault (leaf access) [] (walk_from nothing_held) (u ∷ v ∷ []) ≡ []
+  unfolding clap_on_literals
+  access_faults = walk_on (leaf access) 1 u nothing_held (v ∷ []) first ∙ walk_on (leaf access) 2 v access_one [] second
+
+  access_leaf : level_fault (leaf access) [] nothing_held (u ∷ v ∷ []) false [] ≡ []
+  unfolding clap_on_literals
+  access_leaf = (λ i. or_else (access_faults i) (rest_fault (leaf access) (access_walk i)))
+
+  pub takes_access : fault_of program (codes "access" ∷ u ∷ v ∷ []) ≡ []
+  unfolding clap_on_literals
+  takes_access = (λ i. or_else (access_leaf i) [])
+
+module _ (u v : Text) (first : IsPlain u) (second : IsPlain v) where
+  abbrev preview_one : Held
+  preview_one = behind (leaf preview) 1 u nothing_held
+
+  preview_walk : walk (leaf preview).rules [] nothing_held (u ∷ v ∷ []) ≡ at_place (behind (leaf preview) 2 v preview_one) 3
+  unfolding clap_on_literals
+  preview_walk = walk_past (leaf preview).rules 1 u nothing_held (v ∷ []) first ∙ word_walked (leaf preview).rules 2 v preview_one second
+
+  preview_faults : walk_fault (leaf preview) [] (walk_from nothing_held) (u ∷ v ∷ []) ≡ []
+  unfolding clap_on_literals
+  preview_faults = walk_on (leaf preview) 1 u nothing_held (v ∷ []) first ∙ walk_on (leaf preview) 2 v preview_one [] second
+
+  preview_leaf : level_fault (leaf preview) [] nothing_held (u ∷ v ∷ []) false [] ≡ []
+  unfolding clap_on_literals
+  preview_leaf = (λ i. or_else (preview_faults i) (rest_fault (leaf preview) (preview_walk i)))
+
+  pub takes_preview : fault_of program (codes "preview" ∷ u ∷ v ∷ []) ≡ []
+  unfolding clap_on_literals
+  takes_preview = (λ i. or_else (preview_leaf i) [])
+
 module _ (u v w : Text) (first : IsPlain u) (second : IsPlain v) (third : IsPlain w) where
   abbrev serve_one : Held
   serve_one = behind (leaf serve) 1 u nothing_held
@@ -214,4 +254,10 @@ module _ (words : List (String Global)) (paths : All IsPath (map string_bytes wo
     grain = λ count is. fault (subst Taken (sym is.words_are) (takes_grain is.socket is.count_digits
         (word_at (codes "grain" ∷ is.socket ∷ is.count_digits ∷ []) 1 is.words_are (lit< tt))
         (word_at (codes "grain" ∷ is.socket ∷ is.count_digits ∷ []) 2 is.words_are (lit< tt))));
+    access = λ grain is. fault (subst Taken (sym is.words_are) (takes_access is.file is.grain_digits
+        (word_at (codes "access" ∷ is.file ∷ is.grain_digits ∷ []) 1 is.words_are (lit< tt))
+        (word_at (codes "access" ∷ is.file ∷ is.grain_digits ∷ []) 2 is.words_are (lit< tt))));
+    preview = λ grant is. fault (subst Taken (sym is.words_are) (takes_preview is.file is.grant_digits
+        (word_at (codes "preview" ∷ is.file ∷ is.grant_digits ∷ []) 1 is.words_are (lit< tt))
+        (word_at (codes "preview" ∷ is.file ∷ is.grant_digits ∷ []) 2 is.words_are (lit< tt))));
   }

@@ -1,5 +1,5 @@
 -- The lines as a command of `clap`: subcommands of words by position, and nothing else.
-use Rattle.std.specs.Prelude.{codes, true}
+use Rattle.std.specs.Prelude.{[], ◌∷◌, codes, fold, true}
 use Rattle.clap.specs.Words.{App, Rule, Shape, Text, new_app, new_rule, with_rule, with_subcommand}
 use Rattle.clap.specs.Simple.{on_top}
 
@@ -35,6 +35,12 @@ check = with_place (new_app (codes "check")) (codes "file")
 abbrev pub grain : App
 grain = with_place (with_place (new_app (codes "grain")) (codes "socket")) (codes "count")
 
+abbrev pub access : App
+access = with_place (with_place (new_app (codes "access")) (codes "file")) (codes "grain")
+
+abbrev pub preview : App
+preview = with_place (with_place (new_app (codes "preview")) (codes "file")) (codes "grant")
+
 -- The words begin after the program's name, there is no help, and a subcommand has to be there.
 abbrev pub settled : Shape → Shape
 settled shape = record shape { no_binary_name = true; disable_help_flag = true; disable_help_subcommand = true; subcommand_required = true }
@@ -42,6 +48,6 @@ settled shape = record shape { no_binary_name = true; disable_help_flag = true; 
 abbrev pub bare : App
 bare = on_top settled (new_app (codes "admin_cli"))
 
--- the command
+-- the command, with a subcommand for each line
 abbrev pub program : App
-program = with_subcommand (with_subcommand (with_subcommand (with_subcommand (with_subcommand bare play.top) serve.top) gen.top) check.top) grain.top
+program = fold (λ whole line. with_subcommand whole line.top) bare (play ∷ serve ∷ gen ∷ check ∷ grain ∷ access ∷ preview ∷ [])

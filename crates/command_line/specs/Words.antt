@@ -18,6 +18,11 @@ pub record IsCount (limit : ℕ) (digits : List ℕ) (count : ℕ) : Type 0 wher
   pub some : 1 ≤ count
   pub within : count ≤ limit
 
+-- such digits of a number of 32 bits, 0 among them
+pub record IsNumber (digits : List ℕ) (n : ℕ) : Type 0 where
+  pub number : IsDecimalOf digits n
+  pub within : n ≤ 4294967295
+
 -- a path: a word that doesn't begin with `-`
 abbrev pub IsPath : List ℕ → Type 0
 IsPath word = slice_get word 0 ≡ Some 45 → ⊥
@@ -78,6 +83,22 @@ pub record IsGrainLine (words : List (String Global)) (count : ℕ) : Type 0 whe
   pub path : IsPath socket
   pub count_is : IsCount 1000000000 count_digits count
 
+-- The words `access FILE GRAIN`.
+pub record IsAccess (words : List (String Global)) (grain : ℕ) : Type 0 where
+  pub file : List ℕ
+  pub grain_digits : List ℕ
+  pub words_are : map string_bytes words ≡ codes "access" ∷ file ∷ grain_digits ∷ []
+  pub path : IsPath file
+  pub grain_is : IsNumber grain_digits grain
+
+-- The words `preview FILE GRANT`.
+pub record IsPreview (words : List (String Global)) (grant : ℕ) : Type 0 where
+  pub file : List ℕ
+  pub grant_digits : List ℕ
+  pub words_are : map string_bytes words ≡ codes "preview" ∷ file ∷ grant_digits ∷ []
+  pub path : IsPath file
+  pub grant_is : IsNumber grant_digits grant
+
 -- The words are none of the lines.
 pub record IsNoLine (words : List (String Global)) : Type 0 where
   pub play : IsPlay words → ⊥
@@ -86,6 +107,8 @@ pub record IsNoLine (words : List (String Global)) : Type 0 where
   pub gen : (count seed : ℕ) → IsGen words count seed → ⊥
   pub check : IsCheck words → ⊥
   pub grain : (count : ℕ) → IsGrainLine words count → ⊥
+  pub access : (grain : ℕ) → IsAccess words grain → ⊥
+  pub preview : (grant : ℕ) → IsPreview words grant → ⊥
 
 -- the line that words are
 abbrev pub IsLine : List (String Global) → Line → Type 0
@@ -95,6 +118,8 @@ IsLine words (line.Serve port count (Some tunnels)) = IsServeBoth words port cou
 IsLine words (line.Gen count seed) = IsGen words count seed
 IsLine words line.Check = IsCheck words
 IsLine words (line.Grain count) = IsGrainLine words count
+IsLine words (line.Access grain) = IsAccess words grain
+IsLine words (line.Preview grant) = IsPreview words grant
 IsLine words line.Unknown = IsNoLine words
 
 -- words are one line at most

@@ -96,6 +96,24 @@ fn grain_command<'a>(alloc: Global) -> Result<Command<'a>, AllocError>
     with_place(alloc, command, "count")
 }
 
+fn access_command<'a>(alloc: Global) -> Result<Command<'a>, AllocError>
+    ensures app { IfOk result (λ c. app_of c ≡ specs.access) }
+    ensures local { IfOk result (λ c. (fields_of c).has_globals ≡ false) }
+{
+    let command = Command::new(alloc, "access");
+    let command = with_place(alloc, command, "file")?;
+    with_place(alloc, command, "grain")
+}
+
+fn preview_command<'a>(alloc: Global) -> Result<Command<'a>, AllocError>
+    ensures app { IfOk result (λ c. app_of c ≡ specs.preview) }
+    ensures local { IfOk result (λ c. (fields_of c).has_globals ≡ false) }
+{
+    let command = Command::new(alloc, "preview");
+    let command = with_place(alloc, command, "file")?;
+    with_place(alloc, command, "grant")
+}
+
 // The command before its subcommands.
 fn bare_command<'a>(alloc: Global) -> Command<'a>
     ensures app { app_of result ≡ specs.bare }
@@ -126,7 +144,9 @@ fn program_command<'a>(alloc: Global) -> Result<Command<'a>, AllocError>
     let command = with_line(command, serve_command(alloc)?)?;
     let command = with_line(command, gen_command(alloc)?)?;
     let command = with_line(command, check_command(alloc)?)?;
-    with_line(command, grain_command(alloc)?)
+    let command = with_line(command, grain_command(alloc)?)?;
+    let command = with_line(command, access_command(alloc)?)?;
+    with_line(command, preview_command(alloc)?)
 }
 
 /// Whether the command takes the words.

@@ -2,10 +2,10 @@
 
 ghost use Rattle.std.specs.Prelude.{◌≡◌, ◌↔◌, ℕ, Some, All, map, string_bytes, slice_get, codes, IsTrue, IfOk, MatchOption};
 ghost use Rattle.command_line.specs.declared.line.Tunnels.{Tunnels as TheTunnels};
-ghost use Rattle.command_line.specs.Words.{IsCheck, IsCount, IsGen, IsGrainLine, IsLine, IsNoLine, IsDecimalOf, IsOneOfLines, IsPath, IsPlay, IsServe, IsServeBoth};
+ghost use Rattle.command_line.specs.Words.{IsAccess, IsCheck, IsCount, IsGen, IsGrainLine, IsLine, IsNoLine, IsDecimalOf, IsOneOfLines, IsPath, IsPlay, IsPreview, IsServe, IsServeBoth};
 
 use crate::command::is_taken;
-use crate::number::{count_of, number_of};
+use crate::number::{count_of, number_of, row_of};
 use host_base::Memory;
 use std::alloc::Global;
 
@@ -37,6 +37,14 @@ pub enum Line {
     /// `grain SOCKET COUNT`
     Grain {
         count: u32,
+    },
+    /// `access FILE GRAIN`
+    Access {
+        grain: u32,
+    },
+    /// `preview FILE GRANT`
+    Preview {
+        grant: u32,
     },
     /// None of the lines.
     Unknown,
@@ -206,6 +214,34 @@ fn grain_line(words: &[String]) -> Option<Line>
     }
 }
 
+fn access_line(words: &[String]) -> Option<Line>
+    ensures { MatchOption result ((grain : ℕ) → IsAccess words.now grain → ⊥) (IsLine words.now) }
+{
+    match words {
+        [word, file, grain] if says(word.as_str(), "access") && is_path(file.as_str()) => {
+            match row_of(grain.as_str()) {
+                Some(grain) => Some(Line::Access { grain }),
+                None => None,
+            }
+        }
+        _ => None,
+    }
+}
+
+fn preview_line(words: &[String]) -> Option<Line>
+    ensures { MatchOption result ((grant : ℕ) → IsPreview words.now grant → ⊥) (IsLine words.now) }
+{
+    match words {
+        [word, file, grant] if says(word.as_str(), "preview") && is_path(file.as_str()) => {
+            match row_of(grant.as_str()) {
+                Some(grant) => Some(Line::Preview { grant }),
+                None => None,
+            }
+        }
+        _ => None,
+    }
+}
+
 // The line that words are, by the words themselves.
 fn read_line(words: &[String]) -> Line
     ensures { IsLine words.now result }
@@ -225,7 +261,13 @@ fn read_line(words: &[String]) -> Line
     if let Some(line) = check_line(words) {
         return line;
     }
-    match grain_line(words) {
+    if let Some(line) = grain_line(words) {
+        return line;
+    }
+    if let Some(line) = access_line(words) {
+        return line;
+    }
+    match preview_line(words) {
         Some(line) => line,
         None => Line::Unknown,
     }

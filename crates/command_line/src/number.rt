@@ -1,7 +1,7 @@
 //! Numbers among the words.
 
 ghost use Rattle.std.specs.Prelude.{◌≡◌, ◌<◌, ◌^◌, ℕ, MatchOption};
-ghost use Rattle.command_line.specs.Words.{IsCount, IsDecimalOf};
+ghost use Rattle.command_line.specs.Words.{IsCount, IsDecimalOf, IsNumber};
 
 // The most digits that a number has.
 const MOST_DIGITS: usize = 10;
@@ -25,6 +25,16 @@ pub(crate) fn count_of(word: &str, limit: u32) -> Option<u32>
 {
     match number_of(word) {
         Some(number) if 1 <= number && number <= u64::from(limit) => Some(number as u32),
+        _ => None,
+    }
+}
+
+/// The number of 32 bits that a word says, as that of a grain or a grant.
+pub(crate) fn row_of(word: &str) -> Option<u32>
+    ensures { MatchOption result ((n : ℕ) → IsNumber word.now n → ⊥) (IsNumber word.now) }
+{
+    match number_of(word) {
+        Some(number) if number <= u64::from(u32::MAX) => Some(number as u32),
         _ => None,
     }
 }

@@ -5,6 +5,7 @@ use Rattle.std.specs.Prelude.{ℕ, ⊤, Bool, List, [], ◌∷◌, codes, Option
 use Rattle.serde_json.specs.Data.{Data}
 use Rattle.serde_json.specs.Find.{get}
 use Rattle.host_base.specs.declared.digest.Digest.{Digest}
+use Rattle.host_base.specs.declared.ids.AccountId.{AccountId}
 use Rattle.powerbox_match.specs.Descriptor.{DescriptorData}
 use Rattle.app_manifest.specs.declared.manifest.Manifest.{Manifest as AppManifest}
 use Rattle.app_manifest.specs.declared.fault.ManifestFault.{ManifestFault}
@@ -51,7 +52,7 @@ grain_body body = in_object body λ object.
     field 2 (name_of (get (codes "title") object)) λ title.
     Ok (record { app = app; title = title })
 
--- /grains/{n}/trash, /grains/{n}/untrash and the like: no field
+-- /grains/{n}/trash, /grains/{n}/untrash, /grains/{n}/access, /grants/{n}/preview and the like: no field
 abbrev pub plain_body : List ℕ → Result ⊤ BodyFault
 plain_body body = in_object body λ object. Ok tt
 
@@ -103,6 +104,11 @@ choose_body body = in_object body λ object.
     field 2 (query_of (get (codes "query") object)) λ query.
     field 3 (assignment_of (get (codes "assignment") object)) λ assignment.
     Ok (record { offer = offer; query = query; assignment = assignment })
+
+-- /grains/{n}/why: 1 account
+abbrev pub why_body : List ℕ → Result AccountId BodyFault
+why_body body = in_object body λ object.
+    field 1 (account_of (get (codes "account") object)) Ok
 
 -- /claim: 1 token, 2 permissions
 abbrev pub claim_body : List ℕ → Result ClaimFields BodyFault

@@ -225,6 +225,14 @@ pub fn choose_fields(alloc: Global, body: &[u8]) -> Result<ChooseFields, BodyFau
     })
 }
 
+/// The account whose access to a grain is to be explained.
+pub fn account_field(alloc: Global, body: &[u8]) -> Result<AccountId, BodyFault>
+    ensures stated { Answers (bodies.why_body body.now) result }
+{
+    let object = field(0, object_from(alloc, text_of(body))?)?;
+    field(1, number_from(object.get("account")).map(AccountId))
+}
+
 /// The SHA-256 digest of the token to claim, and the permissions that the user of the grain has to hold.
 pub fn claim_fields(alloc: Global, body: &[u8]) -> Result<ClaimFields, BodyFault>
     ensures stated { Answers (bodies.claim_body body.now) result }

@@ -1,4 +1,5 @@
 pub mod OfOptions
 pub mod OfOrders
+pub mod Listed
 pub mod OneListing
 pub mod Drafts

@@ -1,12 +1,13 @@
--- A command that asks what may be chosen changes nothing, and chooses nothing.
+-- A question changes nothing, and chooses nothing.
 use Rattle.std.proofs.Common.{◌≡◌, true, false, None, inl, inr}
-use Rattle.desk_base.specs.Terms.{answers, Caller, entry, GrainId, Made, Node, State}
+use Rattle.desk_base.specs.Terms.{AccountId, answers, Caller, entry, GrainId, GrantId, Made, Node, State}
 use Rattle.share_graph.specs.declared.facts.Node.TheVariants as node
 use Rattle.share_graph.specs.declared.refusal.Refusal.TheVariants.{Denied}
 use Rattle.desk_base.specs.Fitting.{ChangeFits, RowFits}
 use Rattle.desk_base.specs.Made.{nothing_made}
 use Rattle.desk_base.specs.Steps.{Refuses, Keeps, Makes, Change, denies}
 use Rattle.desk_base.proofs.FitForms.{unless_fits, found_fits, some_fits}
+use Rattle.report_desk.specs.Commands.{Access, Preview, Why}
 use Rattle.saved_refs.specs.Options.{Options}
 use Rattle.desk_orders.specs.declared.order.Command.{Command}
 use Rattle.desk_orders.specs.declared.order.Command.TheVariants as command
@@ -25,7 +26,38 @@ options_fits s who n =
     found_fits s tt λ grain there.
     record { fits = no_change s (node.User n account.num) }
 
+keeps_only : (s : State) (change : Change) (made : Made) → answers (Keeps nothing_made) (Makes change made) → ChangeFits s false change
+keeps_only s change made same = let odd : Makes change made ≡ Keeps nothing_made = same in cc
+
+pub access_fits : (s : State) (who : Caller) (n : GrainId) → RowFits s false (Access s who n)
+access_fits s who n =
+    some_fits s tt λ account is.
+    unless_fits s tt λ enabled.
+    found_fits s tt λ grain there.
+    unless_fits s tt λ owner.
+    record { fits = keeps_only s }
+
+pub preview_fits : (s : State) (who : Caller) (g : GrantId) → RowFits s false (Preview s who g)
+preview_fits s who g =
+    some_fits s tt λ account is.
+    unless_fits s tt λ enabled.
+    found_fits s tt λ grant there.
+    unless_fits s tt λ may.
+    record { fits = keeps_only s }
+
+pub why_fits : (s : State) (who : Caller) (n : GrainId) (a : AccountId) → RowFits s false (Why s who n a)
+why_fits s who n a =
+    some_fits s tt λ account is.
+    unless_fits s tt λ enabled.
+    found_fits s tt λ grain there.
+    found_fits s tt λ asked known.
+    unless_fits s tt λ may.
+    record { fits = keeps_only s }
+
 -- it chooses nothing
 pub none_found : (law : Law) (s : State) (who : Caller) (c : Command) → lists c ≡ true → IsFoundBy law s who c None
 none_found law s who (command.Options n query) asks = tt
+none_found law s who (command.Access n) asks = tt
+none_found law s who (command.Preview g) asks = tt
+none_found law s who (command.Why n a) asks = tt
 none_found law s who _ asks = cc

@@ -11,7 +11,8 @@ use Rattle.share_desk.proofs.FitRows.{share_fits, make_token_fits, child_fits, r
 use Rattle.saved_refs.proofs.OneRow.{options_one}
 use Rattle.saved_refs.proofs.OneRows.{choose_one, claim_one, save_one, restore_one, drop_saved_one}
 use Rattle.saved_refs.proofs.FitRows.{choose_fits, claim_fits, save_fits, restore_fits, drop_saved_fits}
-use Rattle.desk_orders.proofs.OfOptions.{options_fits}
+use Rattle.report_desk.proofs.OneRows.{access_one, preview_one, why_one}
+use Rattle.desk_orders.proofs.OfOptions.{options_fits, access_fits, preview_fits, why_fits}
 use Rattle.desk_orders.specs.declared.order.Command.{Command}
 use Rattle.desk_orders.specs.declared.order.Command.TheVariants as command
 use Rattle.desk_orders.specs.Commands.{Asked, IsStated, draws}
@@ -41,6 +42,9 @@ one_by s formed found who (command.Claim token permissions) = claim_one s formed
 one_by s formed found who (command.Save handle label) = save_one s formed who handle label
 one_by s formed found who (command.Restore token) = restore_one s formed who token
 one_by s formed found who (command.DropSaved token) = drop_saved_one s formed who token
+one_by s formed found who (command.Access n) = access_one s formed who n
+one_by s formed found who (command.Preview g) = preview_one s formed who g
+one_by s formed found who (command.Why n a) = why_one s formed who n a
 
 pub order_one : (s : State) → IsWellFormed s → (found : Option Bool) (order : Asked) → IsOne (RowOf s found order)
 unfolding RowOf
@@ -70,3 +74,6 @@ fits_by s formed found who (command.Claim token permissions) stated = claim_fits
 fits_by s formed found who (command.Save handle label) stated = save_fits s formed who handle label
 fits_by s formed found who (command.Restore token) stated = restore_fits s formed who token
 fits_by s formed found who (command.DropSaved token) stated = drop_saved_fits s formed who token
+fits_by s formed found who (command.Access n) stated = access_fits s who n
+fits_by s formed found who (command.Preview g) stated = preview_fits s who g
+fits_by s formed found who (command.Why n a) stated = why_fits s who n a

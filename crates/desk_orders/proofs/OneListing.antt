@@ -8,9 +8,7 @@ use Rattle.site_caps.specs.Sites.{StandsBefore, IsSites}
 use Rattle.site_caps.specs.declared.offer.SiteOffer.{SiteOffer}
 use Rattle.saved_refs.proofs.Members.{one_list}
 use Rattle.saved_refs.proofs.OneList.{options_one_list}
-use Rattle.desk_orders.specs.declared.order.Command.{Command}
-use Rattle.desk_orders.specs.declared.order.Command.TheVariants as command
-use Rattle.desk_orders.specs.Sites.{AreListed, ListsBy, HasOneAnswer}
+use Rattle.desk_orders.specs.Sites.{AreListed, HasOneAnswer}
 
 apart : (p q : ℕ × SiteOffer) → StandsBefore p q → StandsBefore q p → ⊥
 apart p q before after = grind arith
@@ -34,8 +32,3 @@ module _ (law : Law) (one : HasOneAnswer law) (query : List DescriptorData) wher
         let offers : told ≡ heard = one_list StandsBefore apart told heard sites.ascends more.ascends (members admin other mark told heard sites more) (members other admin (sym mark) heard told more sites) in
         cc);
   }
-
--- so it is of each command
-pub lists_one : (law : Law) → HasOneAnswer law → (s : State) → IsWellFormed s → (who : Caller) (c : Command) → IsOne (ListsBy law s who c)
-lists_one law one s formed who (command.Options n query) = listed_one law one query s formed who n
-lists_one law one s formed who _ = record { one = λ xs ys never nor. absurd never }

@@ -48,7 +48,7 @@ IsAnswer law s n found order (Ok (reply.Refused r)) drawn added =
     (added ≡ []) × RefusesWith s n found order drawn r
 IsAnswer law s n found order (Ok (reply.Made made text)) drawn added =
     (lists order.command ≡ false) × IsDone s n found order made text drawn added
-IsAnswer law s n found order (Ok (reply.Options list)) drawn added =
+IsAnswer law s n found order (Ok (reply.Listed list)) drawn added =
     (added ≡ []) × (drawn ≡ []) × Ready n (RowOf s found order) (Keeps nothing_made)
     × ListsBy law s order.caller order.command list
 IsAnswer law s n found order (Err fault.Secrets) drawn added =

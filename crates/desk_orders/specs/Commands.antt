@@ -24,9 +24,12 @@ secret_use _ = None
 abbrev pub draws : Command → Bool
 draws c = is_some (secret_use c)
 
--- whether a command asks what may be chosen: it is answered by a list, and changes nothing
+-- whether a command is a question: it is answered by a listing, and changes nothing
 abbrev pub lists : Command → Bool
 lists (command.Options n query) = true
+lists (command.Access n) = true
+lists (command.Preview g) = true
+lists (command.Why n a) = true
 lists _ = false
 
 -- A command is stated as its form asks: by the caller of its row, which is a login where nothing else is said; a handle

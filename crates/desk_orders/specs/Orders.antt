@@ -1,6 +1,6 @@
 -- What the machine makes of an order: by the row of its command. Nothing above this definition speaks of a command.
 use Rattle.std.specs.Prelude.{Bool, true, false, Option}
-use Rattle.desk_orders.specs.Terms.{AddAccount, AddApp, Caller, Child, Choose, Claim, CloseSession, Command, DropSaved, MakeToken, NewGrain, OpenSession, Options, Redeem, Restore, Revoke, Save, SetAdmin, SetEnabled, Share, StartRun, State, Step, StopRun, Trash, UpgradeApp}
+use Rattle.desk_orders.specs.Terms.{Access, AddAccount, AddApp, Caller, Child, Choose, Claim, CloseSession, Command, DropSaved, MakeToken, NewGrain, OpenSession, Options, Preview, Redeem, Restore, Revoke, Save, SetAdmin, SetEnabled, Share, StartRun, State, Step, StopRun, Trash, UpgradeApp, Why}
 use Rattle.desk_orders.specs.declared.order.Command.TheVariants as command
 use Rattle.desk_orders.specs.Commands.{Asked}
 
@@ -30,6 +30,9 @@ RowBy s found who (command.Claim token permissions) = Claim s who token permissi
 RowBy s found who (command.Save handle label) = Save s who handle label
 RowBy s found who (command.Restore token) = Restore s who token
 RowBy s found who (command.DropSaved token) = DropSaved s who token
+RowBy s found who (command.Access n) = Access s who n
+RowBy s found who (command.Preview g) = Preview s who g
+RowBy s found who (command.Why n a) = Why s who n a
 
 unfoldable pub RowOf : State → Option Bool → Asked → Step → Type 0
 RowOf s found order = RowBy s found order.caller order.command

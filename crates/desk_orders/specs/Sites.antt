@@ -1,9 +1,10 @@
 -- What the sites tell of an order, and what is listed of them.
 use Rattle.std.specs.Prelude.{◌≡◌, ◌⊎◌, ◌++◌, ◌∷◌, [], ℕ, Bool, List, Option, Some, None, Contains, IsTrue, option_map, map, filter}
 use Rattle.std.specs.List.{filter_map}
-use Rattle.desk_orders.specs.Terms.{Acceptable, Account, AreOptions, Caller, Choice, Command, DescriptorData, GrainId, HasNoOffer, HasOffer, IsCaller, IsCallerOn, IsNoCallerOn, IsOne, IsSites, Law, Listed, match_of, Offer, Preferred, Quality, Refusal, same_quality, secret_of, SiteOffer, State}
+use Rattle.desk_orders.specs.Terms.{Acceptable, Account, AreAccessLines, AreLossLines, AreOptions, AreReasons, Caller, Choice, Command, DescriptorData, GrainId, HasNoOffer, HasOffer, IsCaller, IsCallerOn, IsNoCallerOn, IsOne, IsSites, Law, Listed, Listing, match_of, Offer, Preferred, Quality, Refusal, same_quality, secret_of, SiteOffer, State}
 use Rattle.share_graph.specs.declared.desk.Offer.TheVariants as offer
 use Rattle.desk_orders.specs.declared.order.Command.TheVariants as command
+use Rattle.desk_orders.specs.declared.reply.Listing.TheVariants as listing
 
 -- whether the caller's account is an admin
 abbrev pub IsAdminBy : State → Caller → Bool → Type 0
@@ -59,10 +60,13 @@ AreListed law s who n query list =
     × ((admin : Bool) × IsAdminBy s who admin × IsSites law.tags law.may_offer query admin told)
     × (list ≡ map grain_listed choices ++ sites_listed query told)
 
--- the same of a command that asks for it; no other has a list
-abbrev pub ListsBy : Law → State → Caller → Command → List Listed → Type 0
-ListsBy law s who (command.Options n query) list = AreListed law s who n query list
-ListsBy law s who _ list = ⊥
+-- WHAT A QUESTION IS ANSWERED; no other command has a listing
+abbrev pub ListsBy : Law → State → Caller → Command → Listing → Type 0
+ListsBy law s who (command.Options n query) (listing.Options list) = AreListed law s who n query list
+ListsBy law s who (command.Access n) (listing.Access lines) = AreAccessLines s.tables n lines
+ListsBy law s who (command.Preview g) (listing.Losses lines) = AreLossLines s.tables g lines
+ListsBy law s who (command.Why n a) (listing.Why reasons) = AreReasons s.tables n a reasons
+ListsBy law s who _ told = ⊥
 
 -- the law allows one list of offers alone for each query at a tag
 abbrev pub HasOneAnswer : Law → Type 0

@@ -8,12 +8,15 @@ pub use Rattle.desk_base.specs.Outcomes.{draft_step, with_digest}
 pub use Rattle.desk_base.specs.Steps.{Keeps, Makes, Plain, Refuses, Step}
 pub use Rattle.desk_base.specs.Terms.{Account, Caller, DeskFault, Digest, Event, EventFits, GrainId, is_handle, IsOfTables, IsOne, IsSoundManifest, IsUnused, Made, Offer, Refusal, State}
 pub use Rattle.desk_base.specs.Wording.{secret_of}
-pub use Rattle.desk_orders.specs.declared.{deciding.Decision.Decision, order.Command.Command, reply.OrderFault.OrderFault, reply.Reply.Reply, secrets.SecretUse.SecretUse}
+pub use Rattle.desk_orders.specs.declared.{deciding.Decision.Decision, order.Command.Command, reply.Listing.Listing, reply.OrderFault.OrderFault, reply.Reply.Reply, secrets.SecretUse.SecretUse}
 pub use Rattle.host_base.specs.Drawing.{Coming, Draws}
 pub use Rattle.powerbox_match.specs.Descriptor.{DescriptorData}
 pub use Rattle.powerbox_match.specs.Matching.{match_of, same_quality}
 pub use Rattle.powerbox_match.specs.declared.{choices.Choice.Choice, value.Quality.Quality}
 pub use Rattle.powerbox_match.specs.declared.value.Quality.TheVariants.{Acceptable, Preferred}
+pub use Rattle.report_desk.specs.Commands.{Access, Preview, Why}
+pub use Rattle.report_desk.specs.Lines.{AreAccessLines, AreLossLines}
+pub use Rattle.report_desk.specs.Reasons.{AreReasons}
 pub use Rattle.saved_refs.specs.Commands.{Choose, Claim, DropSaved, Restore, Save}
 pub use Rattle.saved_refs.specs.Options.{AreOptions, Options}
 pub use Rattle.saved_refs.specs.declared.listed.Listed.{Listed}

@@ -77,7 +77,7 @@ fn carry_drawing(
     }
 }
 
-// What its desk answers to a command, which asks for no list.
+// What its desk answers to a command, which is no question.
 #[tactic(auto, using(desk_base::proofs::Stopped::loosely))]
 fn carry(
     alloc: Global,
@@ -113,7 +113,8 @@ fn carry(
         Command::Revoke(grant) => revoke(state, caller, *grant),
         Command::StopRun(grain) => stop_run(state, caller, *grain),
         Command::CloseSession(session) => close_session(state, solved, caller, *session),
-        Command::Options(_, _) => unreachable!(),
+        Command::Options(_, _) | Command::Access(_) => unreachable!(),
+        Command::Preview(_) | Command::Why(_, _) => unreachable!(),
         Command::Claim { token, permissions } => {
             claim(alloc, state, solved, caller, token, permissions)
         }

@@ -3,12 +3,14 @@
 
 mod deciding;
 mod order;
+mod questions;
 mod reply;
 mod secrets;
 mod sites;
 
 pub use deciding::{Decision, decide};
 pub use order::{Command, Order};
+pub use questions::{listing_of, lists};
 pub use reply::{Listing, OrderFault, Reply};
 pub use secrets::{SecretUse, draws, secret_text, secret_use, shown_text};
-pub use sites::{found_of, list_options, lists};
+pub use sites::found_of;

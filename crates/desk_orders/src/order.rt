@@ -91,6 +91,12 @@ pub enum Command {
     Restore(Digest),
     /// What was saved, whose token has this digest, is dropped.
     DropSaved(Digest),
+    /// Who has access to a grain.
+    Access(GrainId),
+    /// What revoking a grant would take.
+    Preview(GrantId),
+    /// Why an account has access to a grain.
+    Why(GrainId, AccountId),
 }
 
 /// A command with its caller, who is as its row asks: a login, a bearer, either, or a run. A grain is named to run or to be opened exactly

@@ -2,20 +2,31 @@
 
 use host_base::{Bytes, Memory};
 use plain_data::List;
+use report_desk::{Reasons, ReportLines};
 use saved_refs::Listed;
 use share_graph::{Made, Refusal};
 use thiserror::Error;
 
-/// What may be chosen: grains, preferred ones first, then by number; then what the sites offer, preferred first, then by tag and item.
-pub type Listing = List<Listed>;
+/// What is answered to a question, which changes nothing.
+#[derive(Drop)]
+pub enum Listing {
+    /// What may be chosen: grains, preferred ones first, then by number; then what the sites offer, preferred first, then by tag and item.
+    Options(List<Listed>),
+    /// Who has access to a grain.
+    Access(ReportLines),
+    /// What a revocation would take.
+    Losses(ReportLines),
+    /// Why an account has access to a grain.
+    Why(Reasons),
+}
 
 /// The answer to an order that was carried out or refused.
 #[derive(Drop)]
 pub enum Reply {
     /// What was made or is there already, and the text of the secret that was drawn, where the reply shows it.
     Made(Made, Option<Bytes>),
-    /// What may be chosen.
-    Options(Listing),
+    /// What a question is answered.
+    Listed(Listing),
     /// Why nothing was done.
     Refused(Refusal),
 }

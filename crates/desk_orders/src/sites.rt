@@ -1,15 +1,13 @@
 //! What the sites have of what an order chooses, and the list of what may be chosen.
 
-ghost use Rattle.std.specs.Prelude.{◌≡◌, ◌++◌, Bool, IfOk, OnOk, true, map};
+ghost use Rattle.std.specs.Prelude.{◌≡◌, ◌++◌, Bool, IfOk, OnOk, map};
 ghost use Rattle.std.specs.List.{filter_map};
-ghost use Rattle.desk_base.specs.Terms.{IsOne, IsSolutionOf, IsWellFormed};
-ghost use Rattle.desk_orders.specs.Commands as commands;
-ghost use Rattle.desk_orders.specs.Listing.{IsListed};
-ghost use Rattle.desk_orders.specs.declared.order.Command.TheVariants as command;
-ghost use Rattle.desk_orders.specs.Sites.{IsAdminBy, IsFound, IsFoundOf, IsFoundBy, HasOneAnswer, ListsBy, site_listed, grain_listed, those_of, sites_listed};
+ghost use Rattle.desk_base.specs.Outcomes.{IsAnswered};
+ghost use Rattle.desk_base.specs.Terms.{IsSolutionOf, IsWellFormed};
+ghost use Rattle.saved_refs.specs.Options.{Options};
+ghost use Rattle.desk_orders.specs.Sites.{AreListed, IsAdminBy, IsFound, IsFoundOf, IsFoundBy, site_listed, grain_listed, those_of, sites_listed};
 
 use crate::order::{Command, Order};
-use crate::reply::Listing;
 use desk_base::{caller_on, secret_of};
 use host_base::{GrainId, Memory};
 use least_access::Solved;
@@ -20,13 +18,6 @@ use share_graph::{Caller, DeskFault, Offer, State, by_login};
 use site_caps::{Registry, SiteDriver, SiteFault, SiteOffer};
 use std::alloc::{AllocError, Global};
 use std::slice;
-
-/// Whether an order asks what may be chosen, and so is answered by a list.
-pub fn lists(order: &Order) -> bool
-    ensures { result ≡ commands.lists order.now.command }
-{
-    matches!(&order.command, Command::Options(_, _))
-}
 
 // Whether the caller's account is an admin.
 fn is_admin(state: &State, caller: &Caller) -> bool
@@ -173,7 +164,7 @@ fn joined(
     query: &Query,
     choices: &[Choice],
     told: &[(u64, SiteOffer)],
-) -> Result<Listing, AllocError>
+) -> Result<List<Listed>, AllocError>
     ensures { IfOk result (λ list. list
         ≡ map grain_listed choices.now ++ sites_listed query.now told.now) }
 {
@@ -184,9 +175,8 @@ fn joined(
     Ok(List::new(list))
 }
 
-// What may be chosen for a grain, of what matches a query.
-#[tactic(auto, unfolding(crate::specs::Orders::RowOf))]
-fn options_of<C: SiteDriver + Drop>(
+/// What may be chosen for a grain, of what matches a query: by its row, with the offers of the sites.
+pub(crate) fn options_of<C: SiteDriver + Drop>(
     alloc: Global,
     state: &State,
     solved: &Solved,
@@ -194,34 +184,13 @@ fn options_of<C: SiteDriver + Drop>(
     caller: &Caller,
     num: GrainId,
     query: &Query,
-) -> Result<Listing, DeskFault>
+) -> Result<List<Listed>, DeskFault>
     requires formed { IsWellFormed state.now }
     requires solution { IsSolutionOf state.now.tables solved.now }
-    ensures { IsListed C.Law.law state.now
-        (record { caller = caller.now; command = command.Options num query.now }) result }
+    ensures { IsAnswered (Options state.now caller.now num)
+        (AreListed C.Law.law state.now caller.now num query.now) result }
 {
     let choices = grain_options(alloc, state, solved, caller, num, query)?;
     let told = sites.options(alloc, query, is_admin(state, caller))?;
     joined(alloc, query, choices.as_slice(), &told).map_err(|_| DeskFault::Memory)
-}
-
-/// What may be chosen, for an order that asks for it: by its row, with the offers of the sites.
-pub fn list_options<C: SiteDriver + Drop>(
-    alloc: Global,
-    state: &State,
-    solved: &Solved,
-    sites: &Registry<C>,
-    order: &Order,
-) -> Result<Listing, DeskFault>
-    requires formed { IsWellFormed state.now }
-    requires solution { IsSolutionOf state.now.tables solved.now }
-    requires asks { commands.lists order.now.command ≡ true }
-    ensures listed { IsListed C.Law.law state.now order.now result }
-    ensures one { HasOneAnswer C.Law.law
-        → IsOne (ListsBy C.Law.law state.now order.now.caller order.now.command) }
-{
-    let Command::Options(grain, query) = &order.command else {
-        unreachable!();
-    };
-    options_of(alloc, state, solved, sites, &order.caller, *grain, query)
 }

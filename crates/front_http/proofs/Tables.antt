@@ -21,6 +21,7 @@ desk_table =
     ∷ (codes "/apps/" ++ (256 ∷ codes "/upgrade"), route.AppUpgrade 0)
     ∷ (codes "/apps", route.Apps)
     ∷ (codes "/child", route.Child)
+    ∷ (codes "/grains/" ++ (256 ∷ codes "/access"), route.GrainAccess 0)
     ∷ (codes "/grains/" ++ (256 ∷ codes "/choose"), route.GrainChoose 0)
     ∷ (codes "/grains/" ++ (256 ∷ codes "/link"), route.GrainLink 0)
     ∷ (codes "/grains/" ++ (256 ∷ codes "/open"), route.GrainOpen 0)
@@ -31,7 +32,9 @@ desk_table =
     ∷ (codes "/grains/" ++ (256 ∷ codes "/trash"), route.GrainTrash 0)
     ∷ (codes "/grains/" ++ (256 ∷ codes "/untrash"), route.GrainUntrash 0)
     ∷ (codes "/grains/" ++ (256 ∷ codes "/wake"), route.GrainWake 0)
+    ∷ (codes "/grains/" ++ (256 ∷ codes "/why"), route.GrainWhy 0)
     ∷ (codes "/grains", route.Grains)
+    ∷ (codes "/grants/" ++ (256 ∷ codes "/preview"), route.GrantPreview 0)
     ∷ (codes "/grants/" ++ (256 ∷ codes "/revoke"), route.GrantRevoke 0)
     ∷ (codes "/open", route.Open)
     ∷ (codes "/redeem", route.Redeem)
@@ -93,8 +96,11 @@ desk_path (route.GrainWake n) path is = desk_numbered (codes "/grains/") (codes 
 desk_path (route.GrainStop n) path is = desk_numbered (codes "/grains/") (codes "stop") path n (route.GrainStop 0) refl refl (omega arith) refl is
 desk_path (route.GrainQuery n) path is = desk_numbered (codes "/grains/") (codes "query") path n (route.GrainQuery 0) refl refl (omega arith) refl is
 desk_path (route.GrainChoose n) path is = desk_numbered (codes "/grains/") (codes "choose") path n (route.GrainChoose 0) refl refl (omega arith) refl is
+desk_path (route.GrainAccess n) path is = desk_numbered (codes "/grains/") (codes "access") path n (route.GrainAccess 0) refl refl (omega arith) refl is
+desk_path (route.GrainWhy n) path is = desk_numbered (codes "/grains/") (codes "why") path n (route.GrainWhy 0) refl refl (omega arith) refl is
 desk_path route.Redeem path is = desk_fixed (codes "/redeem") path route.Redeem refl is
 desk_path (route.GrantRevoke n) path is = desk_numbered (codes "/grants/") (codes "revoke") path n (route.GrantRevoke 0) refl refl (omega arith) refl is
+desk_path (route.GrantPreview n) path is = desk_numbered (codes "/grants/") (codes "preview") path n (route.GrantPreview 0) refl refl (omega arith) refl is
 desk_path (route.SessionClose n) path is = desk_numbered (codes "/sessions/") (codes "close") path n (route.SessionClose 0) refl refl (omega arith) refl is
 desk_path route.Child path is = desk_fixed (codes "/child") path route.Child refl is
 desk_path route.Open path is = desk_fixed (codes "/open") path route.Open refl is

@@ -43,10 +43,16 @@ pub enum Route {
     GrainQuery(u32),
     /// `/grains/{n}/choose`
     GrainChoose(u32),
+    /// `/grains/{n}/access`
+    GrainAccess(u32),
+    /// `/grains/{n}/why`
+    GrainWhy(u32),
     /// `/redeem`
     Redeem,
     /// `/grants/{n}/revoke`
     GrantRevoke(u32),
+    /// `/grants/{n}/preview`
+    GrantPreview(u32),
     /// `/sessions/{n}/close`
     SessionClose(u32),
     /// `/child`

@@ -23,7 +23,7 @@ pub enum Texts {
 }
 
 // The desk's paths and those of a running grain, as the router reads them.
-const DESK_PATHS: [(&str, Route); 22] = [
+const DESK_PATHS: [(&str, Route); 25] = [
     ("/accounts", Route::Accounts),
     ("/accounts/{n}/admin", Route::AccountAdmin(0)),
     ("/accounts/{n}/enabled", Route::AccountEnabled(0)),
@@ -40,8 +40,11 @@ const DESK_PATHS: [(&str, Route); 22] = [
     ("/grains/{n}/stop", Route::GrainStop(0)),
     ("/grains/{n}/query", Route::GrainQuery(0)),
     ("/grains/{n}/choose", Route::GrainChoose(0)),
+    ("/grains/{n}/access", Route::GrainAccess(0)),
+    ("/grains/{n}/why", Route::GrainWhy(0)),
     ("/redeem", Route::Redeem),
     ("/grants/{n}/revoke", Route::GrantRevoke(0)),
+    ("/grants/{n}/preview", Route::GrantPreview(0)),
     ("/sessions/{n}/close", Route::SessionClose(0)),
     ("/child", Route::Child),
     ("/open", Route::Open),
@@ -76,8 +79,11 @@ fn desk_texts(route: Route) -> Texts
         Route::GrainStop(_) => Texts::Numbered("/grains/", "/stop"),
         Route::GrainQuery(_) => Texts::Numbered("/grains/", "/query"),
         Route::GrainChoose(_) => Texts::Numbered("/grains/", "/choose"),
+        Route::GrainAccess(_) => Texts::Numbered("/grains/", "/access"),
+        Route::GrainWhy(_) => Texts::Numbered("/grains/", "/why"),
         Route::Redeem => Texts::Fixed("/redeem"),
         Route::GrantRevoke(_) => Texts::Numbered("/grants/", "/revoke"),
+        Route::GrantPreview(_) => Texts::Numbered("/grants/", "/preview"),
         Route::SessionClose(_) => Texts::Numbered("/sessions/", "/close"),
         Route::Child => Texts::Fixed("/child"),
         Route::Open => Texts::Fixed("/open"),
@@ -118,7 +124,10 @@ fn with_number(route: Route, number: u32) -> Route
         Route::GrainStop(_) => Route::GrainStop(number),
         Route::GrainQuery(_) => Route::GrainQuery(number),
         Route::GrainChoose(_) => Route::GrainChoose(number),
+        Route::GrainAccess(_) => Route::GrainAccess(number),
+        Route::GrainWhy(_) => Route::GrainWhy(number),
         Route::GrantRevoke(_) => Route::GrantRevoke(number),
+        Route::GrantPreview(_) => Route::GrantPreview(number),
         Route::SessionClose(_) => Route::SessionClose(number),
         Route::Use(_) => Route::Use(number),
         _ => route,

@@ -21,7 +21,7 @@ use crate::history::History;
 use crate::telling::app_of;
 use desk_base::Draft;
 use desk_orders::{
-    Decision, Order, OrderFault, Reply, decide, found_of, list_options, lists, secret_text,
+    Decision, Order, OrderFault, Reply, decide, found_of, listing_of, lists, secret_text,
     shown_text,
 };
 use host_base::{Bytes, Digest, DrawFailed, Memory, Secrets, digest_of};
@@ -101,7 +101,7 @@ fn answer_drawn<H: Holding>(
     }
 }
 
-// Answers an order that asks for no list, with what the sites have of what it chooses.
+// Answers an order that is no question, with what the sites have of what it chooses.
 fn answer_found<H: Holding>(
     alloc: Global,
     history: &mut History,
@@ -136,7 +136,7 @@ fn answer_found<H: Holding>(
     }
 }
 
-// Answers an order that asks for a list, which changes nothing.
+// Answers a question, which changes nothing.
 fn list<C: SiteDriver + Drop>(
     alloc: Global,
     history: &History,
@@ -147,8 +147,8 @@ fn list<C: SiteDriver + Drop>(
     ensures { (holds : Backing) → Ordered (book_at C.Law.law history.now holds)
         (book_at C.Law.law history.now holds) order.now (length history.now.entries) result }
 {
-    match list_options(alloc, history.state(), history.solved(), sites, order) {
-        Ok(list) => Ok(Reply::Options(list)),
+    match listing_of(alloc, history.state(), history.solution(), sites, order) {
+        Ok(listing) => Ok(Reply::Listed(listing)),
         Err(DeskFault::Refused(refusal)) => Ok(Reply::Refused(refusal)),
         Err(DeskFault::Memory) => Err(OrderFault::Memory),
     }

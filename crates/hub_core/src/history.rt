@@ -221,6 +221,13 @@ impl History {
         self.solution.solved()
     }
 
+    /// The same with the indexes by which questions are answered. It takes no memory.
+    pub fn solution(&self) -> &Solution
+        ensures { IsSolvedFor (state_of self.now).tables result.now }
+    {
+        &self.solution
+    }
+
     /// How many entries it has, 1,000,000 at the most: fewer by commands, and one more for each grant that ended. It takes no memory.
     pub fn count(&self) -> u64
         ensures value { result ≡ length self.now.entries }

@@ -2,6 +2,7 @@
 
 ghost use Rattle.std.specs.Prelude.{◌≡◌, ◌<◌, ◌≤◌, [], length, IfOk, IfErr};
 ghost use Rattle.desk_base.specs.Terms.{IsSolutionOf, IsWellFormed, replay};
+ghost use Rattle.live_access.specs.Kept.{IsSolvedFor};
 ghost use Rattle.session_table.specs.Verdict.{IsVerdict};
 ghost use Rattle.hub_core.specs.Book.{Ordered, Ticked};
 ghost use Rattle.site_caps.specs.Answering.{GivesText};
@@ -17,6 +18,7 @@ use crate::history::History;
 use desk_orders::{Order, OrderFault, Reply};
 use host_base::{Key, Memory, Verdict};
 use least_access::Solved;
+use live_access::Solution;
 use session_table::verdict;
 use share_graph::{State, Tables};
 use site_caps::{Registry, SiteDriver, SiteFault, SiteText};
@@ -121,6 +123,13 @@ impl<H: Holding, C: SiteDriver + Drop> Locked<H, C> {
         ensures { IsSolutionOf (replay self.now.start self.now.history).tables result.now }
     {
         self.history.solved()
+    }
+
+    /// The same with the indexes by which questions are answered. It takes no memory.
+    pub fn solution(&self) -> &Solution
+        ensures { IsSolvedFor (replay self.now.start self.now.history).tables result.now }
+    {
+        self.history.solution()
     }
 
     /// The verdict on a key at the end of the history. Where its last entry revoked a grant, a key that held entry only by

@@ -13,3 +13,9 @@ returns-in-Unknown-clause-does g c = rw c.in-Unknown.is c.usage.ensures.tells
 
 pub serve-requires-clause-order : goal.serve-requires-clause-order
 serve-requires-clause-order g c κs within = c.requires.order (subst AtDoor (sym c.in-Serve.is) tt)
+
+pub returns-in-Access-clause-does : goal.returns-in-Access-clause-does
+returns-in-Access-clause-does g c = rw c.in-Access.is c.reports.ensures.reports
+
+pub returns-in-Preview-clause-does : goal.returns-in-Preview-clause-does
+returns-in-Preview-clause-does g c = rw c.in-Preview.is c.reports-in-Preview.ensures.reports

@@ -80,3 +80,12 @@ returns-in-Restore c = states c.args.route route.Restore c.args.who c.args.body.
 
 pub returns-in-Drop : goal.returns-in-Drop
 returns-in-Drop c = states c.args.route route.Drop c.args.who c.args.body.now _ c.drop_reference.result c.in-Drop.is refl c.drop_reference.ensures
+
+pub returns-in-GrainAccess : goal.returns-in-GrainAccess
+returns-in-GrainAccess c = states c.args.route (route.GrainAccess c.in-GrainAccess.num) c.args.who c.args.body.now _ c.plain-in-GrainAccess.result c.in-GrainAccess.is refl c.plain-in-GrainAccess.ensures
+
+pub returns-in-GrainWhy : goal.returns-in-GrainWhy
+returns-in-GrainWhy c = states c.args.route (route.GrainWhy c.in-GrainWhy.num) c.args.who c.args.body.now _ c.reasons.result c.in-GrainWhy.is refl c.reasons.ensures
+
+pub returns-in-GrantPreview : goal.returns-in-GrantPreview
+returns-in-GrantPreview c = states c.args.route (route.GrantPreview c.in-GrantPreview.num) c.args.who c.args.body.now _ c.plain-in-GrantPreview.result c.in-GrantPreview.is refl c.plain-in-GrantPreview.ensures

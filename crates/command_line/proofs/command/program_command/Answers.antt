@@ -14,4 +14,6 @@ returns c =
     let two = added c.in_ok-command-2.command c.in_ok-command.command c.in_ok-serve_command.field-0 _ specs.serve one c.in_ok-serve_command.ensures.app c.in_ok-command-2.ensures.app in
     let three = added c.in_ok-command-3.command c.in_ok-command-2.command c.in_ok-gen_command.field-0 _ specs.gen two c.in_ok-gen_command.ensures.app c.in_ok-command-3.ensures.app in
     let four = added c.in_ok-command-4.command c.in_ok-command-3.command c.in_ok-check_command.field-0 _ specs.check three c.in_ok-check_command.ensures.app c.in_ok-command-4.ensures.app in
-    IfOk-weaker c.with_line-5.result _ _ (λ new is. added new c.in_ok-command-4.command c.in_ok-grain_command.field-0 _ specs.grain four c.in_ok-grain_command.ensures.app is) c.with_line-5.ensures.app
+    let five = added c.in_ok-command-5.command c.in_ok-command-4.command c.in_ok-grain_command.field-0 _ specs.grain four c.in_ok-grain_command.ensures.app c.in_ok-command-5.ensures.app in
+    let six = added c.in_ok-command-6.command c.in_ok-command-5.command c.in_ok-access_command.field-0 _ specs.access five c.in_ok-access_command.ensures.app c.in_ok-command-6.ensures.app in
+    IfOk-weaker c.with_line-7.result _ _ (λ new is. added new c.in_ok-command-6.command c.in_ok-preview_command.field-0 _ specs.preview six c.in_ok-preview_command.ensures.app is) c.with_line-7.ensures.app

@@ -1,0 +1,7 @@
+pub mod Alike
+pub mod Bearing
+pub mod MemberLaw
+pub mod OneRow
+pub mod Linked
+pub mod Listed
+pub mod Planned

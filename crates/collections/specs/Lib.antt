@@ -1,0 +1,5 @@
+pub mod Terms
+pub mod Members
+pub mod Commands
+pub mod Linking
+pub mod Scan

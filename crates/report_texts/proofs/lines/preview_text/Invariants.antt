@@ -1,0 +1,7 @@
+use Rattle.std.proofs.Common.{◌≡◌, string_bytes, take}
+use Rattle.std.specs.Prelude.{flat_map}
+use Rattle.report_texts.specs.Lines.{loss_line}
+use Rattle.report_texts.proofs.lines.preview_text.Given as goal
+
+abbrev pub invariant-loop-line : goal.invariant-loop-line
+invariant-loop-line l = string_bytes l.text ≡ flat_map loss_line (take l.line-index l.report)

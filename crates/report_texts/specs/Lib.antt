@@ -1,0 +1,4 @@
+pub mod Terms
+pub mod Words
+pub mod Lines
+pub mod Answers

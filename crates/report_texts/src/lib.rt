@@ -1,0 +1,10 @@
+//! The texts of the report: the lines that the program prints, and the answers as JSON.
+#![tactic(auto)]
+
+mod data;
+mod lines;
+mod reply;
+mod words;
+
+pub use lines::{access_text, preview_text};
+pub use reply::{access_reply, preview_reply, why_reply};

@@ -1,0 +1,50 @@
+//! The answers to the questions of the report.
+
+ghost use Rattle.std.specs.Prelude.{◌≡◌, false, IfOk};
+ghost use Rattle.serde_json.specs.View.{view};
+ghost use Rattle.serde_json.specs.Written.{has_float};
+ghost use Rattle.report_texts.specs.Answers.{access_data, data_text, preview_data, why_data};
+
+use crate::data::{access_value, preview_value, why_value};
+use front_http::reply_text;
+use host_base::{Bytes, Memory};
+use report_desk::{Reason, ReportLine};
+use serde_json::Value;
+use std::alloc::Global;
+
+// The answer with a value.
+fn value_reply(alloc: Global, value: &Value, head_only: bool) -> Result<Bytes, Memory>
+    requires { has_float (view value.now) ≡ false }
+    ensures { IfOk result (λ text. text ≡ data_text (view value.now) head_only) }
+{
+    let body = value.to_string(alloc)?;
+    let reply = reply_text(alloc, 200, false, body.as_bytes(), head_only)?;
+    Ok(Bytes::new(reply))
+}
+
+/// The answer to the question who has access.
+#[tactic(auto, using(crate::proofs::Floats::access_exact))]
+pub fn access_reply(alloc: Global, report: &[ReportLine], head_only: bool) -> Result<Bytes, Memory>
+    ensures { IfOk result (λ text. text ≡ data_text (access_data report.now) head_only) }
+{
+    let value = access_value(alloc, report)?;
+    value_reply(alloc, &value, head_only)
+}
+
+/// The answer to the question what a revocation would take.
+#[tactic(auto, using(crate::proofs::Floats::preview_exact))]
+pub fn preview_reply(alloc: Global, report: &[ReportLine], head_only: bool) -> Result<Bytes, Memory>
+    ensures { IfOk result (λ text. text ≡ data_text (preview_data report.now) head_only) }
+{
+    let value = preview_value(alloc, report)?;
+    value_reply(alloc, &value, head_only)
+}
+
+/// The answer to the question why an account has access.
+#[tactic(auto, using(crate::proofs::Floats::why_exact))]
+pub fn why_reply(alloc: Global, reasons: &[Reason], head_only: bool) -> Result<Bytes, Memory>
+    ensures { IfOk result (λ text. text ≡ data_text (why_data reasons.now) head_only) }
+{
+    let value = why_value(alloc, reasons)?;
+    value_reply(alloc, &value, head_only)
+}
