@@ -1,6 +1,6 @@
 -- What the routes of the desk and of running grains, and their bodies, ask for.
 use Rattle.std.specs.Prelude.{ℕ, true, false, List, Option, Some, None, Result, Ok, Err}
-use Rattle.cloud_serve.specs.Terms.{account_body, BodyFault, Caller, child_body, choose_body, claim_body, Command, Digest, grain_body, GrainId, manifest_body, mark_body, plain_body, query_body, redeem_body, Route, save_body, share_body, Showing, tab_body, token_body, why_body}
+use Rattle.cloud_serve.specs.Terms.{account_body, BodyFault, Caller, child_body, choose_body, claim_body, collect_body, Command, Digest, grain_body, GrainId, grant_body, manifest_body, mark_body, plain_body, query_body, redeem_body, Route, save_body, share_body, Showing, tab_body, token_body, why_body}
 use Rattle.share_graph.specs.declared.desk.Caller.TheVariants as caller
 use Rattle.desk_orders.specs.declared.order.Command.TheVariants as command
 use Rattle.front_http.specs.declared.route.Route.TheVariants as route
@@ -67,6 +67,9 @@ module _ (who : Digest) (body : List ℕ) where
       asks login (choose_body body) λ f. command.Choose (record { 0 = n }) f.offer f.query f.assignment
   asked_at (route.GrainAccess n) = asks login (plain_body body) λ _. command.Access (record { 0 = n })
   asked_at (route.GrainWhy n) = asks login (why_body body) (command.Why (record { 0 = n }))
+  asked_at (route.GrainMissing n) = asks login (grant_body body) (command.Missing (record { 0 = n }))
+  asked_at (route.GrainCollect n) =
+      asks login (collect_body body) λ f. command.Collect (record { 0 = n }) f.link f.member
   asked_at (route.GrantPreview n) = asks login (plain_body body) λ _. command.Preview (record { 0 = n })
   asked_at route.Claim = asks run (claim_body body) λ f. command.Claim f.token f.permissions
   asked_at route.Save = asks run (save_body body) λ f. command.Save f.handle f.label

@@ -1,6 +1,6 @@
 -- What one request comes to: its turn, and when a turn is lawful.
 use Rattle.std.specs.Prelude.{◌≡◌, ◌≢◌, ℕ, ◌+◌, ◌⊎◌, ◌++◌, Bool, true, false, List, [], ◌∷◌, Option, Some, None, Result, Ok, Err, length, codes}
-use Rattle.cloud_serve.specs.Terms.{access_data, Ask, Asked, Book, command_text, data_text, denial_text, done_text, fault_text, GivesText, grain_text, Handed, Judged, Key, Law, Listing, options_text, OrderFault, own_text, Permit, Placed, preview_data, RelayFault, Relays, Reply, Request, Showing, site_text, SiteFault, Verdict, wants_head, why_data}
+use Rattle.cloud_serve.specs.Terms.{access_data, Ask, Asked, Book, command_text, data_text, denial_text, done_text, fault_text, GivesText, grain_text, Handed, Judged, Key, Law, Listing, missing_data, options_text, OrderFault, own_text, Permit, Placed, preview_data, RelayFault, Relays, Reply, Request, Showing, site_text, SiteFault, Verdict, wants_head, why_data}
 use Rattle.host_base.specs.declared.verdict.Denial.TheVariants as denial
 use Rattle.host_base.specs.declared.verdict.Verdict.TheVariants as verdict
 use Rattle.bridge_headers.specs.declared.fault.RelayFault.TheVariants as fault
@@ -87,6 +87,7 @@ listing_text (listing.Options list) head_only = options_text list head_only
 listing_text (listing.Access lines) head_only = data_text (access_data lines) head_only
 listing_text (listing.Losses lines) head_only = data_text (preview_data lines) head_only
 listing_text (listing.Why reasons) head_only = data_text (why_data reasons) head_only
+listing_text (listing.Owed members) head_only = data_text (missing_data members) head_only
 
 -- The text of the answer to an order. Want of memory has no text here: it breaks the turn off.
 abbrev pub AnswersOrder : Result Reply OrderFault → Bool → List ℕ → Type 0

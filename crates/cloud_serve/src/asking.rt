@@ -6,6 +6,7 @@ ghost use Rattle.cloud_serve.specs.Commands.{asked_at};
 ghost use Rattle.cloud_serve.specs.Routes.{IsAsked};
 ghost use Rattle.cloud_serve.specs.declared.showing.Showing.{Showing};
 
+use crate::collecting::{collection, missing};
 use crate::commands::{
     admin_mark, enabled_mark, new_account, new_app, new_child, new_grain, new_manifest, new_share,
     new_token, opening, plain, reasons, redemption,
@@ -66,6 +67,8 @@ fn stated(
         Route::GrainChoose(num) => Some(choice(alloc, who, GrainId(num), body)),
         Route::GrainAccess(num) => Some(plain(alloc, login, Command::Access(GrainId(num)), body)),
         Route::GrainWhy(num) => Some(reasons(alloc, who, GrainId(num), body)),
+        Route::GrainMissing(num) => Some(missing(alloc, who, GrainId(num), body)),
+        Route::GrainCollect(num) => Some(collection(alloc, who, GrainId(num), body)),
         Route::GrantPreview(num) => Some(plain(alloc, login, Command::Preview(GrantId(num)), body)),
         Route::Claim => Some(claim(alloc, who, body)),
         Route::Save => Some(reference(alloc, who, body)),

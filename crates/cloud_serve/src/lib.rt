@@ -2,6 +2,7 @@
 #![tactic(auto)]
 
 mod asking;
+mod collecting;
 mod commands;
 mod ending;
 mod passing;

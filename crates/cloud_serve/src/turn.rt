@@ -21,7 +21,7 @@ use reply_texts::{
     Handed, OwnFault, command_reply, denial_reply, done_reply, fault_reply, options_reply,
     own_reply, site_reply, wants_head,
 };
-use report_texts::{access_reply, preview_reply, why_reply};
+use report_texts::{access_reply, missing_reply, preview_reply, why_reply};
 use share_graph::{Made, Refusal};
 use site_caps::SiteFault;
 use std::alloc::Global;
@@ -201,6 +201,7 @@ fn listing_reply(alloc: Global, listing: &Listing, head_only: bool) -> Result<By
         Listing::Access(lines) => access_reply(alloc, lines.as_slice(), head_only),
         Listing::Losses(lines) => preview_reply(alloc, lines.as_slice(), head_only),
         Listing::Why(reasons) => why_reply(alloc, reasons.as_slice(), head_only),
+        Listing::Owed(members) => missing_reply(alloc, members.as_slice(), head_only),
     }
 }
 

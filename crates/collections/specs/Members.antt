@@ -29,9 +29,13 @@ pub record IsMemberShare (c : GrainId) (g : GrantId) (link : Grant) (u : Account
 abbrev pub HasShare : Tables → GrainId → GrantId → Grant → AccountId → Type 0
 HasShare t c g link u = (h : GrantId) × ((share : Grant) × IsGrant t h share × IsMemberShare c g link u share × (share.revoked ≡ false))
 
--- THE PLAN of a collection: by number, the accounts but the curator that hold entry on it and have no such share.
+-- the account is owed a share: it isn't the curator, holds entry on the collection, and has no such share
+abbrev pub IsOwed : Tables → GrainId → GrantId → Grant → AccountId → AccountId → Type 0
+IsOwed t c g link curator u = (u ≡ curator → ⊥) × Holds t (node.User c u) Open × (HasShare t c g link u → ⊥)
+
+-- THE PLAN of a collection: by number, the accounts that are owed a share.
 pub record IsPlan (t : Tables) (c : GrainId) (g : GrantId) (link : Grant) (curator : AccountId) (plan : List AccountId) : Type 0 where
-  pub exact : (u : AccountId) → Contains plan u ↔ ((u ≡ curator → ⊥) × Holds t (node.User c u) Open × (HasShare t c g link u → ⊥))
+  pub exact : (u : AccountId) → Contains plan u ↔ IsOwed t c g link curator u
   pub ascend : AllPairs (λ (a : AccountId) (b : AccountId). a.0 < b.0) plan
 
 -- the same for a caller, who is the curator

@@ -16,12 +16,13 @@ use crate::sharing::has_share;
 use desk_base::caller_on;
 use host_base::{AccountId, GrainId, GrantId, Memory};
 use live_access::Solution;
+use plain_data::List;
 use region_work::edges::Edges;
 use share_graph::{Caller, DeskFault, Grant, State, Tables};
 use std::alloc::Global;
 
-// Whether a member isn't the curator, and has no share.
-fn is_left(
+/// Whether a member isn't the curator, and has no share.
+pub(crate) fn is_left(
     tables: &Tables,
     arrivals: &Edges,
     collection: GrainId,
@@ -45,10 +46,10 @@ fn plan_of(
     link: &Grant,
     curator: AccountId,
     members: &[AccountId],
-) -> Result<Vec<AccountId>, Memory>
+) -> Result<List<AccountId>, Memory>
     requires arrivals { IsArrivalsOf tables.now (fed_in arrivals.now.entries) }
     requires members { AreMembers tables.now collection members.now }
-    ensures { IfOk result (λ plan. IsPlan tables.now collection link.now.num link.now curator plan.items) }
+    ensures { IfOk result (λ plan. IsPlan tables.now collection link.now.num link.now curator plan) }
 {
     let mut plan = Vec::new(alloc);
     for member in members {
@@ -56,14 +57,13 @@ fn plan_of(
             plan.push(*member)?;
         }
     }
-    Ok(plan)
+    Ok(List::new(plan))
 }
 
 /// The members of a collection to whom its curator, the caller, has not given the share that a link of its own asks for: the accounts but
 /// the curator's that hold entry on the collection, by number. Only the grants on the collection are looked at, and for each member
 /// those that go to it on the listed grain. Refused where the caller is no enabled account or has no access to the collection, and where
 /// the link isn't there, goes to no bearer or was given by another.
-#[tactic(auto, using(crate::proofs::OneRow::missing_one))]
 pub fn missing(
     alloc: Global,
     state: &State,
@@ -71,11 +71,11 @@ pub fn missing(
     caller: &Caller,
     collection: GrainId,
     link: GrantId,
-) -> Result<Vec<AccountId>, DeskFault>
+) -> Result<List<AccountId>, DeskFault>
     requires formed { IsWellFormed state.now }
     requires solved { IsSolvedFor state.now.tables solution.now }
     ensures row { IsAnswered (Missing state.now caller.now collection link)
-        (λ plan. IsPlanFor state.now caller.now collection link plan.items) result }
+        (λ plan. IsPlanFor state.now caller.now collection link plan) result }
     ensures one { IsOne (Missing state.now caller.now collection link) }
 
     // What a member's share passes on.

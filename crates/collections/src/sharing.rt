@@ -4,7 +4,7 @@ ghost use Rattle.std.specs.Prelude.{◌≡◌, ◌↔◌, IsTrue, false, None, C
 ghost use Rattle.host_base.specs.declared.ids.GrantId as the_id;
 ghost use Rattle.region_access.specs.Arriving.{IsArrivalsOf};
 ghost use Rattle.region_work.specs.Fed.{fed_in};
-ghost use Rattle.collections.specs.Members.{HasShare, IsMemberShare, member_needs};
+ghost use Rattle.collections.specs.Members.{HasShare, IsMemberShare, member_needs as the_needs};
 ghost use Rattle.collections.specs.Scan.{IsShareAt};
 
 use host_base::{AccountId, GrainId, GrantId};
@@ -12,13 +12,22 @@ use perm_roles::PermSet;
 use region_work::edges::{Edges, fed_by};
 use share_graph::{Grant, Need, Node, Tables, Target, grant as find_grant};
 
-// Whether needs are those of a member's share: the link holds entry, and the member holds entry on the collection.
-fn are_member_needs(needs: &[Need], collection: GrainId, link: GrantId, member: AccountId) -> bool
-    ensures { IsTrue result ↔ (needs.now ≡ member_needs collection link member) }
+/// The needs of a member's share: the link holds entry, and the member holds entry on the collection.
+pub(crate) fn member_needs(collection: GrainId, link: GrantId, member: AccountId) -> [Need; 2]
+    ensures { result ≡ the_needs collection link member }
 {
     let (holder, set) = (Node::User(collection, member), PermSet::empty());
-    let enters = Need::PermissionsHeld { holder, set };
-    needs == [Need::TokenValid(link), enters].as_slice()
+    [
+        Need::TokenValid(link),
+        Need::PermissionsHeld { holder, set },
+    ]
+}
+
+// Whether needs are those of a member's share.
+fn are_member_needs(needs: &[Need], collection: GrainId, link: GrantId, member: AccountId) -> bool
+    ensures { IsTrue result ↔ (needs.now ≡ the_needs collection link member) }
+{
+    needs == member_needs(collection, link, member).as_slice()
 }
 
 // Whether a grant gives what another one gives.

@@ -7,9 +7,7 @@ ghost use Rattle.desk_base.specs.Needs.{CanBeHad, IsFirstBad, AreGood, HasBadNee
 
 use host_base::GrainId;
 use perm_roles::PermSet;
-use share_graph::{
-    Need, Needs, Node, Refusal, Tables, app_of, grant as find_grant, has_account, is_node,
-};
+use share_graph::{Need, Node, Refusal, Tables, app_of, grant as find_grant, has_account, is_node};
 
 /// The most needs that a grant has.
 pub const NEEDS: usize = 8;
@@ -66,10 +64,10 @@ fn first_bad(tables: &Tables, needs: &[Need]) -> Option<u16>
 }
 
 /// Whether needs are at most eight, each of which can be had.
-pub fn good_needs(tables: &Tables, needs: &Needs) -> Result<(), Refusal>
+pub fn good_needs(tables: &Tables, needs: &[Need]) -> Result<(), Refusal>
     ensures { MatchResult result (λ _. AreGood tables.now needs.now) (HasBadNeed tables.now needs.now) }
 {
-    match first_bad(tables, needs.as_slice()) {
+    match first_bad(tables, needs) {
         None => Ok(()),
         Some(index) => Err(Refusal::BadNeed(index)),
     }

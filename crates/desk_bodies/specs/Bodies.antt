@@ -6,6 +6,7 @@ use Rattle.serde_json.specs.Data.{Data}
 use Rattle.serde_json.specs.Find.{get}
 use Rattle.host_base.specs.declared.digest.Digest.{Digest}
 use Rattle.host_base.specs.declared.ids.AccountId.{AccountId}
+use Rattle.host_base.specs.declared.ids.GrantId.{GrantId}
 use Rattle.powerbox_match.specs.Descriptor.{DescriptorData}
 use Rattle.app_manifest.specs.declared.manifest.Manifest.{Manifest as AppManifest}
 use Rattle.app_manifest.specs.declared.fault.ManifestFault.{ManifestFault}
@@ -14,6 +15,7 @@ use Rattle.desk_bodies.specs.declared.bodies.AccountFields.{AccountFields}
 use Rattle.desk_bodies.specs.declared.bodies.ChildFields.{ChildFields}
 use Rattle.desk_bodies.specs.declared.bodies.ChooseFields.{ChooseFields}
 use Rattle.desk_bodies.specs.declared.bodies.ClaimFields.{ClaimFields}
+use Rattle.desk_bodies.specs.declared.bodies.CollectFields.{CollectFields}
 use Rattle.desk_bodies.specs.declared.bodies.GrainFields.{GrainFields}
 use Rattle.desk_bodies.specs.declared.bodies.SaveFields.{SaveFields}
 use Rattle.desk_bodies.specs.declared.bodies.ShareFields.{ShareFields}
@@ -21,7 +23,7 @@ use Rattle.desk_bodies.specs.declared.bodies.TokenFields.{TokenFields}
 use Rattle.desk_bodies.specs.declared.fault.BodyFault.{BodyFault}
 use Rattle.desk_bodies.specs.declared.fault.BodyFault.TheVariants.{Manifest}
 use Rattle.desk_bodies.specs.Answers.{field}
-use Rattle.desk_bodies.specs.Fields.{name_of, handle_of, mark_of, token_of, tab_of, expiry_of, number_of, account_of, app_of, permissions_of}
+use Rattle.desk_bodies.specs.Fields.{name_of, handle_of, mark_of, token_of, tab_of, expiry_of, number_of, account_of, app_of, grant_of, permissions_of}
 use Rattle.desk_bodies.specs.Fields.{assignment_of, needs_of, query_of, offer_of}
 
 -- the text that a body is read as: an empty body counts as `{}`
@@ -109,6 +111,18 @@ choose_body body = in_object body λ object.
 abbrev pub why_body : List ℕ → Result AccountId BodyFault
 why_body body = in_object body λ object.
     field 1 (account_of (get (codes "account") object)) Ok
+
+-- /grains/{n}/missing: 1 grant
+abbrev pub grant_body : List ℕ → Result GrantId BodyFault
+grant_body body = in_object body λ object.
+    field 1 (grant_of (get (codes "grant") object)) Ok
+
+-- /grains/{n}/collect: 1 grant, 2 account
+abbrev pub collect_body : List ℕ → Result CollectFields BodyFault
+collect_body body = in_object body λ object.
+    field 1 (grant_of (get (codes "grant") object)) λ link.
+    field 2 (account_of (get (codes "account") object)) λ member.
+    Ok (record { link = link; member = member })
 
 -- /claim: 1 token, 2 permissions
 abbrev pub claim_body : List ℕ → Result ClaimFields BodyFault

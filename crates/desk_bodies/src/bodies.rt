@@ -13,7 +13,7 @@ use crate::fields::{
 };
 use crate::object::{field, object_from, text_of};
 use app_manifest::{Manifest, ManifestError, manifest_from};
-use host_base::{AccountId, AppId, Digest};
+use host_base::{AccountId, AppId, Digest, GrantId};
 use perm_roles::{Assignment, PermSet};
 use plain_data::Name;
 use powerbox_match::Query;
@@ -76,6 +76,13 @@ pub struct ChooseFields {
 pub struct ClaimFields {
     pub token: Digest,
     pub permissions: PermSet,
+}
+
+/// What the curator of a collection asks for a member.
+#[derive(Drop)]
+pub struct CollectFields {
+    pub link: GrantId,
+    pub member: AccountId,
 }
 
 /// The fields of a reference that is to be saved.
@@ -231,6 +238,24 @@ pub fn account_field(alloc: Global, body: &[u8]) -> Result<AccountId, BodyFault>
 {
     let object = field(0, object_from(alloc, text_of(body))?)?;
     field(1, number_from(object.get("account")).map(AccountId))
+}
+
+/// The grant by which a curator lists a grain.
+pub fn grant_field(alloc: Global, body: &[u8]) -> Result<GrantId, BodyFault>
+    ensures stated { Answers (bodies.grant_body body.now) result }
+{
+    let object = field(0, object_from(alloc, text_of(body))?)?;
+    field(1, number_from(object.get("grant")).map(GrantId))
+}
+
+/// The grant by which a curator lists a grain, and the member that is to get its share.
+pub fn collect_fields(alloc: Global, body: &[u8]) -> Result<CollectFields, BodyFault>
+    ensures stated { Answers (bodies.collect_body body.now) result }
+{
+    let object = field(0, object_from(alloc, text_of(body))?)?;
+    let link = field(1, number_from(object.get("grant")).map(GrantId))?;
+    let member = field(2, number_from(object.get("account")).map(AccountId))?;
+    Ok(CollectFields { link, member })
 }
 
 /// The SHA-256 digest of the token to claim, and the permissions that the user of the grain has to hold.

@@ -7,6 +7,8 @@ use Rattle.desk_base.specs.Fitting.{ChangeFits, RowFits}
 use Rattle.desk_base.specs.Made.{nothing_made}
 use Rattle.desk_base.specs.Steps.{Refuses, Keeps, Makes, Change, denies}
 use Rattle.desk_base.proofs.FitForms.{unless_fits, found_fits, some_fits}
+use Rattle.collections.specs.Commands.{Missing}
+use Rattle.collections.proofs.FitRow.{curator_fits}
 use Rattle.report_desk.specs.Commands.{Access, Preview, Why}
 use Rattle.saved_refs.specs.Options.{Options}
 use Rattle.desk_orders.specs.declared.order.Command.{Command}
@@ -54,10 +56,16 @@ why_fits s who n a =
     unless_fits s tt λ may.
     record { fits = keeps_only s }
 
+pub missing_fits : (s : State) (who : Caller) (c : GrainId) (g : GrantId) → RowFits s false (Missing s who c g)
+missing_fits s who c g =
+    curator_fits s who c g _ λ account link.
+    record { fits = keeps_only s }
+
 -- it chooses nothing
 pub none_found : (law : Law) (s : State) (who : Caller) (c : Command) → lists c ≡ true → IsFoundBy law s who c None
 none_found law s who (command.Options n query) asks = tt
 none_found law s who (command.Access n) asks = tt
 none_found law s who (command.Preview g) asks = tt
 none_found law s who (command.Why n a) asks = tt
+none_found law s who (command.Missing c g) asks = tt
 none_found law s who _ asks = cc

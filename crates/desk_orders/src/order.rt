@@ -70,14 +70,16 @@ pub enum Command {
     CloseSession(SessionId),
     /// What may be chosen for a grain, of what matches a query.
     Options(GrainId, Query),
-    /// What is offered is chosen for a grain, which asked by a query: another grain, with an assignment, or an item of a site.
+    /// What is offered is chosen for a grain, which asked by a query: another grain, with an assignment, or an item of
+    /// a site.
     Choose {
         grain: GrainId,
         offer: Offer,
         query: Query,
         assignment: Assignment,
     },
-    /// The run that calls claims what was chosen for its grain, whose token has this digest, while the chooser holds the permissions on that grain.
+    /// The run that calls claims what was chosen for its grain, whose token has this digest, while the chooser holds
+    /// the permissions on that grain.
     Claim {
         token: Digest,
         permissions: PermSet,
@@ -97,10 +99,18 @@ pub enum Command {
     Preview(GrantId),
     /// Why an account has access to a grain.
     Why(GrainId, AccountId),
+    /// Which members of a collection are owed a share of what the caller lists there by a link.
+    Missing(GrainId, GrantId),
+    /// A member of a collection gets the share that it is owed in the same way.
+    Collect {
+        collection: GrainId,
+        link: GrantId,
+        member: AccountId,
+    },
 }
 
-/// A command with its caller, who is as its row asks: a login, a bearer, either, or a run. A grain is named to run or to be opened exactly
-/// where the caller is a login. A handle in it has the form of one, and a manifest in it is sound.
+/// A command with its caller, who is as its row asks: a login, a bearer, either, or a run. A grain is named to run or to
+/// be opened exactly where the caller is a login. A handle in it has the form of one, and a manifest in it is sound.
 #[derive(Drop)]
 pub struct Order {
     pub(crate) caller: Caller,

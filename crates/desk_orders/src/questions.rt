@@ -12,6 +12,7 @@ ghost use Rattle.host_base.specs.declared.ids.GrainId as the_grain;
 use crate::order::{Command, Order};
 use crate::reply::Listing;
 use crate::sites::options_of;
+use collections::missing;
 use live_access::Solution;
 use report_desk::{access, preview, why};
 use share_graph::{DeskFault, State};
@@ -24,7 +25,11 @@ pub fn lists(order: &Order) -> bool
 {
     matches!(
         &order.command,
-        Command::Options(_, _) | Command::Access(_) | Command::Preview(_) | Command::Why(_, _)
+        Command::Options(_, _)
+            | Command::Access(_)
+            | Command::Preview(_)
+            | Command::Why(_, _)
+            | Command::Missing(_, _)
     )
 }
 
@@ -58,6 +63,9 @@ pub fn listing_of<C: SiteDriver + Drop>(
         }
         Command::Why(grain, account) => {
             why(alloc, state, solution, caller, *grain, *account).map(Listing::Why)
+        }
+        Command::Missing(collection, link) => {
+            missing(alloc, state, solution, caller, *collection, *link).map(Listing::Owed)
         }
         _ => unreachable!(),
     }

@@ -1,6 +1,6 @@
 //! What is answered to orders.
 
-use host_base::{Bytes, Memory};
+use host_base::{AccountId, Bytes, Memory};
 use plain_data::List;
 use report_desk::{Reasons, ReportLines};
 use saved_refs::Listed;
@@ -10,7 +10,8 @@ use thiserror::Error;
 /// What is answered to a question, which changes nothing.
 #[derive(Drop)]
 pub enum Listing {
-    /// What may be chosen: grains, preferred ones first, then by number; then what the sites offer, preferred first, then by tag and item.
+    /// What may be chosen: grains, preferred ones first, then by number; then what the sites offer, preferred first,
+    /// then by tag and item.
     Options(List<Listed>),
     /// Who has access to a grain.
     Access(ReportLines),
@@ -18,6 +19,8 @@ pub enum Listing {
     Losses(ReportLines),
     /// Why an account has access to a grain.
     Why(Reasons),
+    /// Which members of a collection are owed a share, by number.
+    Owed(List<AccountId>),
 }
 
 /// The answer to an order that was carried out or refused.

@@ -23,7 +23,9 @@ desk_table =
     ∷ (codes "/child", route.Child)
     ∷ (codes "/grains/" ++ (256 ∷ codes "/access"), route.GrainAccess 0)
     ∷ (codes "/grains/" ++ (256 ∷ codes "/choose"), route.GrainChoose 0)
+    ∷ (codes "/grains/" ++ (256 ∷ codes "/collect"), route.GrainCollect 0)
     ∷ (codes "/grains/" ++ (256 ∷ codes "/link"), route.GrainLink 0)
+    ∷ (codes "/grains/" ++ (256 ∷ codes "/missing"), route.GrainMissing 0)
     ∷ (codes "/grains/" ++ (256 ∷ codes "/open"), route.GrainOpen 0)
     ∷ (codes "/grains/" ++ (256 ∷ codes "/query"), route.GrainQuery 0)
     ∷ (codes "/grains/" ++ (256 ∷ codes "/share"), route.GrainShare 0)
@@ -98,6 +100,8 @@ desk_path (route.GrainQuery n) path is = desk_numbered (codes "/grains/") (codes
 desk_path (route.GrainChoose n) path is = desk_numbered (codes "/grains/") (codes "choose") path n (route.GrainChoose 0) refl refl (omega arith) refl is
 desk_path (route.GrainAccess n) path is = desk_numbered (codes "/grains/") (codes "access") path n (route.GrainAccess 0) refl refl (omega arith) refl is
 desk_path (route.GrainWhy n) path is = desk_numbered (codes "/grains/") (codes "why") path n (route.GrainWhy 0) refl refl (omega arith) refl is
+desk_path (route.GrainMissing n) path is = desk_numbered (codes "/grains/") (codes "missing") path n (route.GrainMissing 0) refl refl (omega arith) refl is
+desk_path (route.GrainCollect n) path is = desk_numbered (codes "/grains/") (codes "collect") path n (route.GrainCollect 0) refl refl (omega arith) refl is
 desk_path route.Redeem path is = desk_fixed (codes "/redeem") path route.Redeem refl is
 desk_path (route.GrantRevoke n) path is = desk_numbered (codes "/grants/") (codes "revoke") path n (route.GrantRevoke 0) refl refl (omega arith) refl is
 desk_path (route.GrantPreview n) path is = desk_numbered (codes "/grants/") (codes "preview") path n (route.GrantPreview 0) refl refl (omega arith) refl is

@@ -47,6 +47,10 @@ pub enum Route {
     GrainAccess(u32),
     /// `/grains/{n}/why`
     GrainWhy(u32),
+    /// `/grains/{n}/missing`
+    GrainMissing(u32),
+    /// `/grains/{n}/collect`
+    GrainCollect(u32),
     /// `/redeem`
     Redeem,
     /// `/grants/{n}/revoke`

@@ -23,7 +23,7 @@ pub enum Texts {
 }
 
 // The desk's paths and those of a running grain, as the router reads them.
-const DESK_PATHS: [(&str, Route); 25] = [
+const DESK_PATHS: [(&str, Route); 27] = [
     ("/accounts", Route::Accounts),
     ("/accounts/{n}/admin", Route::AccountAdmin(0)),
     ("/accounts/{n}/enabled", Route::AccountEnabled(0)),
@@ -42,6 +42,8 @@ const DESK_PATHS: [(&str, Route); 25] = [
     ("/grains/{n}/choose", Route::GrainChoose(0)),
     ("/grains/{n}/access", Route::GrainAccess(0)),
     ("/grains/{n}/why", Route::GrainWhy(0)),
+    ("/grains/{n}/missing", Route::GrainMissing(0)),
+    ("/grains/{n}/collect", Route::GrainCollect(0)),
     ("/redeem", Route::Redeem),
     ("/grants/{n}/revoke", Route::GrantRevoke(0)),
     ("/grants/{n}/preview", Route::GrantPreview(0)),
@@ -81,6 +83,8 @@ fn desk_texts(route: Route) -> Texts
         Route::GrainChoose(_) => Texts::Numbered("/grains/", "/choose"),
         Route::GrainAccess(_) => Texts::Numbered("/grains/", "/access"),
         Route::GrainWhy(_) => Texts::Numbered("/grains/", "/why"),
+        Route::GrainMissing(_) => Texts::Numbered("/grains/", "/missing"),
+        Route::GrainCollect(_) => Texts::Numbered("/grains/", "/collect"),
         Route::Redeem => Texts::Fixed("/redeem"),
         Route::GrantRevoke(_) => Texts::Numbered("/grants/", "/revoke"),
         Route::GrantPreview(_) => Texts::Numbered("/grants/", "/preview"),
@@ -126,6 +130,8 @@ fn with_number(route: Route, number: u32) -> Route
         Route::GrainChoose(_) => Route::GrainChoose(number),
         Route::GrainAccess(_) => Route::GrainAccess(number),
         Route::GrainWhy(_) => Route::GrainWhy(number),
+        Route::GrainMissing(_) => Route::GrainMissing(number),
+        Route::GrainCollect(_) => Route::GrainCollect(number),
         Route::GrantRevoke(_) => Route::GrantRevoke(number),
         Route::GrantPreview(_) => Route::GrantPreview(number),
         Route::SessionClose(_) => Route::SessionClose(number),

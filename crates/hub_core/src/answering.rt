@@ -119,7 +119,7 @@ fn answer_found<H: Holding>(
     match decide(
         alloc,
         history.state(),
-        history.solved(),
+        history.solution(),
         count,
         found,
         order,

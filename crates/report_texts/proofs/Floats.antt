@@ -3,8 +3,8 @@ use Rattle.std.proofs.Common.{◌≡◌, ℕ, Bool, false, List, [], ◌∷◌, 
 use Rattle.serde_json.specs.Data.{string}
 use Rattle.serde_json.specs.Written.{has_float, items_have_float, members_have_float}
 use Rattle.report_desk.specs.declared.holder.Holder.TheVariants as holder
-use Rattle.report_texts.specs.Terms.{Data, Holder, Passing, ReasonStep, ReportLine}
-use Rattle.report_texts.specs.Answers.{access_data, array_of, grant_data, items_of, line_data, line_members, number_of, preview_data, step_data, why_data}
+use Rattle.report_texts.specs.Terms.{AccountId, Data, Holder, Passing, ReasonStep, ReportLine}
+use Rattle.report_texts.specs.Answers.{access_data, array_of, grant_data, items_of, line_data, line_members, missing_data, number_of, preview_data, step_data, why_data}
 
 items_exact : {X : Type 0} (make : X → Data) → ((x : X) → has_float (make x) ≡ false) → (xs : List X) → items_have_float (items_of make xs) ≡ false
 items_exact make each [] = refl
@@ -40,3 +40,7 @@ preview_exact lines = rw (lines_exact lines)
 pub why_exact : (reasons : List (List ReasonStep)) → has_float (why_data reasons) ≡ false
 unfolding why_data
 why_exact reasons = rw (items_exact (array_of step_data) (items_exact step_data step_exact) reasons)
+
+pub missing_exact : (members : List AccountId) → has_float (missing_data members) ≡ false
+unfolding missing_data
+missing_exact members = rw (items_exact (λ (u : AccountId). number_of u.0) (λ _. refl) members)

@@ -2,7 +2,7 @@
 use Rattle.std.specs.Prelude.{ℕ, Bool, false, List, [], ◌∷◌, Option, Some, None, codes}
 use Rattle.report_desk.specs.declared.holder.Holder.TheVariants as holder
 use Rattle.serde_json.specs.Data.{array, boolean, item, member, no_items, no_members, null, number, object, string, unsigned}
-use Rattle.report_texts.specs.Terms.{compact_text, Data, Holder, Items, Members, Passing, ReasonStep, ReportLine, reply_text}
+use Rattle.report_texts.specs.Terms.{AccountId, compact_text, Data, Holder, Items, Members, Passing, ReasonStep, ReportLine, reply_text}
 use Rattle.report_texts.specs.Words.{step_words}
 
 -- an array of what is made of each item
@@ -59,6 +59,9 @@ preview_data lines = single (codes "losses") (array_of line_data lines)
 
 unfoldable pub why_data : List (List ReasonStep) → Data
 why_data reasons = single (codes "why") (array_of (array_of step_data) reasons)
+
+unfoldable pub missing_data : List AccountId → Data
+missing_data members = single (codes "missing") (array_of (λ (u : AccountId). number_of u.0) members)
 
 -- the answer with a value
 abbrev pub data_text : Data → Bool → List ℕ

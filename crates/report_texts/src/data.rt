@@ -4,7 +4,7 @@ ghost use Rattle.std.specs.Prelude.{◌≡◌, IfOk, string_bytes};
 ghost use Rattle.serde_json.specs.Data.{Data, object, string};
 ghost use Rattle.report_desk.specs.declared.holder.Holder.TheVariants as holder;
 ghost use Rattle.serde_json.specs.View.{view};
-ghost use Rattle.report_texts.specs.Answers.{access_data, array_of, grant_data, line_data, line_members, number_of, preview_data, step_data, why_data};
+ghost use Rattle.report_texts.specs.Answers.{access_data, array_of, grant_data, line_data, line_members, missing_data, number_of, preview_data, step_data, why_data};
 ghost use Rattle.report_texts.specs.Words.{step_words};
 
 use crate::words::put_step;
@@ -37,6 +37,14 @@ impl AsJson for u32 {
 
     fn value(&self, _alloc: Global) -> Result<Value, AllocError> {
         Ok(Value::from(*self))
+    }
+}
+
+impl AsJson for AccountId {
+    ghost shown = { λ account. number_of account.0 };
+
+    fn value(&self, _alloc: Global) -> Result<Value, AllocError> {
+        Ok(Value::from(self.0))
     }
 }
 
@@ -168,4 +176,12 @@ pub(crate) fn why_value(alloc: Global, reasons: &[Reason]) -> Result<Value, Allo
     ensures { IfOk result (λ value. view value ≡ why_data reasons.now) }
 {
     json!(in alloc; {"why": array_value(alloc, reasons)?})
+}
+
+/// Which members of a collection are owed a share.
+#[tactic(auto, unfolding(crate::specs::Answers::missing_data))]
+pub(crate) fn missing_value(alloc: Global, members: &[AccountId]) -> Result<Value, AllocError>
+    ensures { IfOk result (λ value. view value ≡ missing_data members.now) }
+{
+    json!(in alloc; {"missing": array_value(alloc, members)?})
 }

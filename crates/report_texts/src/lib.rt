@@ -7,4 +7,4 @@ mod reply;
 mod words;
 
 pub use lines::{access_text, preview_text};
-pub use reply::{access_reply, preview_reply, why_reply};
+pub use reply::{access_reply, missing_reply, preview_reply, why_reply};

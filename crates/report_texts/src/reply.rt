@@ -3,11 +3,11 @@
 ghost use Rattle.std.specs.Prelude.{◌≡◌, false, IfOk};
 ghost use Rattle.serde_json.specs.View.{view};
 ghost use Rattle.serde_json.specs.Written.{has_float};
-ghost use Rattle.report_texts.specs.Answers.{access_data, data_text, preview_data, why_data};
+ghost use Rattle.report_texts.specs.Answers.{access_data, data_text, missing_data, preview_data, why_data};
 
-use crate::data::{access_value, preview_value, why_value};
+use crate::data::{access_value, missing_value, preview_value, why_value};
 use front_http::reply_text;
-use host_base::{Bytes, Memory};
+use host_base::{AccountId, Bytes, Memory};
 use report_desk::{Reason, ReportLine};
 use serde_json::Value;
 use std::alloc::Global;
@@ -46,5 +46,14 @@ pub fn why_reply(alloc: Global, reasons: &[Reason], head_only: bool) -> Result<B
     ensures { IfOk result (λ text. text ≡ data_text (why_data reasons.now) head_only) }
 {
     let value = why_value(alloc, reasons)?;
+    value_reply(alloc, &value, head_only)
+}
+
+/// The answer to the question which members of a collection are owed a share.
+#[tactic(auto, using(crate::proofs::Floats::missing_exact))]
+pub fn missing_reply(alloc: Global, members: &[AccountId], head_only: bool) -> Result<Bytes, Memory>
+    ensures { IfOk result (λ text. text ≡ data_text (missing_data members.now) head_only) }
+{
+    let value = missing_value(alloc, members)?;
     value_reply(alloc, &value, head_only)
 }

@@ -9,17 +9,19 @@ use desk_base::{
 };
 use host_base::GrainId;
 use perm_roles::Assignment;
-use share_graph::{Giver, Needs, State, Target};
+use share_graph::{Giver, Need, Needs, State, Target};
+use std::alloc::Global;
 
 // Gives what an assignment says, under needs and until the expiry, on a grain that is there. Whoever bears a token gets
 // one, which is drawn.
 pub(crate) fn give(
+    alloc: Global,
     state: &State,
     num: GrainId,
     giver: Giver,
     target: Target,
     assignment: &Assignment,
-    needs: &Needs,
+    needs: &[Need],
     expires: Option<u64>,
 ) -> Answer
     requires formed { IsWellFormed state.now }
@@ -30,7 +32,8 @@ pub(crate) fn give(
     good_needs(&state.tables, needs)?;
     good_expiry(&state.tables, expires)?;
     has_grant_room(&state.tables)?;
-    let needs = needs.clone()?;
+    let kept = needs.to_vec(alloc)?;
+    let needs = Needs::new(kept);
     match target {
         Target::Bearer { .. } => Ok(draft_grant(
             state,

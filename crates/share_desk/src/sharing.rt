@@ -11,19 +11,21 @@ use desk_base::{Answer, Stop, caller_account, has_entry, known_account, known_gr
 use host_base::{AccountId, GrainId};
 use least_access::Solved;
 use perm_roles::Assignment;
-use share_graph::{Caller, Giver, Needs, Node, Refusal, State, Target};
+use share_graph::{Caller, Giver, Need, Node, Refusal, State, Target};
+use std::alloc::Global;
 
 /// Shares a grain, to which the caller has access, with another account, until the expiry, if there is one, in seconds.
 /// The reply shows the number of the grant.
 #[tactic(auto, using(crate::proofs::OneRows::share_one, crate::proofs::FitRows::share_fits))]
 pub fn share(
+    alloc: Global,
     state: &State,
     solved: &Solved,
     caller: &Caller,
     num: GrainId,
     to: AccountId,
     assignment: &Assignment,
-    needs: &Needs,
+    needs: &[Need],
     expires: Option<u64>,
 ) -> Answer
     requires formed { IsWellFormed state.now }
@@ -41,5 +43,5 @@ pub fn share(
         return Err(Stop::Refused(Refusal::SelfShare));
     }
     let (giver, target) = (Giver::Account(from.num), Target::User(to));
-    give(state, num, giver, target, assignment, needs, expires)
+    give(alloc, state, num, giver, target, assignment, needs, expires)
 }

@@ -11,19 +11,21 @@ use desk_base::{Answer, caller_grant, caller_on};
 use host_base::GrainId;
 use least_access::Solved;
 use perm_roles::Assignment;
-use share_graph::{Caller, Giver, Needs, State, Target};
+use share_graph::{Caller, Giver, Need, State, Target};
+use std::alloc::Global;
 
 /// Makes a token, which is drawn, to a grain to which the caller has access: for sharing it is a link, and else an API token.
 /// The grant lasts until the expiry, if there is one, in seconds. The reply shows its number.
 #[tactic(auto, using(crate::proofs::OneRows::make_token_one, crate::proofs::FitRows::make_token_fits))]
 pub fn make_token(
+    alloc: Global,
     state: &State,
     solved: &Solved,
     caller: &Caller,
     num: GrainId,
     for_sharing: bool,
     assignment: &Assignment,
-    needs: &Needs,
+    needs: &[Need],
     expires: Option<u64>,
 ) -> Answer
     requires formed { IsWellFormed state.now }
@@ -36,19 +38,20 @@ pub fn make_token(
 {
     let from = caller_on(state, solved, caller, num)?;
     let (giver, target) = (Giver::Account(from.num), Target::Bearer { for_sharing });
-    give(state, num, giver, target, assignment, needs, expires)
+    give(alloc, state, num, giver, target, assignment, needs, expires)
 }
 
 /// Makes a further token, which is drawn, from the grant whose token the caller bears, on the same grain, until the
 /// expiry, if there is one, in seconds. The reply shows the number of its grant.
 #[tactic(auto, using(crate::proofs::OneRows::child_one, crate::proofs::FitRows::child_fits))]
 pub fn child(
+    alloc: Global,
     state: &State,
     solved: &Solved,
     caller: &Caller,
     for_sharing: bool,
     assignment: &Assignment,
-    needs: &Needs,
+    needs: &[Need],
     expires: Option<u64>,
 ) -> Answer
     requires formed { IsWellFormed state.now }
@@ -60,5 +63,7 @@ pub fn child(
 {
     let from = caller_grant(state, solved, caller)?;
     let (giver, target) = (Giver::Grant(from.num), Target::Bearer { for_sharing });
-    give(state, from.grain, giver, target, assignment, needs, expires)
+    give(
+        alloc, state, from.grain, giver, target, assignment, needs, expires,
+    )
 }

@@ -87,5 +87,11 @@ returns-in-GrainAccess c = states c.args.route (route.GrainAccess c.in-GrainAcce
 pub returns-in-GrainWhy : goal.returns-in-GrainWhy
 returns-in-GrainWhy c = states c.args.route (route.GrainWhy c.in-GrainWhy.num) c.args.who c.args.body.now _ c.reasons.result c.in-GrainWhy.is refl c.reasons.ensures
 
+pub returns-in-GrainMissing : goal.returns-in-GrainMissing
+returns-in-GrainMissing c = states c.args.route (route.GrainMissing c.in-GrainMissing.num) c.args.who c.args.body.now _ c.missing.result c.in-GrainMissing.is refl c.missing.ensures
+
+pub returns-in-GrainCollect : goal.returns-in-GrainCollect
+returns-in-GrainCollect c = states c.args.route (route.GrainCollect c.in-GrainCollect.num) c.args.who c.args.body.now _ c.collection.result c.in-GrainCollect.is refl c.collection.ensures
+
 pub returns-in-GrantPreview : goal.returns-in-GrantPreview
 returns-in-GrantPreview c = states c.args.route (route.GrantPreview c.in-GrantPreview.num) c.args.who c.args.body.now _ c.plain-in-GrantPreview.result c.in-GrantPreview.is refl c.plain-in-GrantPreview.ensures

@@ -31,6 +31,6 @@ loop-member-preserved c =
     ]
 
 pub returns : goal.returns
-returns c =
+returns c = rw c.new.ensures (
     are_planned c.args.tables.now c.args.collection c.args.link.now.num c.args.link.now c.args.curator c.args.members.now c.loop-member.plan.items c.loop-member.member-index c.loop-member-test.false
-    c.requires.members c.loop-member.invariant
+    c.requires.members c.loop-member.invariant)

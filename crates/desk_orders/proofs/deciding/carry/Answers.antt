@@ -12,10 +12,13 @@ pub returns-in-NewGrain : goal.returns-in-NewGrain
 returns-in-NewGrain c = rw c.in-NewGrain.is c.new_grain.ensures.row
 
 pub returns-in-Share : goal.returns-in-Share
-returns-in-Share c = rw c.in-Share.is c.share.ensures.row
+returns-in-Share c = rw c.in-Share.is (rw c.as_slice.ensures at c.share.ensures.row)
 
 pub returns-in-Claim : goal.returns-in-Claim
 returns-in-Claim c = rw c.in-Claim.is c.claim.ensures.row
 
 pub returns-in-UpgradeApp : goal.returns-in-UpgradeApp
 returns-in-UpgradeApp c = rw c.in-UpgradeApp.is c.upgrade_app.ensures.row
+
+pub returns-in-Collect : goal.returns-in-Collect
+returns-in-Collect c = rw c.in-Collect.is c.collect.ensures.row

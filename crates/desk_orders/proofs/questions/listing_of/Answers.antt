@@ -1,3 +1,4 @@
+use Rattle.collections.specs.Members.{IsPlanFor}
 use Rattle.report_desk.specs.Lines.{AreAccessLines, AreLossLines}
 use Rattle.report_desk.specs.Reasons.{AreReasons}
 use Rattle.desk_orders.specs.Sites.{AreListed}
@@ -27,6 +28,11 @@ returns-in-Why-clause-listed g c =
     answered_by g.C.Law.SiteLaw.law c.args.state.now c.order.inside.caller (command.Why c.in-Why.grain c.in-Why.account) (AreReasons c.args.state.now.tables c.in-Why.grain c.in-Why.account) listing.Why (λ told are. are)
     c.order.inside.command c.in-Why.is c.args.order.now c.order.view_is c.why.result c.map-in-Why.result c.map-in-Why.ensures.cases c.why.ensures.row
 
+pub returns-in-Missing-clause-listed : goal.returns-in-Missing-clause-listed
+returns-in-Missing-clause-listed g c =
+    answered_by g.C.Law.SiteLaw.law c.args.state.now c.order.inside.caller (command.Missing c.in-Missing.collection c.in-Missing.link) (IsPlanFor c.args.state.now c.order.inside.caller c.in-Missing.collection c.in-Missing.link) listing.Owed (λ told are. are)
+    c.order.inside.command c.in-Missing.is c.args.order.now c.order.view_is c.missing.result c.map-in-Missing.result c.map-in-Missing.ensures.cases c.missing.ensures.row
+
 pub returns-in-Options-clause-one : goal.returns-in-Options-clause-one
 returns-in-Options-clause-one g c = λ one n query. listed_one g.C.Law.SiteLaw.law one query c.args.state.now c.requires.formed c.args.order.now.caller n
 
@@ -38,3 +44,6 @@ returns-in-Preview-clause-one g c = λ one n query. listed_one g.C.Law.SiteLaw.l
 
 pub returns-in-Why-clause-one : goal.returns-in-Why-clause-one
 returns-in-Why-clause-one g c = λ one n query. listed_one g.C.Law.SiteLaw.law one query c.args.state.now c.requires.formed c.args.order.now.caller n
+
+pub returns-in-Missing-clause-one : goal.returns-in-Missing-clause-one
+returns-in-Missing-clause-one g c = λ one n query. listed_one g.C.Law.SiteLaw.law one query c.args.state.now c.requires.formed c.args.order.now.caller n
