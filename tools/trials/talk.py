@@ -98,13 +98,17 @@ class Talk:
         """Learns the first account's login, which is all that a server on a new file has printed."""
         self.fits("the first login is printed", "login $first\n", self.server.printed().decode(errors="replace"))
 
-    def ask(self, row, lines=()):
-        """What comes back of a request, as text."""
+    def request_of(self, row, domain, lines=()):
+        """The name that a request is sent to, and its text."""
         method, _, where = row.request.partition(" ")
         host, slash, target = self.secrets.filled(where).partition("/")
         token = self.secrets.filled(f"${row.who}") if row.who else ""
         body = None if row.body is None else self.secrets.filled(row.body)
-        text = request_text(method, f"{host}.localhost:{self.server.port}", slash + target, token, body, lines)
+        return f"{host}.{domain}", request_text(method, f"{host}.{domain}", slash + target, token, body, lines)
+
+    def ask(self, row, lines=()):
+        """What comes back of a request, as text."""
+        _, text = self.request_of(row, f"localhost:{self.server.port}", lines)
         return exchange(self.server.port, text).decode(errors="replace")
 
     def answered(self, row, lines=()):

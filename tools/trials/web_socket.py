@@ -55,13 +55,14 @@ class NoWebSocket(Exception):
 class WebSocket(Connection):
     """A client's WebSocket. Nothing is done by itself: who asks opens it, and answers the server's pings."""
 
-    def __init__(self, to):
+    def __init__(self, to, host="localhost"):
         super().__init__(to)
+        self.host = host
         self.key = base64.b64encode(os.urandom(16)).decode()
 
     def request(self, target="/", lines=()):
         """The head that asks for a WebSocket."""
-        head = [f"GET {target} HTTP/1.1", "Host: localhost", "Upgrade: websocket", "Connection: Upgrade", f"Sec-WebSocket-Key: {self.key}",
+        head = [f"GET {target} HTTP/1.1", f"Host: {self.host}", "Upgrade: websocket", "Connection: Upgrade", f"Sec-WebSocket-Key: {self.key}",
                 "Sec-WebSocket-Version: 13", *lines]
         return "".join(line + "\r\n" for line in head).encode() + b"\r\n"
 
