@@ -1,8 +1,10 @@
-"""A collection over random steps: who is owed a share, and who reaches what is listed, are compared with a model of a few lines."""
+"""A collection over random steps: who is owed a share, and who reaches what is listed, are compared with a model of a few lines; and a tunnel."""
 import random
 
 from served import Port, request_text
 from trials.reports import APP, Desk
+from trials.tunnel_rows import closed, said, text
+from trials.web_socket import WebSocket
 
 # How many clubs are made, with how many accounts and steps each: 200 steps in all.
 CLUBS, ACCOUNTS, STEPS = 5, 12, 40
@@ -98,10 +100,28 @@ def take_step(bench, club, title):
         bench.same(f"{title}: who is owed none gets none", {}, club.collect(account))
 
 
+def in_a_tunnel(bench, club, port):
+    """A member's tunnel ends at the first message that comes once it is no member."""
+    account = club.others[0]
+    club.shares.setdefault(account, []).append(club.done(f"/grains/{club.grain}/share", {"to": account})["grant"])
+    if account in club.owed():
+        club.passed[account] = club.collect(account)["grant"]
+    key = club.desk.done(club.logins[account], f"/grains/{club.listed}/open")["key"]
+    with WebSocket(port) as tunnel:
+        tunnel.open()
+        tunnel.put(text(key.encode()), text(b"as a member"))
+        bench.same("a member's message reaches the grain", b"as a member", tunnel.read().payload[-11:])
+        for grant in club.shares.pop(account):
+            club.done(f"/grants/{grant}/revoke")
+        tunnel.put(text(b"as nobody"))
+        refusal = f'{{"error":"NoShare","of":[{club.listed},{account}]}}'
+        bench.same("the next one is refused, and the tunnel ends", [said(refusal), closed(1008)], tunnel.reads())
+
+
 def collections(bench):
-    folder, port = bench.place.make("collections"), Port()
-    talk = bench.talk(folder, port, 2)
-    desk = Desk(port.number, talk.secrets.known["first"])
+    folder, ports = bench.place.make("collections"), (Port(), Port())
+    talk = bench.talk(folder, ports[0], 2, tunnels=(ports[1], 2))
+    desk = Desk(ports[0].number, talk.secrets.known["first"])
     desk.done(desk.login, "/apps", APP)
     for seed in range(CLUBS):
         club = Collection(desk, seed)
@@ -112,5 +132,6 @@ def collections(bench):
             statuses = club.open_sessions()
             expected = {account: 200 if account in club.reaching() else 403 for account in statuses}
             bench.same(f"{title}: whose session goes on", expected, statuses)
+    in_a_tunnel(bench, club, ports[1].number)
     desk.connection.socket.close()
     talk.server.stop()
