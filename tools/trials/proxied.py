@@ -47,10 +47,11 @@ def seen_of(status, answer):
     return f"{status} {kind}\n{answer}"
 
 
-# Caddy 2.6 passes chunks on, which the server refuses, and has 502 for whatever breaks off.
+# Caddy 2.6 passes chunks on, which the server refuses, and has 502 for whatever breaks off; where it breaks off a body that is too long, the
+# server's own refusal of it may have come before.
 EXPECTED = {
-    Nginx: Expected("413 text/html", seen_of(200, rows.IN_CHUNKS), "502 text/html", " POST 200 "),
-    Caddy: Expected("502 nothing", seen_of(411, rows.NO_LENGTH), "502 nothing", '"msg":"serving initial configuration"'),
+    Nginx: Expected(["413 text/html"], seen_of(200, rows.IN_CHUNKS), "502 text/html", " POST 200 "),
+    Caddy: Expected(["413 application/json", "502 nothing"], seen_of(411, rows.NO_LENGTH), "502 nothing", '"msg":"serving initial configuration"'),
 }
 
 
@@ -130,8 +131,8 @@ def bodies(bench, talk):
     bench.same("a megabyte, there and back", seen_of(200, answer), seen(talk.exchange(talk.name(), posted(talk, largest))))
     refused = seen(talk.exchange(talk.name(), posted(talk, rows.TOO_LONG * "a")))
     bench.same("a byte more is refused by the server", seen_of(413, rows.REFUSED), refused)
-    refused = seen(talk.exchange(talk.name(), posted(talk, rows.FAR_TOO_LONG * "a")))
-    bench.same("far more is refused by the proxy", talk.expected.too_long, refused.partition("\n")[0])
+    refused = seen(talk.exchange(talk.name(), posted(talk, rows.FAR_TOO_LONG * "a"))).partition("\n")[0]
+    bench.same(f"far more is refused, by one of {talk.expected.too_long}", True, refused in talk.expected.too_long)
     head = request_text("POST", talk.name(), "/spread", lines=["Transfer-Encoding: chunked"])
     spread = seen(talk.exchange(talk.name(), head, *rows.CHUNKS))
     bench.same("a body in chunks", talk.expected.in_chunks, spread)
