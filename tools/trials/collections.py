@@ -14,7 +14,7 @@ class Collection:
     """A collection of a curator's, with one grain listed, and what the model knows of it."""
 
     def __init__(self, desk, seed):
-        self.desk, self.chance, self.logins = desk, random.Random(seed), {}
+        self.desk, self.chance, self.logins, self.last = desk, random.Random(seed), {}, None
         for place in range(ACCOUNTS):
             made = desk.done(desk.login, "/accounts", {"handle": f"m{seed}_{place}", "name": "M"})
             self.logins[made["account"]] = made["token"]
@@ -25,7 +25,9 @@ class Collection:
         self.list_anew()
 
     def done(self, target, body=None):
-        return self.desk.done(self.logins[self.curator], target, body)
+        answer = self.desk.done(self.logins[self.curator], target, body)
+        self.last = answer.get("grant", self.last)
+        return answer
 
     def make(self, title):
         return self.done("/grains", {"app": 1, "title": title})["grain"]
@@ -57,6 +59,13 @@ class Collection:
 
     def collect(self, account):
         return self.done(f"/grains/{self.grain}/collect", {"account": account, "grant": self.link})
+
+    def collect_all(self):
+        """All who are owed a share get one, by account, and so by the numbers of the next grants; how many, as it is told."""
+        for account in self.owed():
+            self.last += 1
+            self.passed[account] = self.last
+        return self.done(f"/grains/{self.grain}/collect", {"grant": self.link})
 
     def owed(self):
         """Who is a member and has no share, by the model."""
@@ -91,9 +100,14 @@ def take_step(bench, club, title):
     club.chance.choice([club.join, club.join, club.join, club.leave, club.leave, club.take_back, club.list_anew])()
     owed = club.owed()
     bench.same(f"{title}: who is owed a share", owed, club.missing())
-    if club.chance.random() < 0.5:
+    way = club.chance.choice(["none", "none", "each", "all"])
+    if way == "each":
         for account in owed:
             club.passed[account] = club.collect(account)["grant"]
+    if way == "all":
+        bench.same(f"{title}: how many get one", {"shared": len(owed)}, club.collect_all())
+        bench.same(f"{title}: how many at once behind that", {"shared": 0}, club.collect_all())
+    if way != "none":
         bench.same(f"{title}: then nobody is", [], club.missing())
     account = club.chance.choice(club.others)
     if account not in club.owed():

@@ -6,7 +6,7 @@ from trials.talk import Account, asked, whole_answer
 
 USAGE = (
     "status 2: usage: admin_cli play | serve FILE PORT COUNT [WSPORT WSCOUNT] | gen N SEED | check FILE | grain SOCKET COUNT"
-    " | access FILE GRAIN | preview FILE GRANT\n"
+    " | access FILE GRAIN | preview FILE GRANT | collect FILE GRAIN GRANT\n"
 )
 # Words that are none of the program's lines.
 WRONG = [

@@ -72,7 +72,7 @@ where
 {
     match line_of(rt.alloc(), words)? {
         Line::Serve { .. } => run_serve(rt, wait, words, post, first, sites),
-        Line::Check | Line::Access { .. } | Line::Preview { .. } => {
+        Line::Check | Line::Access { .. } | Line::Preview { .. } | Line::Collect { .. } => {
             let keeper = keeper_of(rt, path_of(words), first);
             run_kept(rt, wait, words, keeper, sites)
         }

@@ -5,7 +5,7 @@ ghost use Rattle.site_caps.specs.Registered.{IsRegistered};
 ghost use Rattle.admin_run.specs.Terms.{OutliveStops};
 ghost use Rattle.admin_run.specs.Connection.{HasBook};
 ghost use Rattle.admin_run.specs.Outside.{AreInOrder};
-ghost use Rattle.admin_run.specs.Program.{BeginWithBook, ServeAtDoor};
+ghost use Rattle.admin_run.specs.Program.{BeginWithBook, NeedSites, ServeAtDoor};
 ghost use Rattle.serve_door.specs.Doors.{IsInOrder};
 
 use crate::NO_MEMORY;
@@ -45,8 +45,7 @@ where
     requires book { BeginWithBook words.now → HasBook world.tells.holds.keeping }
     requires outlive { BeginWithBook words.now
         → OutliveStops world.tells.holds.keeping (W.Keeper.may_leave world.keeper) }
-    requires registered { BeginWithBook words.now ⊎ ServeAtDoor words.now
-        → IsRegistered C.Law.law.tags (map C.tag_of sites.items) }
+    requires registered { NeedSites words.now → IsRegistered C.Law.law.tags (map C.tag_of sites.items) }
     requires order { ServeAtDoor words.now → AreInOrder world.tells }
 {
     run(wait, alloc, words, world, sites).status

@@ -1,6 +1,7 @@
 pub mod Begins
 pub mod BookRows
 pub mod Causes
+pub mod Collected
 pub mod Completes
 pub mod Ends
 pub mod First

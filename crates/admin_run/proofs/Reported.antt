@@ -1,11 +1,11 @@
 -- A bad row that was told is what the report on rows says.
-use Rattle.std.proofs.Common.{◌≡◌, ℕ, List, Result, Err, subst, inl, inr}
+use Rattle.std.proofs.Common.{◌≡◌, ℕ, List, Err, subst, inl, inr}
 use Rattle.row_tables.specs.declared.stored.LoadFault.{LoadFault}
 use Rattle.row_tables.specs.declared.stored.LoadFault.TheVariants as fault
 use Rattle.admin_run.specs.Lines.{bad_row_line}
 use Rattle.admin_run.specs.Outside.{Tells}
 use Rattle.admin_run.specs.Reporting.{ReportsRows}
-use Rattle.admin_run.specs.Terms.{BadRow, GivesTables, Outlet, Row, Tables}
+use Rattle.admin_run.specs.Terms.{BadRow, GivesTables, Outlet, Row}
 use Rattle.admin_run.specs.declared.reporting.Subject.{Subject}
 
 pub bad_told : (asked : Subject) (moment : ℕ) (old new : Outlet) (rows : List Row) (status : ℕ) (why : LoadFault) (bad : BadRow) (line : List ℕ) → why ≡ fault.BadRow bad

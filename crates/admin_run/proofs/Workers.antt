@@ -13,7 +13,7 @@ use Rattle.hub_jobs.specs.Jobs.{AreDone, DoneAtOnce, Shift}
 use Rattle.serve_door.specs.Doors.{Doorway, IsInOrder, Traffic, Visit, expecting, further, given_and_back, with_faults_of}
 use Rattle.serve_door.proofs.Chained.{expected_in_order}
 use Rattle.serve_door.proofs.Employed.{doorman, hallman}
-use Rattle.serve_door.specs.Working.{AreHired, AreReady, AreStaff, IsReadyAt, Post, Posts, Works, WorksAt, WorksBoth, all_together, together, with_handles, workers_at, worse}
+use Rattle.serve_door.specs.Working.{AreHired, AreReady, AreStaff, Post, Posts, Works, WorksAt, WorksBoth, all_together, together, with_handles, workers_at, worse}
 use Rattle.serve_door.specs.declared.serving.Stop.{Stop}
 use Rattle.serve_door.specs.declared.serving.Stop.TheVariants as stop
 use Rattle.serve_door.specs.declared.serving.Stopped.{Stopped}

@@ -1,4 +1,5 @@
 pub mod Beginning
+pub mod Collecting
 pub mod Connection
 pub mod Judging
 pub mod Lines

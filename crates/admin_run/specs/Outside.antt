@@ -50,7 +50,7 @@ Tells old new text done status =
 -- the usage line
 abbrev pub usage_line : List ℕ
 usage_line =
-    codes "usage: admin_cli play | serve FILE PORT COUNT [WSPORT WSCOUNT] | gen N SEED | check FILE | grain SOCKET COUNT | access FILE GRAIN | preview FILE GRANT\n"
+    codes "usage: admin_cli play | serve FILE PORT COUNT [WSPORT WSCOUNT] | gen N SEED | check FILE | grain SOCKET COUNT | access FILE GRAIN | preview FILE GRANT | collect FILE GRAIN GRANT\n"
 
 -- The usage line is printed, with status 2; nothing is taken, asked, drawn, started, kept or accepted.
 pub record TellsUsage (old new : Outside) (status : ℕ) : Type 0 where

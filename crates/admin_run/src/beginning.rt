@@ -58,8 +58,8 @@ fn begin_anew<K: Keeper, S: Secrets>(
     }
 }
 
-// The tables that rows state. The error is the status.
-fn tables_in(alloc: Global, rows: &[Row]) -> Result<Tables, u8>
+/// The tables that rows state. The error is the status.
+pub(crate) fn tables_in(alloc: Global, rows: &[Row]) -> Result<Tables, u8>
     ensures tables { IfOk result (λ tables. GivesTables (Ok tables) rows.now × AreRowsOf tables rows.now
         × IsWellFormed (opened tables)) }
     ensures fails { IfErr result (λ status.

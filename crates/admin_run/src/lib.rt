@@ -2,6 +2,7 @@
 #![tactic(auto)]
 
 mod beginning;
+mod collecting;
 mod connection;
 mod judging;
 mod keeping;

@@ -9,8 +9,9 @@ ghost use Rattle.admin_run.specs.Outside.{AreInOrder, DoesNothing, HasStatusCaus
 ghost use Rattle.admin_run.specs.Judging.{ChecksRows};
 ghost use Rattle.admin_run.specs.Playing.{ServesGrain};
 ghost use Rattle.admin_run.specs.Reporting.{ReportsOn};
-ghost use Rattle.admin_run.specs.Program.{AtDoor, BeginWithBook, Does, FromBook, ServeAtDoor};
+ghost use Rattle.admin_run.specs.Program.{AtDoor, BeginWithBook, Does, FromBook, NeedSites, ServeAtDoor, UsesSites};
 
+use crate::collecting::collect;
 use crate::judging::judge;
 use crate::making::make;
 use crate::playing::play;
@@ -106,8 +107,7 @@ where
     requires book { FromBook line → HasBook world.tells.holds.keeping }
     requires outlive { FromBook line
         → OutliveStops world.tells.holds.keeping (W.Keeper.may_leave world.keeper) }
-    requires registered { FromBook line ⊎ AtDoor line
-        → IsRegistered C.Law.law.tags (map C.tag_of sites.items) }
+    requires registered { UsesSites line → IsRegistered C.Law.law.tags (map C.tag_of sites.items) }
     requires order { AtDoor line → AreInOrder world.tells }
     ensures does { Does C.Law.law line (W.Keeper.may_leave result.world.keeper) world.tells result.world.tells
         result.status }
@@ -127,6 +127,9 @@ where
         }
         Line::Access { grain } => reports(alloc, world, Subject::Access(GrainId(grain))),
         Line::Preview { grant } => reports(alloc, world, Subject::Preview(GrantId(grant))),
+        Line::Collect { grain, grant } => {
+            collect(alloc, world, GrainId(grain), GrantId(grant), sites)
+        }
         Line::Unknown => usage(world),
     }
 }
@@ -136,7 +139,8 @@ where
 /// summary; `serve FILE PORT COUNT` serves so many connections at its door from the rows of the keeper, with a driver for each
 /// site, and with `WSPORT WSCOUNT` so many tunnels at its halls beside them; `check FILE` says what the rows of the keeper state; `grain SOCKET COUNT` prints `ready` and answers so many
 /// connections at its door with what they were asked; `access FILE GRAIN` prints who has access to a grain by the keeper's rows, and
-/// `preview FILE GRANT` what revoking a grant would take, at the clock's moment; any other words get the usage line.
+/// `preview FILE GRANT` what revoking a grant would take, at the clock's moment; `collect FILE GRAIN GRANT` gives the members of a
+/// collection the shares that they are owed, for the account whose login the input begins with; any other words get the usage line.
 pub fn run<R: Threads + Wait + Sync, W: Setting + Send, C: SiteDriver + Drop + Send>(
     rt: &R,
     alloc: Global,
@@ -159,8 +163,7 @@ where
     requires book { BeginWithBook words.now → HasBook world.tells.holds.keeping }
     requires outlive { BeginWithBook words.now
         → OutliveStops world.tells.holds.keeping (W.Keeper.may_leave world.keeper) }
-    requires registered { BeginWithBook words.now ⊎ ServeAtDoor words.now
-        → IsRegistered C.Law.law.tags (map C.tag_of sites.items) }
+    requires registered { NeedSites words.now → IsRegistered C.Law.law.tags (map C.tag_of sites.items) }
     requires order { ServeAtDoor words.now → AreInOrder world.tells }
 
     // What its words' line does, or nothing for want of memory.

@@ -35,9 +35,9 @@ const OTHER_HALL_WORKERS: u16 = 63;
 // How many verdicts each worker's cache holds.
 const CACHED_VERDICTS: usize = 1024;
 
-// A history on tables, with a driver for each site. Where memory runs out the objects are handed back.
+/// A history on tables, with a driver for each site. Where memory runs out the objects are handed back.
 #[tactic(auto, using(crate::proofs::Registered::never_two))]
-fn open_tables<H: Holding, C: SiteDriver + Drop>(
+pub(crate) fn open_tables<H: Holding, C: SiteDriver + Drop>(
     alloc: Global,
     held: Held<H>,
     tables: Tables,

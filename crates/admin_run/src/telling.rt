@@ -7,7 +7,7 @@ use host_base::{Bytes, Sink, WriteFailed};
 
 /// The line that is written where the words are none of the program's lines.
 pub const USAGE: &[u8] =
-    b"usage: admin_cli play | serve FILE PORT COUNT [WSPORT WSCOUNT] | gen N SEED | check FILE | grain SOCKET COUNT | access FILE GRAIN | preview FILE GRANT\n";
+    b"usage: admin_cli play | serve FILE PORT COUNT [WSPORT WSCOUNT] | gen N SEED | check FILE | grain SOCKET COUNT | access FILE GRAIN | preview FILE GRANT | collect FILE GRAIN GRANT\n";
 
 /// Prints a text; the status is the given one, or 5 where it couldn't be printed.
 pub(crate) fn tell<O: Sink>(out: &mut O, text: &[u8], done: u8) -> u8

@@ -1,3 +1,4 @@
+pub mod Collected
 pub mod Growth
 pub mod Orders
 pub mod Taking

@@ -15,12 +15,14 @@ use Rattle.cloud_serve.specs.declared.showing.Showing.TheVariants as showing
 use Rattle.cloud_serve.specs.declared.serve.End.{End}
 use Rattle.cloud_serve.specs.declared.serve.End.TheVariants as end
 use Rattle.hub_core.specs.Book.{Book, Later}
-use Rattle.cloud_serve.specs.Acts.{Act}
+use Rattle.cloud_serve.specs.Acts.{Act, IsMade, past}
+use Rattle.cloud_serve.specs.declared.sharing.Collecting.{Collecting}
+use Rattle.cloud_serve.proofs.Collected.{are_later, are_within}
 use Rattle.cloud_serve.specs.Effects.{AskedOf, OrderedOf}
 use Rattle.desk_orders.specs.Commands.{Asked}
 use Rattle.site_caps.specs.Law.{Law}
 use Rattle.host_base.specs.declared.key.Key.{Key}
-use Rattle.cloud_serve.specs.Turns.{Turn, FollowsVerdict, IsKeyed, passed_to, IsMade, MakesLast, MakesBoth, IsLawfulBy, IsLawful, AreLawful, past}
+use Rattle.cloud_serve.specs.Turns.{Turn, FollowsVerdict, IsKeyed, passed_to, MakesLast, MakesBoth, Collects, IsLawfulBy, IsLawful, AreLawful}
 use Rattle.cloud_serve.specs.Served.{World, InHand, Nothing, Refusing, Answering, Broken, NoRoom, turns_in, HandAt, CauseAt, EndsLast, IsOver, StreamAt, Complete, limit, Splits, Served}
 use Rattle.cloud_serve.specs.Inner.{OneMore, StopsServing}
 use Rattle.cloud_serve.proofs.Growth.{later_longer, asked_none, asked_trans, judged_later, judged_within}
@@ -46,6 +48,14 @@ both_later old new later low first second turn m = record {
 made_within : (book : Book) (low : ℕ) (earlier : List Act) (order : Asked) (turn : Turn) → MakesLast book low earlier order turn → turn.reached ≤ length book.seen
 made_within book low earlier order turn m = omega (arith, m.reached_is, placed_within book low order m.act.place m.act.answer m.act.drawn m.act.added m.act.app m.made.placed)
 
+collects_later : (old new : Book) → Later old new → (low : ℕ) (asks : Collecting) (turn : Turn) → Collects old low asks turn → Collects new low asks turn
+collects_later old new later low asks turn c = record {
+  collecting = record { made = are_later old new later low turn.acts c.collecting.made; orders = c.collecting.orders };
+  place_is = c.place_is;
+  reached_is = c.reached_is;
+  unasked = c.unasked;
+}
+
 keyed_later : (old new : Book) → Later old new → (low : ℕ) (key : Key) (passed : Request) (turn : Turn) → IsKeyed old low key passed turn → IsKeyed new low key passed turn
 keyed_later old new later low key passed turn is = record {
   verdict = is.verdict;
@@ -66,6 +76,7 @@ lawful_later (showing.Used key target) old new later low last turn is = keyed_la
 lawful_later (showing.Wants order) old new later low last turn is = (makes_later old new later low [] order turn is.0, is.1)
 lawful_later (showing.Opens first second) old new later low last turn (inl is) = inl (makes_later old new later low [] first turn is.0, is.1, is.2)
 lawful_later (showing.Opens first second) old new later low last turn (inr is) = inr (both_later old new later low first second turn is.0, is.1)
+lawful_later (showing.Collects asks) old new later low last turn is = (collects_later old new later low asks turn is.0, is.1)
 
 reached_within : (r : Showing) (book : Book) (low last : ℕ) (turn : Turn) → low ≤ length book.seen → IsLawfulBy r book low last turn → turn.reached ≤ length book.seen
 reached_within showing.NoRoute book low last turn less is = omega (arith, is.reached_is)
@@ -75,6 +86,7 @@ reached_within (showing.BadManifest bad) book low last turn less is = omega (ari
 reached_within (showing.Wants order) book low last turn less is = made_within book low [] order turn is.0
 reached_within (showing.Opens first second) book low last turn less (inl is) = made_within book low [] first turn is.0
 reached_within (showing.Opens first second) book low last turn less (inr is) = made_within book (past is.0.before) (is.0.before ∷ []) second turn is.0.second_made
+reached_within (showing.Collects asks) book low last turn less is = omega (arith, is.0.reached_is, are_within book low turn.acts less is.0.collecting.made)
 reached_within (showing.Keyed key) book low last turn less is = omega (arith, is.reached_is, judged_within book low key turn.place is.verdict is.judged)
 reached_within (showing.Used key target) book low last turn less is = omega (arith, is.reached_is, judged_within book low key turn.place is.verdict is.judged)
 

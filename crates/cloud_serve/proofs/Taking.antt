@@ -13,7 +13,6 @@ use Rattle.cloud_serve.specs.declared.showing.Showing.{Showing}
 use Rattle.cloud_serve.specs.declared.showing.Showing.TheVariants as showing
 use Rattle.desk_orders.specs.declared.reply.OrderFault.{OrderFault}
 use Rattle.desk_orders.specs.declared.reply.Reply.{Reply}
-use Rattle.desk_orders.specs.declared.reply.Reply.TheVariants as reply
 use Rattle.site_caps.specs.Law.{Law}
 use Rattle.site_caps.specs.Answering.{GivesText}
 use Rattle.desk_orders.specs.Commands.{Asked}
@@ -27,9 +26,12 @@ use Rattle.cloud_serve.specs.Routes.{Shows}
 use Rattle.cloud_serve.specs.declared.turn.Answered.{Answered}
 use Rattle.cloud_serve.specs.Inner.{AsksBy, AsksOnce, ShowsKey, Takes}
 use Rattle.reply_texts.specs.Texts.{wants_head, own_text, denial_text}
-use Rattle.cloud_serve.specs.Acts.{Act}
-use Rattle.cloud_serve.specs.Effects.{OrderedOf}
-use Rattle.cloud_serve.specs.Turns.{Turn, AnswersBack, AnswersItem, AnswersOrder, IsMade, MakesLast, MakesBoth, IsKeyed, IsLawfulBy, IsLawful, IsAskedOnce, IsBegun, ask_of, is_done, passed_to, past}
+use Rattle.cloud_serve.specs.Acts.{Act, is_done, IsMade, past}
+use Rattle.cloud_serve.specs.Collecting.{EndsWith, past_all}
+use Rattle.cloud_serve.specs.declared.sharing.Collecting.{Collecting}
+use Rattle.cloud_serve.proofs.Collected.{are_lower, same_place}
+use Rattle.cloud_serve.specs.Effects.{Came, OrderedOf}
+use Rattle.cloud_serve.specs.Turns.{Turn, AnswersBack, AnswersCollecting, AnswersItem, AnswersOrder, MakesLast, MakesBoth, Collects, IsKeyed, IsLawfulBy, IsLawful, IsAskedOnce, IsBegun, ask_of, passed_to}
 use Rattle.cloud_serve.proofs.Growth.{later_refl, none_taken, asked_none, judged_later}
 use Rattle.cloud_serve.proofs.Orders.{none_trans, ordered_none, ordered_refl, ordered_one, ordered_trans, act_of, placed_later, placed_within}
 
@@ -330,4 +332,41 @@ module _ (old mid new : Book) (low : ℕ) (request : Request) (first second : As
     asked_of = asked_none line;
     counts_is = omega arith;
     ordered_of = ordered_both;
+  }
+
+module _ (old new : Book) (low : ℕ) (request : Request) (asks : Collecting) (place : ℕ) (outcome : Result ℕ (Result Reply OrderFault)) (less : low ≤ length old.seen)
+    (came : Came asks (length old.seen) old new place (λ acts. EndsWith asks acts outcome)) where
+  -- the turn on a request of a curator that collects
+  abbrev turn_of : List ℕ → Turn
+  turn_of text = record { request = request; place = place; reached = past_all low came.acts; asked = []; acts = came.acts; answer = text }
+
+  collects_here : (text : List ℕ) → Collects new low asks (turn_of text)
+  collects_here text = record {
+    collecting = record { made = are_lower new low (length old.seen) less came.acts came.collecting.made; orders = came.collecting.orders };
+    place_is = came.place_is ∙ same_place asks (length old.seen) low came.acts outcome came.ends;
+    reached_is = refl;
+    unasked = refl;
+  }
+
+  -- the shares were given, or something stopped them, and that was answered
+  pub answers_collected : (line : Line) (counted last : ℕ) (text : List ℕ) → Shows request (showing.Collects asks) → AnswersCollecting outcome (wants_head request) text
+      → TookTurn old new line line counted counted low last request place text
+  answers_collected line counted last text r is = record {
+    turn = turn_of text;
+    request_is = refl;
+    taken = ((showing.Collects asks, r, (collects_here text, (outcome, came.ends, is))), refl, refl);
+    asked_of = asked_none line;
+    counts_is = omega arith;
+    ordered_of = came.ordered_of;
+  }
+
+  -- orders were given, and memory ran out
+  pub breaks_collected : (line : Line) (counted : ℕ) → Shows request (showing.Collects asks) → BreaksOff old new line line counted counted low request
+  breaks_collected line counted r last m = record {
+    turn = turn_of [];
+    request_is = refl;
+    taken = inr (showing.Collects asks, r, collects_here []);
+    asked_of = asked_none line;
+    counts_is = omega arith;
+    ordered_of = came.ordered_of;
   }

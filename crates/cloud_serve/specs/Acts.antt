@@ -1,8 +1,9 @@
 -- The orders that a request made.
-use Rattle.std.specs.Prelude.{ℕ, Bool, true, false, List, Result, Err, count_by}
+use Rattle.std.specs.Prelude.{◌≡◌, ◌+◌, ℕ, Bool, true, false, List, Result, Ok, Err, count_by, length}
 use Rattle.std.specs.List.{flat_map}
-use Rattle.cloud_serve.specs.Terms.{AppId, Asked, Event, OrderFault, Reply, RunId, Start, starts_by, stops_by, token_of}
+use Rattle.cloud_serve.specs.Terms.{AppId, Asked, Book, Event, OrderFault, Placed, Reply, RunId, Start, starts_by, stops_by, token_of}
 use Rattle.desk_orders.specs.declared.reply.OrderFault.TheVariants as fault
+use Rattle.desk_orders.specs.declared.reply.Reply.TheVariants as reply
 
 -- An order with all that came of it: its place, the answer, the secrets drawn for it, what it added, one entry or none, and
 -- the application whose program a run was started by.
@@ -38,3 +39,17 @@ is_fault _ _ = false
 -- how many of the answers are
 abbrev pub failures : OrderFault → List Act → ℕ
 failures why acts = count_by (λ act. is_fault why act.answer) acts
+
+-- whether an order was carried out
+abbrev pub is_done : Result Reply OrderFault → Bool
+is_done (Ok (reply.Made made text)) = true
+is_done _ = false
+
+-- THE ORDER is made: its answer is lawful at its place, and what it adds is the entry at that place.
+pub record IsMade (book : Book) (low : ℕ) (order : Asked) (act : Act) : Type 0 where
+  pub order_is : act.order ≡ order
+  pub placed : Placed low book order act.place act.answer act.drawn act.added act.app
+
+-- how far the connection counts the history once an order was made
+abbrev pub past : Act → ℕ
+past act = act.place + length act.added

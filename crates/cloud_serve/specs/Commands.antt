@@ -1,6 +1,6 @@
 -- What the routes of the desk and of running grains, and their bodies, ask for.
 use Rattle.std.specs.Prelude.{ℕ, true, false, List, Option, Some, None, Result, Ok, Err}
-use Rattle.cloud_serve.specs.Terms.{account_body, BodyFault, Caller, child_body, choose_body, claim_body, collect_body, Command, Digest, grain_body, GrainId, grant_body, manifest_body, mark_body, plain_body, query_body, redeem_body, Route, save_body, share_body, Showing, tab_body, token_body, why_body}
+use Rattle.cloud_serve.specs.Terms.{account_body, AccountId, BodyFault, Caller, child_body, choose_body, claim_body, collect_body, Command, Digest, grain_body, GrainId, grant_body, GrantId, manifest_body, mark_body, plain_body, query_body, redeem_body, Route, save_body, share_body, Showing, tab_body, token_body, why_body}
 use Rattle.share_graph.specs.declared.desk.Caller.TheVariants as caller
 use Rattle.desk_orders.specs.declared.order.Command.TheVariants as command
 use Rattle.front_http.specs.declared.route.Route.TheVariants as route
@@ -15,6 +15,11 @@ abbrev pub opens : Caller → Option GrainId → Option ℕ → Showing
 opens who n tab =
     showing.Opens (record { caller = who; command = command.StartRun n })
     (record { caller = who; command = command.OpenSession n tab })
+
+-- a curator wants a member's share, or, where none is named, those of all members
+abbrev pub collects : Digest → GrainId → GrantId → Option AccountId → Showing
+collects who c g (Some u) = wants (caller.Login who) (command.Collect c g u)
+collects who c g None = showing.Collects (record { curator = who; collection = c; link = g })
 
 -- what is made of what a body states
 abbrev pub stating : {A : Type 0} → (A → Showing) → Result A BodyFault → Result Showing BodyFault
@@ -69,7 +74,7 @@ module _ (who : Digest) (body : List ℕ) where
   asked_at (route.GrainWhy n) = asks login (why_body body) (command.Why (record { 0 = n }))
   asked_at (route.GrainMissing n) = asks login (grant_body body) (command.Missing (record { 0 = n }))
   asked_at (route.GrainCollect n) =
-      asks login (collect_body body) λ f. command.Collect (record { 0 = n }) f.link f.member
+      Some (stating (λ f. collects who (record { 0 = n }) f.link f.member) (collect_body body))
   asked_at (route.GrantPreview n) = asks login (plain_body body) λ _. command.Preview (record { 0 = n })
   asked_at route.Claim = asks run (claim_body body) λ f. command.Claim f.token f.permissions
   asked_at route.Save = asks run (save_body body) λ f. command.Save f.handle f.label

@@ -1,8 +1,9 @@
 -- What a connection does to the link and the desk.
-use Rattle.std.specs.Prelude.{◌≡◌, ◌+◌, ◌≤◌, ◌++◌, List, Some, count_by, is_none, length}
-use Rattle.cloud_serve.specs.Terms.{Ask, Book, DrawsAll, Grew, Later, Line, WasTold}
+use Rattle.std.specs.Prelude.{◌≡◌, ◌+◌, ◌≤◌, ◌++◌, ℕ, List, Some, count_by, is_none, length}
+use Rattle.cloud_serve.specs.Terms.{Ask, Book, Collecting, DrawsAll, Grew, Later, Line, WasTold}
 use Rattle.desk_orders.specs.declared.reply.OrderFault.TheVariants as fault
 use Rattle.cloud_serve.specs.Acts.{Act, added_by, drawn_by, failures, started_by, stopped_by}
+use Rattle.cloud_serve.specs.Collecting.{AreCollecting, place_after}
 
 -- The link was asked these texts and no others, and each ask that failed was counted.
 pub record AskedOf (before after : Line) (asked : List Ask) : Type 0 where
@@ -25,3 +26,12 @@ pub record OrderedOf (old new : Book) (acts : List Act) : Type 0 where
   pub grows : length old.seen + length (added_by acts) ≤ length new.seen
   pub alone : length new.seen ≡ length old.seen + length (added_by acts)
       → new.seen ≡ old.seen ++ added_by acts
+
+-- A curator that collects made orders of the desk, none of them before what it had seen, and no others; the place is that of the last one, or
+-- the one before, where there is none.
+pub record Came (asks : Collecting) (before : ℕ) (old new : Book) (place : ℕ) (Ends : List Act → Type 0) : Type 0 where
+  pub acts : List Act
+  pub collecting : AreCollecting asks new (length old.seen) acts
+  pub ordered_of : OrderedOf old new acts
+  pub place_is : place ≡ place_after before acts
+  pub ends : Ends acts

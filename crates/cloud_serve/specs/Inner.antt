@@ -1,11 +1,13 @@
 -- Aids for the contracts of private functions. No public contract stands on them.
 use Rattle.std.specs.Prelude.{◌≡◌, ◌⊎◌, ℕ, ◌+◌, ◌<◌, ◌++◌, Bool, true, false, List, [], ◌∷◌, Option, Some, Result, Ok, Err, length, take, map}
 use Rattle.std.specs.List.{flat_map}
-use Rattle.cloud_serve.specs.Terms.{Answered, Ask, Book, End, FrontFault, IsRemaining, Key, Line, Memory, memory_text, Outlet, Reading, Refusal, refusal_status, refused_text, Request, Requests, Rose}
+use Rattle.cloud_serve.specs.Terms.{AccountId, Answered, Ask, Book, Collecting, End, FrontFault, IsRemaining, Key, Line, Memory, memory_text, OrderFault, Outlet, Reading, Refusal, refusal_status, refused_text, Reply, Request, Requests, Rose}
 use Rattle.front_http.specs.declared.fault.FrontFault.TheVariants as fault
 use Rattle.front_http.specs.declared.refusal.Refusal.TheVariants as refusal
 use Rattle.cloud_serve.specs.declared.serve.End.TheVariants as end
 use Rattle.cloud_serve.specs.declared.showing.Showing.TheVariants as showing
+use Rattle.cloud_serve.specs.Acts.{Act}
+use Rattle.cloud_serve.specs.Collecting.{giving, IsRound, shares, StopsWith}
 use Rattle.cloud_serve.specs.Effects.{AskedOf, OrderedOf}
 use Rattle.cloud_serve.specs.Routes.{Shows}
 use Rattle.cloud_serve.specs.Turns.{Turn, AnswersBack, IsLawful, IsBegun, passed_to}
@@ -28,6 +30,16 @@ pub record AsksOnce (line line' : Line) (counted counts : ℕ) (ask : Option (Li
 abbrev pub ShowsKey : Request → Key → Request → Type 0
 ShowsKey request key passed = (Shows request (showing.Keyed key) × (passed ≡ request))
     ⊎ ((target : List ℕ) × Shows request (showing.Used key target) × (passed ≡ passed_to target request))
+
+-- each of these members was given its share, or the orders stopped
+abbrev pub EndsEach : Collecting → List AccountId → List Act → Result ℕ (Result Reply OrderFault) → Type 0
+EndsEach asks members acts (Ok made) = (map (λ act. act.order) acts ≡ map (giving asks) members) × (made ≡ shares acts)
+EndsEach asks members acts (Err back) = StopsWith asks acts back
+
+-- a round was made, or stopped
+abbrev pub EndsRound : Collecting → List Act → Result ℕ (Result Reply OrderFault) → Type 0
+EndsRound asks acts (Ok made) = IsRound asks acts × (made ≡ shares acts)
+EndsRound asks acts (Err back) = StopsWith asks acts back
 
 -- a turn is lawful and has this place and this answer, or memory ran out on it
 abbrev pub IsTaken : Book → ℕ → ℕ → Turn → Result Answered Memory → Type 0

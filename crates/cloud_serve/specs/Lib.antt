@@ -1,4 +1,5 @@
 pub mod Acts
+pub mod Collecting
 pub mod Commands
 pub mod Effects
 pub mod Inner

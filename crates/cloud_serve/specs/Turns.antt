@@ -1,6 +1,6 @@
 -- What one request comes to: its turn, and when a turn is lawful.
-use Rattle.std.specs.Prelude.{◌≡◌, ◌≢◌, ℕ, ◌+◌, ◌⊎◌, ◌++◌, Bool, true, false, List, [], ◌∷◌, Option, Some, None, Result, Ok, Err, length, codes}
-use Rattle.cloud_serve.specs.Terms.{access_data, Ask, Asked, Book, command_text, data_text, denial_text, done_text, fault_text, GivesText, grain_text, Handed, Judged, Key, Law, Listing, missing_data, options_text, OrderFault, own_text, Permit, Placed, preview_data, RelayFault, Relays, Reply, Request, Showing, site_text, SiteFault, Verdict, wants_head, why_data}
+use Rattle.std.specs.Prelude.{◌≡◌, ◌≢◌, ℕ, ◌⊎◌, ◌++◌, Bool, true, false, List, [], ◌∷◌, Option, Some, None, Result, Ok, Err, length, codes}
+use Rattle.cloud_serve.specs.Terms.{access_data, Ask, Asked, Book, Collecting, command_text, data_text, denial_text, done_text, fault_text, GivesText, grain_text, Handed, Judged, Key, Law, Listing, missing_data, options_text, OrderFault, own_text, Permit, preview_data, RelayFault, Relays, Reply, Request, shared_data, Showing, site_text, SiteFault, Verdict, wants_head, why_data}
 use Rattle.host_base.specs.declared.verdict.Denial.TheVariants as denial
 use Rattle.host_base.specs.declared.verdict.Verdict.TheVariants as verdict
 use Rattle.bridge_headers.specs.declared.fault.RelayFault.TheVariants as fault
@@ -12,7 +12,8 @@ use Rattle.desk_orders.specs.declared.reply.Reply.TheVariants as reply
 use Rattle.site_caps.specs.declared.fault.SiteFault.TheVariants as site_fault
 use Rattle.reply_texts.specs.declared.done.Handed.TheVariants as handed
 use Rattle.reply_texts.specs.declared.faults.OwnFault.TheVariants as own
-use Rattle.cloud_serve.specs.Acts.{Act}
+use Rattle.cloud_serve.specs.Acts.{Act, is_done, IsMade, past}
+use Rattle.cloud_serve.specs.Collecting.{AreCollecting, EndsWith, past_all, place_after}
 use Rattle.cloud_serve.specs.Routes.{Shows}
 
 -- One request and all that came of it: its place in the history, how far the connection has counted the history then,
@@ -116,20 +117,6 @@ pub record IsKeyed (book : Book) (low : ℕ) (key : Key) (passed : Request) (tur
   pub unordered : turn.acts ≡ []
   pub follows : FollowsVerdict book.law verdict passed turn
 
--- whether an order was carried out
-abbrev pub is_done : Result Reply OrderFault → Bool
-is_done (Ok (reply.Made made text)) = true
-is_done _ = false
-
--- THE ORDER is made: its answer is lawful at its place, and what it adds is the entry at that place.
-pub record IsMade (book : Book) (low : ℕ) (order : Asked) (act : Act) : Type 0 where
-  pub order_is : act.order ≡ order
-  pub placed : Placed low book order act.place act.answer act.drawn act.added act.app
-
--- how far the connection counts the history once an order was made
-abbrev pub past : Act → ℕ
-past act = act.place + length act.added
-
 -- The last order of a turn was made behind these others: the turn's place is its place, and the connection counts from then
 -- on what it added. Nothing is asked.
 pub record MakesLast (book : Book) (low : ℕ) (earlier : List Act) (order : Asked) (turn : Turn) : Type 0 where
@@ -161,6 +148,26 @@ IsOpened book low first second turn =
     ⊎ ((makes : MakesBoth book low first second turn)
     × AnswersOrder makes.second_made.act.answer (wants_head turn.request) turn.answer)
 
+-- the answer to what collecting came to
+abbrev pub AnswersCollecting : Result ℕ (Result Reply OrderFault) → Bool → List ℕ → Type 0
+AnswersCollecting (Ok made) head_only answer = answer ≡ data_text (shared_data made) head_only
+AnswersCollecting (Err stopped) head_only answer = AnswersOrder stopped head_only answer
+
+-- The orders of a curator that collects were made, and nothing else was done: the turn's place is that of the last one, and the connection
+-- counts from then on what that one added.
+pub record Collects (book : Book) (low : ℕ) (asks : Collecting) (turn : Turn) : Type 0 where
+  pub collecting : AreCollecting asks book low turn.acts
+  pub place_is : turn.place ≡ place_after low turn.acts
+  pub reached_is : turn.reached ≡ past_all low turn.acts
+  pub unasked : turn.asked ≡ []
+
+-- answered by what collecting came to
+abbrev pub IsCollected : Book → ℕ → Collecting → Turn → Type 0
+IsCollected book low asks turn =
+    Collects book low asks turn
+    × ((outcome : Result ℕ (Result Reply OrderFault)) × EndsWith asks turn.acts outcome
+    × AnswersCollecting outcome (wants_head turn.request) turn.answer)
+
 -- A lawful turn, where the connection had counted `low` entries and the place before it was `last`.
 abbrev pub IsLawfulBy : Showing → Book → ℕ → ℕ → Turn → Type 0
 IsLawfulBy showing.NoRoute book low last turn = IsPlain low last (own_text 404 (codes "NoRoute") []) turn
@@ -173,6 +180,7 @@ IsLawfulBy (showing.Used key target) book low last turn =
     IsKeyed book low key (passed_to target turn.request) turn
 IsLawfulBy (showing.Wants order) book low last turn = IsOrdered book low order turn
 IsLawfulBy (showing.Opens first second) book low last turn = IsOpened book low first second turn
+IsLawfulBy (showing.Collects asks) book low last turn = IsCollected book low asks turn
 
 abbrev pub IsLawful : Book → ℕ → ℕ → Turn → Type 0
 IsLawful book low last turn =
@@ -185,7 +193,7 @@ IsAskedOnce book low key passed turn =
     × (turn.asked ≡ ask_of permit passed back ∷ []) × (turn.acts ≡ [])
 
 -- What may have been done on a turn that memory ran out on: the one text of a request that goes through was asked, or the order was
--- made, or of two the first or both.
+-- made, or of two the first or both, or some of a curator's that collects.
 abbrev pub IsBegunBy : Showing → Book → ℕ → Turn → Type 0
 IsBegunBy (showing.Keyed key) book low turn = IsAskedOnce book low key turn.request turn
 IsBegunBy (showing.Used key target) book low turn =
@@ -193,6 +201,7 @@ IsBegunBy (showing.Used key target) book low turn =
 IsBegunBy (showing.Wants order) book low turn = MakesLast book low [] order turn
 IsBegunBy (showing.Opens first second) book low turn =
     MakesLast book low [] first turn ⊎ MakesBoth book low first second turn
+IsBegunBy (showing.Collects asks) book low turn = Collects book low asks turn
 IsBegunBy _ book low turn = ⊥
 
 abbrev pub IsBegun : Book → ℕ → Turn → Type 0

@@ -8,9 +8,11 @@ mod ending;
 mod passing;
 mod powerbox;
 mod serve;
+mod sharing;
 mod showing;
 mod turn;
 mod wire;
 
 pub use serve::{ConnEnd, End, Places, REQUEST_LIMIT, serve_conn};
+pub use sharing::{Collecting, SHARE_LIMIT, Stopped, collect_members};
 pub use wire::Wire;

@@ -7,6 +7,7 @@ ghost use Rattle.cloud_serve.specs.Routes.{IsAsked, IsUsing, Needs, Shows, Shows
 ghost use Rattle.cloud_serve.specs.declared.showing.Showing.TheVariants as shows;
 
 use crate::asking::asked_for;
+use crate::sharing::Collecting;
 use app_manifest::ManifestFault;
 use front_http::{Route, Routes, use_target};
 use host_base::{Digest, Key, Memory, Request};
@@ -33,6 +34,8 @@ pub enum Showing {
     Wants(Order),
     /// It wants a grain opened: the first order starts a run of it, where none is live, and the second opens a session.
     Opens(Order, Order),
+    /// It wants the shares of all members of a collection.
+    Collects(Collecting),
 }
 
 fn credential(bearer: &Option<Digest>) -> Showing

@@ -4,11 +4,13 @@ ghost use Rattle.hub_core.specs.Book.{Book};
 ghost use Rattle.cloud_serve.specs.Routes.{Shows};
 ghost use Rattle.grain_supervise.specs.Line.{Line};
 ghost use Rattle.cloud_serve.specs.Inner.{AsksOnce, ShowsKey, Takes};
-ghost use Rattle.cloud_serve.specs.Turns.{AnswersBack, AnswersItem, AnswersOrder, ask_of, handed_of, is_done, listing_text};
+ghost use Rattle.cloud_serve.specs.Acts.{is_done};
+ghost use Rattle.cloud_serve.specs.Turns.{AnswersBack, AnswersCollecting, AnswersItem, AnswersOrder, ask_of, handed_of, listing_text};
 ghost use Rattle.hub_core.specs.Book.{TakesNone};
 ghost use Rattle.cloud_serve.specs.declared.showing.Showing.TheVariants as shown;
 
 use crate::passing::with_target;
+use crate::sharing::{Collecting, Stopped, collect_members};
 use crate::showing::{Showing, find_showing};
 use bridge_headers::{RelayFault, answer_text, grain_text};
 use front_http::Routes;
@@ -21,7 +23,7 @@ use reply_texts::{
     Handed, OwnFault, command_reply, denial_reply, done_reply, fault_reply, options_reply,
     own_reply, site_reply, wants_head,
 };
-use report_texts::{access_reply, missing_reply, preview_reply, why_reply};
+use report_texts::{access_reply, missing_reply, preview_reply, shared_reply, why_reply};
 use share_graph::{Made, Refusal};
 use site_caps::SiteFault;
 use std::alloc::Global;
@@ -276,6 +278,38 @@ fn opened<D: Desk>(
     }
 }
 
+// The text of the answer to what collecting came to.
+fn collecting_text(
+    alloc: Global,
+    outcome: Result<u64, Stopped>,
+    head_only: bool,
+) -> Result<Bytes, Memory>
+    ensures { IfOk result (AnswersCollecting outcome head_only) }
+{
+    match outcome {
+        Ok(made) => shared_reply(alloc, made, head_only),
+        Err(stopped) => order_text(alloc, stopped, head_only),
+    }
+}
+
+// A turn on a request that wants the shares of all members of a collection.
+fn collected<D: Desk>(
+    alloc: Global,
+    request: &Request,
+    asks: &Collecting,
+    desk: &mut D,
+) -> Result<Answered, Memory>
+    requires shown { Shows request.now (shown.Collects asks.now) }
+    ensures takes { (low last counted : ℕ) (line : Line) → low ≤ length (D.book desk.old).seen →
+        Takes (D.book desk.old) (D.book desk.new) line line counted counted low last request.now result }
+{
+    let (place, outcome) = collect_members(alloc, asks, desk);
+    match collecting_text(alloc, outcome, wants_head(request)) {
+        Ok(text) => Ok(Answered { place, text }),
+        Err(Memory) => Err(Memory),
+    }
+}
+
 // An answer that needs no desk, at the place before it.
 fn placed(place: u64, text: Result<Bytes, Memory>) -> Result<Answered, Memory>
     ensures { MatchResult text (λ answer. result ≡ Ok (record { place = place; text = answer }))
@@ -333,6 +367,7 @@ pub fn take_turn<D: Desk, L: Link>(
             }
             Showing::Wants(order) => ordered(alloc, request, order, desk),
             Showing::Opens(first, second) => opened(alloc, request, first, second, desk),
+            Showing::Collects(asks) => collected(alloc, request, &asks, desk),
         },
     }
 }

@@ -10,7 +10,7 @@ use Rattle.std.proofs.lemmas.Str.Parse.{digit_from_value}
 use Rattle.command_line.specs.declared.line.Line.{Line}
 use Rattle.command_line.specs.declared.line.Line.TheVariants as line
 use Rattle.command_line.specs.declared.line.Tunnels.{Tunnels}
-use Rattle.command_line.specs.Words.{IsAccess, IsCheck, IsCount, IsGen, IsGrainLine, IsLine, IsNoLine, IsOneOfLines, IsPath, IsPlay, IsPreview, IsServe, IsServeBoth}
+use Rattle.command_line.specs.Words.{IsAccess, IsCheck, IsCollect, IsCount, IsGen, IsGrainLine, IsLine, IsNoLine, IsNumber, IsOneOfLines, IsPath, IsPlay, IsPreview, IsServe, IsServeBoth}
 
 -- a word's text says the number that the words' texts have at its place
 pub count_said : (limit count : ℕ) (words : List (String Global)) (texts : List (List ℕ)) (place : ℕ) (word : String Global) (text : List ℕ)
@@ -20,6 +20,15 @@ count_said limit count words texts place word text are is reads counts =
     let P : List ℕ → Type 0 = λ digits. IsCount limit digits count in
     let there = ap (λ (xs : List (List ℕ)). get_or xs place (string_bytes word)) are in
     subst P (sym (reads ∙ ap string_bytes is ∙ sym (get_or-map string_bytes words place word) ∙ there)) counts
+
+-- the same of the number of a row
+pub row_said : (number : ℕ) (words : List (String Global)) (texts : List (List ℕ)) (place : ℕ) (word : String Global) (text : List ℕ)
+    → map string_bytes words ≡ texts → word ≡ get_or words place word → text ≡ string_bytes word
+    → IsNumber (get_or texts place (string_bytes word)) number → IsNumber text number
+row_said number words texts place word text are is reads says =
+    let P : List ℕ → Type 0 = λ digits. IsNumber digits number in
+    let there = ap (λ (xs : List (List ℕ)). get_or xs place (string_bytes word)) are in
+    subst P (sym (reads ∙ ap string_bytes is ∙ sym (get_or-map string_bytes words place word) ∙ there)) says
 
 begins : (x : ℕ) (xs : List ℕ) → x ≢ 45 → IsPath (x ∷ xs)
 begins x xs other e = other cc
@@ -44,6 +53,9 @@ access_path = begins 97 (codes "ccess") (λ e. omega arith)
 
 preview_path : IsPath (codes "preview")
 preview_path = begins 112 (codes "review") (λ e. omega arith)
+
+collect_path : IsPath (codes "collect")
+collect_path = begins 99 (codes "ollect") (λ e. omega arith)
 
 -- digits begin with no `-`
 digits_path : (digits : List ℕ) → IsNumeral 10 digits → IsPath digits
@@ -110,6 +122,12 @@ module _ (words : List (String Global)) where
   preview_plain grant is = subst AllPaths (sym is.words_are)
       (three_paths (codes "preview") is.file is.grant_digits preview_path is.path (digits_path is.grant_digits is.grant_is.number.numeral))
 
+  collect_plain : (grain grant : ℕ) → IsCollect words grain grant → AllPaths (map string_bytes words)
+  collect_plain grain grant is = subst AllPaths (sym is.words_are)
+      (All-cons IsPath (codes "collect") (is.file ∷ is.grain_digits ∷ is.grant_digits ∷ []) collect_path
+      (three_paths is.file is.grain_digits is.grant_digits is.path (digits_path is.grain_digits is.grain_is.number.numeral)
+      (digits_path is.grant_digits is.grant_is.number.numeral)))
+
   -- words of which one begins with `-` are no line
   pub no_line_with_option : (All IsPath (map string_bytes words) → ⊥) → IsNoLine words
   no_line_with_option bad = record {
@@ -121,6 +139,7 @@ module _ (words : List (String Global)) where
     grain = λ count is. bad (grain_plain count is);
     access = λ grain is. bad (access_plain grain is);
     preview = λ grant is. bad (preview_plain grant is);
+    collect = λ grain grant is. bad (collect_plain grain grant is);
   }
 
 -- words of a line are not no line
@@ -133,6 +152,7 @@ none_known words line.Check is none = absurd (none.check is)
 none_known words (line.Grain count) is none = absurd (none.grain count is)
 none_known words (line.Access grain) is none = absurd (none.access grain is)
 none_known words (line.Preview grant) is none = absurd (none.preview grant is)
+none_known words (line.Collect grain grant) is none = absurd (none.collect grain grant is)
 none_known words line.Unknown is none = refl
 
 -- the word that a line begins with
@@ -144,6 +164,7 @@ first_word line.Check = codes "check"
 first_word (line.Grain count) = codes "grain"
 first_word (line.Access grain) = codes "access"
 first_word (line.Preview grant) = codes "preview"
+first_word (line.Collect grain grant) = codes "collect"
 first_word line.Unknown = []
 
 -- the words of a line begin with its word, but for the line that is none
@@ -157,6 +178,7 @@ begun words line.Check is = inr (_, is.words_are)
 begun words (line.Grain count) is = inr (_, is.words_are)
 begun words (line.Access grain) is = inr (_, is.words_are)
 begun words (line.Preview grant) is = inr (_, is.words_are)
+begun words (line.Collect grain grant) is = inr (_, is.words_are)
 begun words line.Unknown is = inl refl
 
 -- words are one `serve` at most
@@ -183,6 +205,8 @@ one_kind words line.Check line.Check same a b = refl
 one_kind words (line.Grain n) (line.Grain m) same a b = cc (a.words_are, b.words_are, a.count_is.number.value, b.count_is.number.value)
 one_kind words (line.Access n) (line.Access m) same a b = cc (a.words_are, b.words_are, a.grain_is.number.value, b.grain_is.number.value)
 one_kind words (line.Preview n) (line.Preview m) same a b = cc (a.words_are, b.words_are, a.grant_is.number.value, b.grant_is.number.value)
+one_kind words (line.Collect n g) (line.Collect m h) same a b =
+    cc (a.words_are, b.words_are, a.grain_is.number.value, b.grain_is.number.value, a.grant_is.number.value, b.grant_is.number.value)
 one_kind words line.Unknown line.Unknown same a b = refl
 one_kind words _ _ same a b = absurd (true≢false (sym same))
 

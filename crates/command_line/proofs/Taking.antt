@@ -1,18 +1,37 @@
 -- The command takes the words of each line.
-use Rattle.std.proofs.Common.{◌≡◌, ◌≢◌, ◌∙◌, ℕ, Bool, true, false, List, [], ◌∷◌, None, map, codes, String, string_bytes, sym, ap, fold, subst, refl, eqb, length, lit<, ◌<◌}
+use Rattle.std.proofs.Common.{◌≡◌, ◌≢◌, ◌∙◌, ℕ, Bool, true, false, List, [], ◌∷◌, None, Result, Ok, Err, inl, inr, map, codes, String, string_bytes, sym, ap, fold, subst, refl, eqb, length, lit<, ◌<◌}
 use Rattle.std.specs.List.{All, slice_index_or}
 use Rattle.std.specs.Str.{bytes_eq}
 use Rattle.std.specs.declared.alloc.Global.{Global}
 use Rattle.std.proofs.lemmas.Bool.{eqb-true}
-use Rattle.clap.specs.Faults.{defaults_fault, check_fault, fault_of, level_fault, settle_fault, step_fault, turn_fault, walk_fault, word_fault}
-use Rattle.clap.specs.Kinds.{Kinds, or_else}
+use Rattle.clap.specs.Faults.{defaults_fault, check_fault, fault_of, is_simple_and_free, level_fault, settle_fault, step_fault, turn_fault, walk_fault, word_fault}
+use Rattle.clap.specs.Kinds.{FailsBy, IsAmong, Kinds, or_else}
+use Rattle.clap.specs.Values.{kind_of}
+use Rattle.clap.specs.declared.error.Error.{Error}
+use Rattle.clap.specs.declared.error.kind.ErrorKind.{ErrorKind}
+use Rattle.clap.specs.declared.error.kind.ErrorKind.TheVariants as kind
 use Rattle.clap.specs.Lexer.{strip_byte}
 use Rattle.clap.specs.Simple.{App, Shape, built_leaf, inherited, marked_built, with_leaf_noted}
 use Rattle.clap.specs.Walk.{Held, Rule, Text, Walk, arg_by_index, finished, idle, nothing_held, settled, to_positional, value, walk, walk_from, walked, word_met}
 use Rattle.clap.proofs.OnLiterals.{clap_on_literals}
-use Rattle.command_line.specs.Program.{access, check, gen, grain, preview, program, serve}
+use Rattle.command_line.specs.Program.{access, check, collect, gen, grain, preview, program, serve}
 use Rattle.command_line.specs.declared.line.Tunnels.{Tunnels}
 use Rattle.command_line.specs.Words.{IsNoLine, IsPath, IsServeBoth}
+
+-- how a command fails that is the program's
+pub fails_by : {T : Type 0} (app : App) (texts : List Text) (result : Result T Error) → app ≡ program → (is_simple_and_free app ≡ true → FailsBy (fault_of app texts) result) → FailsBy (fault_of program texts) result
+fails_by app texts result is fails = subst (λ (a : App). FailsBy (fault_of a texts) result) is (fails (ap is_simple_and_free is))
+
+-- an `Ok` comes only where no kind does, and another `Err` than for want of memory only where one does
+pub none_fails : {T : Type 0} (kinds : Kinds) (result : Result T Error) (taken : T) → result ≡ Ok taken → FailsBy kinds result → kinds ≡ []
+none_fails kinds result taken is fails = subst (FailsBy kinds) is fails
+
+some_kind : (k : ErrorKind) (kinds : Kinds) → IsAmong k kinds → kinds ≢ []
+some_kind k [] among none = among
+some_kind k (x ∷ xs) among none = cc
+
+pub some_fails : {T : Type 0} (kinds : Kinds) (result : Result T Error) (e : Error) → result ≡ Err e → (kind_of e ≡ kind.OutOfMemory → ⊥) → FailsBy kinds result → kinds ≢ []
+some_fails kinds result e is not fails = elim (subst (FailsBy kinds) is fails) [ inl memory ↦ absurd (not memory) | inr among ↦ some_kind (kind_of e) kinds among ]
 
 -- the word is no option
 pub record IsPlain (word : Text) : Type 0 where
@@ -219,6 +238,31 @@ module _ (u v w : Text) (first : IsPlain u) (second : IsPlain v) (third : IsPlai
     unfolding clap_on_literals
     takes_serve_both = (λ i. or_else (both_leaf i) [])
 
+module _ (u v w : Text) (first : IsPlain u) (second : IsPlain v) (third : IsPlain w) where
+  abbrev collect_one : Held
+  collect_one = behind (leaf collect) 1 u nothing_held
+
+  abbrev collect_two : Held
+  collect_two = behind (leaf collect) 2 v collect_one
+
+  collect_walk : walk (leaf collect).rules [] nothing_held (u ∷ v ∷ w ∷ []) ≡ at_place (behind (leaf collect) 3 w collect_two) 4
+  unfolding clap_on_literals
+  collect_walk = walk_past (leaf collect).rules 1 u nothing_held (v ∷ w ∷ []) first
+      ∙ walk_past (leaf collect).rules 2 v collect_one (w ∷ []) second ∙ word_walked (leaf collect).rules 3 w collect_two third
+
+  collect_faults : walk_fault (leaf collect) [] (walk_from nothing_held) (u ∷ v ∷ w ∷ []) ≡ []
+  unfolding clap_on_literals
+  collect_faults = walk_on (leaf collect) 1 u nothing_held (v ∷ w ∷ []) first ∙ walk_on (leaf collect) 2 v collect_one (w ∷ []) second
+      ∙ walk_on (leaf collect) 3 w collect_two [] third
+
+  collect_leaf : level_fault (leaf collect) [] nothing_held (u ∷ v ∷ w ∷ []) false [] ≡ []
+  unfolding clap_on_literals
+  collect_leaf = (λ i. or_else (collect_faults i) (rest_fault (leaf collect) (collect_walk i)))
+
+  pub takes_collect : fault_of program (codes "collect" ∷ u ∷ v ∷ w ∷ []) ≡ []
+  unfolding clap_on_literals
+  takes_collect = (λ i. or_else (collect_leaf i) [])
+
 pub takes_play : fault_of program (codes "play" ∷ []) ≡ []
 unfolding clap_on_literals
 takes_play = refl
@@ -260,4 +304,8 @@ module _ (words : List (String Global)) (paths : All IsPath (map string_bytes wo
     preview = λ grant is. fault (subst Taken (sym is.words_are) (takes_preview is.file is.grant_digits
         (word_at (codes "preview" ∷ is.file ∷ is.grant_digits ∷ []) 1 is.words_are (lit< tt))
         (word_at (codes "preview" ∷ is.file ∷ is.grant_digits ∷ []) 2 is.words_are (lit< tt))));
+    collect = λ grain grant is. fault (subst Taken (sym is.words_are) (takes_collect is.file is.grain_digits is.grant_digits
+        (word_at (codes "collect" ∷ is.file ∷ is.grain_digits ∷ is.grant_digits ∷ []) 1 is.words_are (lit< tt))
+        (word_at (codes "collect" ∷ is.file ∷ is.grain_digits ∷ is.grant_digits ∷ []) 2 is.words_are (lit< tt))
+        (word_at (codes "collect" ∷ is.file ∷ is.grain_digits ∷ is.grant_digits ∷ []) 3 is.words_are (lit< tt))));
   }

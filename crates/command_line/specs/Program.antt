@@ -41,6 +41,9 @@ access = with_place (with_place (new_app (codes "access")) (codes "file")) (code
 abbrev pub preview : App
 preview = with_place (with_place (new_app (codes "preview")) (codes "file")) (codes "grant")
 
+abbrev pub collect : App
+collect = with_place (with_place (with_place (new_app (codes "collect")) (codes "file")) (codes "grain")) (codes "grant")
+
 -- The words begin after the program's name, there is no help, and a subcommand has to be there.
 abbrev pub settled : Shape → Shape
 settled shape = record shape { no_binary_name = true; disable_help_flag = true; disable_help_subcommand = true; subcommand_required = true }
@@ -50,4 +53,4 @@ bare = on_top settled (new_app (codes "admin_cli"))
 
 -- the command, with a subcommand for each line
 abbrev pub program : App
-program = fold (λ whole line. with_subcommand whole line.top) bare (play ∷ serve ∷ gen ∷ check ∷ grain ∷ access ∷ preview ∷ [])
+program = fold (λ whole line. with_subcommand whole line.top) bare (play ∷ serve ∷ gen ∷ check ∷ grain ∷ access ∷ preview ∷ collect ∷ [])

@@ -99,6 +99,16 @@ pub record IsPreview (words : List (String Global)) (grant : ℕ) : Type 0 where
   pub path : IsPath file
   pub grant_is : IsNumber grant_digits grant
 
+-- The words `collect FILE GRAIN GRANT`.
+pub record IsCollect (words : List (String Global)) (grain grant : ℕ) : Type 0 where
+  pub file : List ℕ
+  pub grain_digits : List ℕ
+  pub grant_digits : List ℕ
+  pub words_are : map string_bytes words ≡ codes "collect" ∷ file ∷ grain_digits ∷ grant_digits ∷ []
+  pub path : IsPath file
+  pub grain_is : IsNumber grain_digits grain
+  pub grant_is : IsNumber grant_digits grant
+
 -- The words are none of the lines.
 pub record IsNoLine (words : List (String Global)) : Type 0 where
   pub play : IsPlay words → ⊥
@@ -109,6 +119,7 @@ pub record IsNoLine (words : List (String Global)) : Type 0 where
   pub grain : (count : ℕ) → IsGrainLine words count → ⊥
   pub access : (grain : ℕ) → IsAccess words grain → ⊥
   pub preview : (grant : ℕ) → IsPreview words grant → ⊥
+  pub collect : (grain grant : ℕ) → IsCollect words grain grant → ⊥
 
 -- the line that words are
 abbrev pub IsLine : List (String Global) → Line → Type 0
@@ -120,6 +131,7 @@ IsLine words line.Check = IsCheck words
 IsLine words (line.Grain count) = IsGrainLine words count
 IsLine words (line.Access grain) = IsAccess words grain
 IsLine words (line.Preview grant) = IsPreview words grant
+IsLine words (line.Collect grain grant) = IsCollect words grain grant
 IsLine words line.Unknown = IsNoLine words
 
 -- words are one line at most

@@ -114,6 +114,16 @@ fn preview_command<'a>(alloc: Global) -> Result<Command<'a>, AllocError>
     with_place(alloc, command, "grant")
 }
 
+fn collect_command<'a>(alloc: Global) -> Result<Command<'a>, AllocError>
+    ensures app { IfOk result (λ c. app_of c ≡ specs.collect) }
+    ensures local { IfOk result (λ c. (fields_of c).has_globals ≡ false) }
+{
+    let command = Command::new(alloc, "collect");
+    let command = with_place(alloc, command, "file")?;
+    let command = with_place(alloc, command, "grain")?;
+    with_place(alloc, command, "grant")
+}
+
 // The command before its subcommands.
 fn bare_command<'a>(alloc: Global) -> Command<'a>
     ensures app { app_of result ≡ specs.bare }
@@ -146,7 +156,8 @@ fn program_command<'a>(alloc: Global) -> Result<Command<'a>, AllocError>
     let command = with_line(command, check_command(alloc)?)?;
     let command = with_line(command, grain_command(alloc)?)?;
     let command = with_line(command, access_command(alloc)?)?;
-    with_line(command, preview_command(alloc)?)
+    let command = with_line(command, preview_command(alloc)?)?;
+    with_line(command, collect_command(alloc)?)
 }
 
 /// Whether the command takes the words.

@@ -2,7 +2,7 @@
 
 ghost use Rattle.std.specs.Prelude.{◌≡◌, ◌↔◌, ℕ, Some, All, map, string_bytes, slice_get, codes, IsTrue, IfOk, MatchOption};
 ghost use Rattle.command_line.specs.declared.line.Tunnels.{Tunnels as TheTunnels};
-ghost use Rattle.command_line.specs.Words.{IsAccess, IsCheck, IsCount, IsGen, IsGrainLine, IsLine, IsNoLine, IsDecimalOf, IsOneOfLines, IsPath, IsPlay, IsPreview, IsServe, IsServeBoth};
+ghost use Rattle.command_line.specs.Words.{IsAccess, IsCheck, IsCollect, IsCount, IsGen, IsGrainLine, IsLine, IsNoLine, IsNumber, IsDecimalOf, IsOneOfLines, IsPath, IsPlay, IsPreview, IsServe, IsServeBoth};
 
 use crate::command::is_taken;
 use crate::number::{count_of, number_of, row_of};
@@ -44,6 +44,11 @@ pub enum Line {
     },
     /// `preview FILE GRANT`
     Preview {
+        grant: u32,
+    },
+    /// `collect FILE GRAIN GRANT`
+    Collect {
+        grain: u32,
         grant: u32,
     },
     /// None of the lines.
@@ -122,6 +127,18 @@ fn gen_numbers(count: &str, seed: &str) -> Option<(u32, u64)>
 {
     match (count_of(count, MOST_MADE), number_of(seed)) {
         (Some(count), Some(seed)) => Some((count, seed)),
+        _ => None,
+    }
+}
+
+// The rows of `collect`: a grain and a grant.
+fn collect_numbers(grain: &str, grant: &str) -> Option<(u32, u32)>
+    ensures { MatchOption result
+        ((n g : ℕ) → IsNumber grain.now n → IsNumber grant.now g → ⊥)
+        (λ numbers. IsNumber grain.now numbers.0 × IsNumber grant.now numbers.1) }
+{
+    match (row_of(grain), row_of(grant)) {
+        (Some(grain), Some(grant)) => Some((grain, grant)),
         _ => None,
     }
 }
@@ -242,6 +259,20 @@ fn preview_line(words: &[String]) -> Option<Line>
     }
 }
 
+fn collect_line(words: &[String]) -> Option<Line>
+    ensures { MatchOption result ((grain grant : ℕ) → IsCollect words.now grain grant → ⊥) (IsLine words.now) }
+{
+    match words {
+        [word, file, grain, grant] if says(word.as_str(), "collect") && is_path(file.as_str()) => {
+            match collect_numbers(grain.as_str(), grant.as_str()) {
+                Some((grain, grant)) => Some(Line::Collect { grain, grant }),
+                None => None,
+            }
+        }
+        _ => None,
+    }
+}
+
 // The line that words are, by the words themselves.
 fn read_line(words: &[String]) -> Line
     ensures { IsLine words.now result }
@@ -267,7 +298,10 @@ fn read_line(words: &[String]) -> Line
     if let Some(line) = access_line(words) {
         return line;
     }
-    match preview_line(words) {
+    if let Some(line) = preview_line(words) {
+        return line;
+    }
+    match collect_line(words) {
         Some(line) => line,
         None => Line::Unknown,
     }

@@ -233,7 +233,7 @@ pub fn play_otherwise<R: Threads + Wait + Sync>(
 ) -> Result<Objects, Fault> {
     match line_of(alloc, round.words.as_slice())? {
         Line::Serve { .. } => play_round(rt, alloc, conversation, round, part, objects, found),
-        Line::Check | Line::Access { .. } | Line::Preview { .. } => {
+        Line::Check | Line::Access { .. } | Line::Preview { .. } | Line::Collect { .. } => {
             play_round(rt, alloc, conversation, round, part, objects, found)
         }
         _ => Err(Fault::Unreadable),

@@ -69,6 +69,11 @@ number_of found = do
 abbrev pub account_of : Option Data → Option AccountId
 account_of found = option_map (λ number. record { 0 = number }) (number_of found)
 
+-- an account, which may be missing
+abbrev pub member_of : Option Data → Option (Option AccountId)
+member_of None = Some None
+member_of (Some d) = option_map Some (account_of (Some d))
+
 abbrev pub app_of : Option Data → Option AppId
 app_of found = option_map (λ number. record { 0 = number }) (number_of found)
 

@@ -8,8 +8,8 @@ ghost use Rattle.desk_bodies.specs.Bodies as bodies;
 
 use crate::fault::BodyFault;
 use crate::fields::{
-    assignment_from, expiry_from, handle_from, mark_from, name_from, needs_from, number_from,
-    offer_from, permissions_from, query_from, tab_from, token_from,
+    assignment_from, expiry_from, handle_from, mark_from, member_from, name_from, needs_from,
+    number_from, offer_from, permissions_from, query_from, tab_from, token_from,
 };
 use crate::object::{field, object_from, text_of};
 use app_manifest::{Manifest, ManifestError, manifest_from};
@@ -78,11 +78,13 @@ pub struct ClaimFields {
     pub permissions: PermSet,
 }
 
-/// What the curator of a collection asks for a member.
+/// What the curator of a collection asks for.
 #[derive(Drop)]
 pub struct CollectFields {
+    /// The link by which it lists a grain.
     pub link: GrantId,
-    pub member: AccountId,
+    /// The member that is to get its share, or none where all are to.
+    pub member: Option<AccountId>,
 }
 
 /// The fields of a reference that is to be saved.
@@ -248,13 +250,13 @@ pub fn grant_field(alloc: Global, body: &[u8]) -> Result<GrantId, BodyFault>
     field(1, number_from(object.get("grant")).map(GrantId))
 }
 
-/// The grant by which a curator lists a grain, and the member that is to get its share.
+/// The grant by which a curator lists a grain, and the member that is to get its share, or none where all are to.
 pub fn collect_fields(alloc: Global, body: &[u8]) -> Result<CollectFields, BodyFault>
     ensures stated { Answers (bodies.collect_body body.now) result }
 {
     let object = field(0, object_from(alloc, text_of(body))?)?;
     let link = field(1, number_from(object.get("grant")).map(GrantId))?;
-    let member = field(2, number_from(object.get("account")).map(AccountId))?;
+    let member = field(2, member_from(object.get("account")))?;
     Ok(CollectFields { link, member })
 }
 

@@ -84,6 +84,16 @@ pub(crate) fn number_from(value: Option<&Value>) -> Option<u32>
     u32::try_from(number).ok()
 }
 
+/// The account that a field states or that isn't named where it is missing, or none where it is not of the shape.
+pub(crate) fn member_from(value: Option<&Value>) -> Option<Option<AccountId>>
+    ensures { result ≡ fields.member_of (option_map (λ v. view v.now) value.entry) }
+{
+    match value {
+        Some(_) => Some(Some(AccountId(number_from(value)?))),
+        None => Some(None),
+    }
+}
+
 /// The set of permissions that a field states, or none where it is missing or not of the shape.
 pub(crate) fn permissions_from(
     alloc: Global,

@@ -4,6 +4,7 @@ use Rattle.app_manifest.specs.Fault.{number_of, argument_of}
 use Rattle.share_graph.specs.declared.refusal.Refusal.{Refusal}
 use Rattle.share_graph.specs.declared.refusal.Refusal.TheVariants.{Denied, NotAdmin, NotOwner, NotGiver, Unknown, BadRole, ObsoleteRole, LongSet, BadParent, SelfShare, HandleTaken, LastAdmin, Manifest, AlreadyClaimed, NoSuchOffer, NoMatch, UnknownHandle, TooMany, TokenClash, BadNeed, PastMoment}
 use Rattle.share_graph.specs.Kinds.{kind_number}
+use Rattle.front_http.specs.Texts.{refusal_body}
 use Rattle.reply_texts.specs.Texts.{own_text, denial_name, denial_numbers, denial_status}
 
 abbrev pub command_name : Refusal → List ℕ
@@ -61,6 +62,10 @@ command_status (Unknown kind n) = 404
 command_status (UnknownHandle n) = 404
 command_status (TooMany kind limit) = 507
 command_status _ = 409
+
+-- the body of the answer to a command that is refused
+abbrev pub command_body : Refusal → List ℕ
+command_body why = refusal_body (command_name why) (command_numbers why)
 
 -- the answer to a command that is refused
 abbrev pub command_text : Refusal → Bool → List ℕ

@@ -6,8 +6,7 @@ ghost use Rattle.reply_texts.specs.Numbers.{list_of};
 ghost use Rattle.reply_texts.specs.Texts.{denial_name, denial_numbers, denial_status, denial_text};
 ghost use Rattle.reply_texts.specs.Texts as texts;
 
-use crate::own::{Numbers, numbered_reply};
-use front_http::refusal_body;
+use crate::own::{Numbers, numbered_body, numbered_reply};
 use host_base::{Bytes, Denial, Memory};
 use std::alloc::Global;
 
@@ -69,12 +68,7 @@ pub(crate) fn status_of(denial: &Denial) -> u16
 pub fn denial_body(alloc: Global, denial: &Denial) -> Result<Bytes, Memory>
     ensures { IfOk result (λ body. body ≡ texts.denial_body denial.now) }
 {
-    let name = name_of(denial);
-    match numbers_of(denial) {
-        Numbers::Zero => refusal_body(alloc, name, &[]),
-        Numbers::One(number) => refusal_body(alloc, name, &[number]),
-        Numbers::Two(first, second) => refusal_body(alloc, name, &[first, second]),
-    }
+    numbered_body(alloc, name_of(denial), numbers_of(denial))
 }
 
 /// The answer to a denial.

@@ -17,5 +17,5 @@ pub use faults::{OwnFault, fault_reply};
 pub use framing::{refused_reply, status_of_refusal};
 pub use options::options_reply;
 pub use own::{own_reply, wants_head};
-pub use refusals::command_reply;
+pub use refusals::{command_body, command_reply};
 pub use sites::site_reply;

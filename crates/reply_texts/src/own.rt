@@ -2,6 +2,7 @@
 
 ghost use Rattle.std.specs.Prelude.{◌≡◌, IfOk};
 ghost use Rattle.http.specs.StatusCode.{IsStatusCode};
+ghost use Rattle.front_http.specs.Texts as front;
 ghost use Rattle.reply_texts.specs.Numbers.{list_of};
 ghost use Rattle.reply_texts.specs.Texts as texts;
 
@@ -38,6 +39,17 @@ pub(crate) enum Numbers {
     Zero,
     One(u64),
     Two(u64, u64),
+}
+
+/// The body of an answer of a name and at most two numbers.
+pub(crate) fn numbered_body(alloc: Global, name: &str, numbers: Numbers) -> Result<Bytes, Memory>
+    ensures { IfOk result (λ body. body ≡ front.refusal_body name.now (list_of numbers)) }
+{
+    match numbers {
+        Numbers::Zero => refusal_body(alloc, name, &[]),
+        Numbers::One(number) => refusal_body(alloc, name, &[number]),
+        Numbers::Two(first, second) => refusal_body(alloc, name, &[first, second]),
+    }
 }
 
 /// The answer of a status, a name and at most two numbers.

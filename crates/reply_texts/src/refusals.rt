@@ -4,10 +4,11 @@ ghost use Rattle.std.specs.Prelude.{◌≡◌, [], ◌∷◌, IfOk};
 ghost use Rattle.http.specs.StatusCode.{IsStatusCode};
 ghost use Rattle.share_graph.specs.Kinds.{kind_number};
 ghost use Rattle.reply_texts.specs.Numbers.{list_of};
+ghost use Rattle.reply_texts.specs.Refusals as refusals;
 ghost use Rattle.reply_texts.specs.Refusals.{command_name, command_numbers, command_status, command_text};
 
 use crate::denials;
-use crate::own::{Numbers, numbered_reply};
+use crate::own::{Numbers, numbered_body, numbered_reply};
 use host_base::{Bytes, Memory};
 use share_graph::{Kind, Refusal};
 use std::alloc::Global;
@@ -87,6 +88,13 @@ fn status_of(refusal: &Refusal) -> u16
         Refusal::TooMany(_, _) => 507,
         _ => 409,
     }
+}
+
+/// The body of the answer to a command that is refused.
+pub fn command_body(alloc: Global, refusal: &Refusal) -> Result<Bytes, Memory>
+    ensures { IfOk result (λ body. body ≡ refusals.command_body refusal.now) }
+{
+    numbered_body(alloc, name_of(refusal), numbers_of(refusal))
 }
 
 /// The answer to a command that is refused.

@@ -4,7 +4,7 @@ use Rattle.serde_json.specs.Data.{string}
 use Rattle.serde_json.specs.Written.{has_float, items_have_float, members_have_float}
 use Rattle.report_desk.specs.declared.holder.Holder.TheVariants as holder
 use Rattle.report_texts.specs.Terms.{AccountId, Data, Holder, Passing, ReasonStep, ReportLine}
-use Rattle.report_texts.specs.Answers.{access_data, array_of, grant_data, items_of, line_data, line_members, missing_data, number_of, preview_data, step_data, why_data}
+use Rattle.report_texts.specs.Answers.{access_data, array_of, grant_data, items_of, line_data, line_members, missing_data, number_of, preview_data, shared_data, step_data, why_data}
 
 items_exact : {X : Type 0} (make : X → Data) → ((x : X) → has_float (make x) ≡ false) → (xs : List X) → items_have_float (items_of make xs) ≡ false
 items_exact make each [] = refl
@@ -44,3 +44,7 @@ why_exact reasons = rw (items_exact (array_of step_data) (items_exact step_data 
 pub missing_exact : (members : List AccountId) → has_float (missing_data members) ≡ false
 unfolding missing_data
 missing_exact members = rw (items_exact (λ (u : AccountId). number_of u.0) (λ _. refl) members)
+
+pub shared_exact : (made : ℕ) → has_float (shared_data made) ≡ false
+unfolding shared_data
+shared_exact made = refl

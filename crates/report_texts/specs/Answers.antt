@@ -63,6 +63,10 @@ why_data reasons = single (codes "why") (array_of (array_of step_data) reasons)
 unfoldable pub missing_data : List AccountId → Data
 missing_data members = single (codes "missing") (array_of (λ (u : AccountId). number_of u.0) members)
 
+-- how many members got a share
+unfoldable pub shared_data : ℕ → Data
+shared_data made = single (codes "shared") (number_of made)
+
 -- the answer with a value
 abbrev pub data_text : Data → Bool → List ℕ
 data_text value head_only = reply_text 200 false (compact_text value) head_only

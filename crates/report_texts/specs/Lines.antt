@@ -30,3 +30,7 @@ loss_line line =
 
 unfoldable pub preview_text : List ReportLine → List ℕ
 preview_text lines = flat_map loss_line lines
+
+-- how many members got a share: `shared N`
+unfoldable pub shared_text : ℕ → List ℕ
+shared_text made = codes "shared " ++ decimal made ++ codes "\n"

@@ -4,7 +4,7 @@ ghost use Rattle.std.specs.Prelude.{◌≡◌, IfOk, string_bytes};
 ghost use Rattle.serde_json.specs.Data.{Data, object, string};
 ghost use Rattle.report_desk.specs.declared.holder.Holder.TheVariants as holder;
 ghost use Rattle.serde_json.specs.View.{view};
-ghost use Rattle.report_texts.specs.Answers.{access_data, array_of, grant_data, line_data, line_members, missing_data, number_of, preview_data, step_data, why_data};
+ghost use Rattle.report_texts.specs.Answers.{access_data, array_of, grant_data, line_data, line_members, missing_data, number_of, preview_data, shared_data, step_data, why_data};
 ghost use Rattle.report_texts.specs.Words.{step_words};
 
 use crate::words::put_step;
@@ -184,4 +184,12 @@ pub(crate) fn missing_value(alloc: Global, members: &[AccountId]) -> Result<Valu
     ensures { IfOk result (λ value. view value ≡ missing_data members.now) }
 {
     json!(in alloc; {"missing": array_value(alloc, members)?})
+}
+
+/// How many members got a share.
+#[tactic(auto, unfolding(crate::specs::Answers::shared_data))]
+pub(crate) fn shared_value(alloc: Global, made: u64) -> Result<Value, AllocError>
+    ensures { IfOk result (λ value. view value ≡ shared_data made) }
+{
+    json!(in alloc; {"shared": made})
 }

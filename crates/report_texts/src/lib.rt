@@ -6,5 +6,5 @@ mod lines;
 mod reply;
 mod words;
 
-pub use lines::{access_text, preview_text};
-pub use reply::{access_reply, missing_reply, preview_reply, why_reply};
+pub use lines::{access_text, preview_text, shared_text};
+pub use reply::{access_reply, missing_reply, preview_reply, shared_reply, why_reply};

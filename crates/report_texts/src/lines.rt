@@ -5,6 +5,7 @@ ghost use Rattle.report_texts.specs.Lines as lines;
 
 use crate::words::{put, put_decimal, put_facts, put_grant, put_joined};
 use host_base::{Bytes, GrainId, Memory};
+use itoa::Buffer;
 use report_desk::{Holder, ReportLine};
 use std::alloc::{AllocError, Global};
 
@@ -84,5 +85,17 @@ pub fn preview_text(alloc: Global, report: &[ReportLine]) -> Result<Bytes, Memor
     for line in report {
         put_loss_line(&mut text, line)?;
     }
+    Ok(Bytes::new(text.into_bytes()))
+}
+
+/// How many members of a collection got a share: `shared N`.
+#[tactic(auto, unfolding(crate::specs::Lines::shared_text))]
+pub fn shared_text(alloc: Global, made: u64) -> Result<Bytes, Memory>
+    ensures { IfOk result (λ text. text ≡ lines.shared_text made) }
+{
+    let mut text = String::new(alloc);
+    put(&mut text, "shared ")?;
+    put(&mut text, Buffer::new().format(made))?;
+    put(&mut text, "\n")?;
     Ok(Bytes::new(text.into_bytes()))
 }

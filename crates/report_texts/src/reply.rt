@@ -3,9 +3,9 @@
 ghost use Rattle.std.specs.Prelude.{◌≡◌, false, IfOk};
 ghost use Rattle.serde_json.specs.View.{view};
 ghost use Rattle.serde_json.specs.Written.{has_float};
-ghost use Rattle.report_texts.specs.Answers.{access_data, data_text, missing_data, preview_data, why_data};
+ghost use Rattle.report_texts.specs.Answers.{access_data, data_text, missing_data, preview_data, shared_data, why_data};
 
-use crate::data::{access_value, missing_value, preview_value, why_value};
+use crate::data::{access_value, missing_value, preview_value, shared_value, why_value};
 use front_http::reply_text;
 use host_base::{AccountId, Bytes, Memory};
 use report_desk::{Reason, ReportLine};
@@ -55,5 +55,14 @@ pub fn missing_reply(alloc: Global, members: &[AccountId], head_only: bool) -> R
     ensures { IfOk result (λ text. text ≡ data_text (missing_data members.now) head_only) }
 {
     let value = missing_value(alloc, members)?;
+    value_reply(alloc, &value, head_only)
+}
+
+/// The answer of how many members of a collection got a share.
+#[tactic(auto, using(crate::proofs::Floats::shared_exact))]
+pub fn shared_reply(alloc: Global, made: u64, head_only: bool) -> Result<Bytes, Memory>
+    ensures { IfOk result (λ text. text ≡ data_text (shared_data made) head_only) }
+{
+    let value = shared_value(alloc, made)?;
     value_reply(alloc, &value, head_only)
 }

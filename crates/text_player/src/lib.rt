@@ -13,7 +13,6 @@ mod halls;
 mod holding;
 mod keeping;
 mod making;
-mod measure;
 mod passes;
 mod shares;
 mod states;
@@ -23,7 +22,6 @@ mod values;
 
 use crate::calls::Calls;
 use crate::given::Given;
-use crate::measure::measure_decisions;
 use conversations::play_conversations;
 use std::alloc::{AllocError, Global};
 use std::env::Env;
@@ -31,12 +29,8 @@ use std::fs::Files;
 use std::io::Print;
 use std::sync::Wait;
 use std::thread::Threads;
-use std::time::Clock;
 use std::{env, fs, io};
 use test_words::{Tally, play_rows};
-
-// How many decisions each thread makes where it is measured how long they take.
-const DECISIONS: u32 = 1_000_000;
 
 // Plays a text, of rows of calls or of conversations, and tells what goes otherwise.
 fn play_text<R: Print + Threads + Wait + Sync>(
@@ -96,19 +90,15 @@ fn print_sums(rt: &impl Print, played: &[Played]) -> io::Result<bool> {
 }
 
 /// What playing asks of the system.
-pub trait Host: AllocGlobal + Clock + Env + Files + Print + Threads + Wait + Sync {}
+pub trait Host: AllocGlobal + Env + Files + Print + Threads + Wait + Sync {}
 
-impl<R: AllocGlobal + Clock + Env + Files + Print + Threads + Wait + Sync> Host for R {}
+impl<R: AllocGlobal + Env + Files + Print + Threads + Wait + Sync> Host for R {}
 
-/// Plays the texts that the program's words name, and says whether all that they have passed. The word `measure` measures decisions instead.
+/// Plays the texts that the program's words name, and says whether all that they have passed.
 pub fn play_all<R: Host>(rt: &R) -> io::Result<bool> {
     let alloc = rt.alloc();
     let mut played = Vec::new(alloc);
     for name in env::args(rt)?.skip(1) {
-        if name.as_str() == "measure" {
-            measure_decisions(rt, alloc, DECISIONS)?;
-            return Ok(true);
-        }
         let text = fs::read_to_string(rt, name.as_str())?;
         let tally = play_text(rt, alloc, name.as_str(), text.as_str())?;
         played.push(Played { name, tally })?;

@@ -14,6 +14,9 @@ returns-in-Unknown-clause-does g c = rw c.in-Unknown.is c.usage.ensures.tells
 pub serve-requires-clause-order : goal.serve-requires-clause-order
 serve-requires-clause-order g c κs within = c.requires.order (subst AtDoor (sym c.in-Serve.is) tt)
 
+pub returns-in-Collect-clause-does : goal.returns-in-Collect-clause-does
+returns-in-Collect-clause-does g c = rw c.in-Collect.is c.collect.ensures.collects
+
 pub returns-in-Access-clause-does : goal.returns-in-Access-clause-does
 returns-in-Access-clause-does g c = rw c.in-Access.is c.reports.ensures.reports
 

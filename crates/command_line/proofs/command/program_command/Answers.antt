@@ -16,4 +16,5 @@ returns c =
     let four = added c.in_ok-command-4.command c.in_ok-command-3.command c.in_ok-check_command.field-0 _ specs.check three c.in_ok-check_command.ensures.app c.in_ok-command-4.ensures.app in
     let five = added c.in_ok-command-5.command c.in_ok-command-4.command c.in_ok-grain_command.field-0 _ specs.grain four c.in_ok-grain_command.ensures.app c.in_ok-command-5.ensures.app in
     let six = added c.in_ok-command-6.command c.in_ok-command-5.command c.in_ok-access_command.field-0 _ specs.access five c.in_ok-access_command.ensures.app c.in_ok-command-6.ensures.app in
-    IfOk-weaker c.with_line-7.result _ _ (λ new is. added new c.in_ok-command-6.command c.in_ok-preview_command.field-0 _ specs.preview six c.in_ok-preview_command.ensures.app is) c.with_line-7.ensures.app
+    let seven = added c.in_ok-command-7.command c.in_ok-command-6.command c.in_ok-preview_command.field-0 _ specs.preview six c.in_ok-preview_command.ensures.app c.in_ok-command-7.ensures.app in
+    IfOk-weaker c.with_line-8.result _ _ (λ new is. added new c.in_ok-command-7.command c.in_ok-collect_command.field-0 _ specs.collect seven c.in_ok-collect_command.ensures.app is) c.with_line-8.ensures.app
