@@ -37,13 +37,15 @@ def missing():
 class Browser:
     """A browser without a window, and all that it keeps in a folder."""
 
-    def __init__(self, folder):
+    def __init__(self, folder, *words):
         self.folder = folder
         kept = [f"{name}={folder}" for name in ("HOME", "TMPDIR", "XDG_CONFIG_HOME", "XDG_CACHE_HOME", "XDG_RUNTIME_DIR")]
         self.driver = Started("env", [*kept, "chromedriver", "--port=0"], folder)
         self.port = int(until("a port of chromedriver", lambda: re.search(rb"successfully on port (\d+)", self.driver.printed()))[1])
-        options = {"args": [*WORDS, f"--user-data-dir={os.path.join(folder, 'profile')}"]}
+        options = {"args": [*WORDS, *words, f"--user-data-dir={os.path.join(folder, 'profile')}"]}
         wanted = {"browserName": "chrome", "goog:chromeOptions": options, "goog:loggingPrefs": {"browser": "ALL"}}
+        # (a certificate that is made for a trial is nobody's)
+        wanted["acceptInsecureCerts"] = True
         self.session = ""
         self.session = self.call("POST", "", {"capabilities": {"alwaysMatch": wanted}})["sessionId"]
         self.call("POST", "/timeouts", {"implicit": WAITING})
@@ -94,6 +96,22 @@ class Browser:
     def type(self, where, text):
         """Types a text; into an element that takes a file, its path."""
         self.call("POST", f"{self.element(where)}/value", {"text": text})
+
+    def tabs(self):
+        """The tabs that are open, in the order in which they were opened."""
+        return self.call("GET", "/window/handles")
+
+    def turn_to(self, tab):
+        self.call("POST", "/window", {"handle": tab})
+
+    def press(self, key):
+        """Presses a key, wherever the focus is."""
+        actions = [{"type": "keyDown", "value": key}, {"type": "keyUp", "value": key}]
+        self.call("POST", "/actions", {"actions": [{"type": "key", "id": "keys", "actions": actions}]})
+
+    def set_dark(self, is_dark):
+        """Shows the page from now on as to somebody who has chosen dark colours, or light ones."""
+        self.emulate("EmulatedMedia", features=[{"name": "prefers-color-scheme", "value": "dark" if is_dark else "light"}])
 
     def reload(self):
         """Opens the page once more."""

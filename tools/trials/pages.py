@@ -77,11 +77,14 @@ class Visit:
         self.soon(f"{row.name}: the page as it was", seen, lambda: self.browser.texts("main"))
         self.browser.element(row.where)
         until(f"{row.name}: a page that is still", self.browser.is_still)
-        path = os.path.join(self.folder, f"{row.name}.png")
+        self.keep_picture(row.name)
+
+    def keep_picture(self, name):
+        path = os.path.join(self.folder, f"{name}.png")
         with open(path, "wb") as file:
             file.write(self.browser.picture())
         make_small(path)
-        self.bench.same(f"{row.name}: a picture that isn't large", True, os.path.getsize(path) < LARGEST)
+        self.bench.same(f"{name}: a picture that isn't large", True, os.path.getsize(path) < LARGEST)
 
     def complains(self, row):
         self.bench.same(row.name, row.texts, sorted({re.sub(r"^https?://[^/ ]*", "", text) for text in self.browser.complaints()}))

@@ -1,10 +1,19 @@
 -- What the routes of the desk and of running grains, and their bodies, ask for.
 use Rattle.std.specs.Prelude.{ℕ, true, false, List, Option, Some, None, Result, Ok, Err}
-use Rattle.cloud_serve.specs.Terms.{account_body, AccountId, BodyFault, Caller, child_body, choose_body, claim_body, collect_body, Command, Digest, grain_body, GrainId, grant_body, GrantId, manifest_body, mark_body, plain_body, query_body, redeem_body, Route, save_body, share_body, Showing, tab_body, token_body, why_body}
+use Rattle.cloud_serve.specs.Terms.{account_body, AccountId, after_body, BodyFault, Caller, child_body, choose_body, claim_body, collect_body, Command, Digest, grain_body, GrainId, grant_body, GrantId, manifest_body, mark_body, plain_body, query_body, redeem_body, Route, save_body, share_body, Showing, Subject, tab_body, token_body, why_body}
 use Rattle.share_graph.specs.declared.desk.Caller.TheVariants as caller
 use Rattle.desk_orders.specs.declared.order.Command.TheVariants as command
+use Rattle.listings.specs.declared.asking.Subject.TheVariants as subject
 use Rattle.front_http.specs.declared.route.Route.TheVariants as route
 use Rattle.cloud_serve.specs.declared.showing.Showing.TheVariants as showing
+
+-- what is listed, behind this number
+abbrev pub behind : Subject → ℕ → Subject
+behind subject.Own after = subject.Own
+behind (subject.Accounts a) after = subject.Accounts (record { 0 = after })
+behind (subject.Apps p) after = subject.Apps (record { 0 = after })
+behind (subject.Entered n) after = subject.Entered (record { 0 = after })
+behind (subject.Given n g) after = subject.Given n (record { 0 = after })
 
 -- a caller wants one command
 abbrev pub wants : Caller → Command → Showing
@@ -75,6 +84,12 @@ module _ (who : Digest) (body : List ℕ) where
   asked_at (route.GrainMissing n) = asks login (grant_body body) (command.Missing (record { 0 = n }))
   asked_at (route.GrainCollect n) =
       Some (stating (λ f. collects who (record { 0 = n }) f.link f.member) (collect_body body))
+  asked_at (route.GrainShares n) =
+      asks login (after_body body) λ after. command.List (subject.Given (record { 0 = n }) (record { 0 = after }))
+  asked_at route.Me = asks login (plain_body body) λ _. command.List subject.Own
+  asked_at route.Mine = asks login (after_body body) λ after. command.List (subject.Entered (record { 0 = after }))
+  asked_at route.AccountsList = asks login (after_body body) λ after. command.List (subject.Accounts (record { 0 = after }))
+  asked_at route.AppsList = asks login (after_body body) λ after. command.List (subject.Apps (record { 0 = after }))
   asked_at (route.GrantPreview n) = asks login (plain_body body) λ _. command.Preview (record { 0 = n })
   asked_at route.Claim = asks run (claim_body body) λ f. command.Claim f.token f.permissions
   asked_at route.Save = asks run (save_body body) λ f. command.Save f.handle f.label

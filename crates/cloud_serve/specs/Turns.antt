@@ -1,6 +1,6 @@
 -- What one request comes to: its turn, and when a turn is lawful.
 use Rattle.std.specs.Prelude.{◌≡◌, ◌≢◌, ℕ, ◌⊎◌, ◌++◌, Bool, true, false, List, [], ◌∷◌, Option, Some, None, Result, Ok, Err, length, codes}
-use Rattle.cloud_serve.specs.Terms.{access_data, Ask, Asked, Book, Collecting, command_text, data_text, denial_text, done_text, fault_text, GivesText, grain_text, Handed, Judged, Key, Law, Listing, missing_data, options_text, OrderFault, own_text, Permit, preview_data, RelayFault, Relays, Reply, Request, shared_data, Showing, site_text, SiteFault, Verdict, wants_head, why_data}
+use Rattle.cloud_serve.specs.Terms.{access_data, Ask, Asked, Book, Collecting, command_text, data_text, denial_text, done_text, fault_text, GivesText, grain_text, Handed, Judged, Key, Law, Listing, missing_data, options_text, OrderFault, own_text, page_data, Permit, preview_data, RelayFault, Relays, Reply, Request, shared_data, Showing, site_text, SiteFault, Verdict, wants_head, why_data}
 use Rattle.host_base.specs.declared.verdict.Denial.TheVariants as denial
 use Rattle.host_base.specs.declared.verdict.Verdict.TheVariants as verdict
 use Rattle.bridge_headers.specs.declared.fault.RelayFault.TheVariants as fault
@@ -89,6 +89,7 @@ listing_text (listing.Access lines) head_only = data_text (access_data lines) he
 listing_text (listing.Losses lines) head_only = data_text (preview_data lines) head_only
 listing_text (listing.Why reasons) head_only = data_text (why_data reasons) head_only
 listing_text (listing.Owed members) head_only = data_text (missing_data members) head_only
+listing_text (listing.Page page) head_only = data_text (page_data page) head_only
 
 -- The text of the answer to an order. Want of memory has no text here: it breaks the turn off.
 abbrev pub AnswersOrder : Result Reply OrderFault → Bool → List ℕ → Type 0

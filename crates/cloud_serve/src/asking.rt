@@ -11,12 +11,14 @@ use crate::commands::{
     admin_mark, enabled_mark, new_account, new_app, new_child, new_grain, new_manifest, new_share,
     new_token, opening, plain, reasons, redemption,
 };
+use crate::listing::page;
 use crate::powerbox::{choice, claim, drop_reference, options, reference, restoration};
 use crate::showing::Showing;
 use desk_bodies::BodyFault;
 use front_http::Route;
 use host_base::{AccountId, AppId, Digest, GrainId, GrantId, Memory, SessionId};
 use hub_core::Command;
+use listings::Subject;
 use share_graph::Caller;
 use std::alloc::Global;
 
@@ -69,6 +71,14 @@ fn stated(
         Route::GrainWhy(num) => Some(reasons(alloc, who, GrainId(num), body)),
         Route::GrainMissing(num) => Some(missing(alloc, who, GrainId(num), body)),
         Route::GrainCollect(num) => Some(collection(alloc, who, GrainId(num), body)),
+        Route::GrainShares(num) => {
+            let subject = Subject::Given(GrainId(num), GrantId(0));
+            Some(page(alloc, who, subject, body))
+        }
+        Route::Me => Some(plain(alloc, login, Command::List(Subject::Own), body)),
+        Route::Mine => Some(page(alloc, who, Subject::Entered(GrainId(0)), body)),
+        Route::AccountsList => Some(page(alloc, who, Subject::Accounts(AccountId(0)), body)),
+        Route::AppsList => Some(page(alloc, who, Subject::Apps(AppId(0)), body)),
         Route::GrantPreview(num) => Some(plain(alloc, login, Command::Preview(GrantId(num)), body)),
         Route::Claim => Some(claim(alloc, who, body)),
         Route::Save => Some(reference(alloc, who, body)),

@@ -5,6 +5,7 @@ mod asking;
 mod collecting;
 mod commands;
 mod ending;
+mod listing;
 mod passing;
 mod powerbox;
 mod serve;

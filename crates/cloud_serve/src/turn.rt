@@ -23,7 +23,9 @@ use reply_texts::{
     Handed, OwnFault, command_reply, denial_reply, done_reply, fault_reply, options_reply,
     own_reply, site_reply, wants_head,
 };
-use report_texts::{access_reply, missing_reply, preview_reply, shared_reply, why_reply};
+use report_texts::{
+    access_reply, missing_reply, page_reply, preview_reply, shared_reply, why_reply,
+};
 use share_graph::{Made, Refusal};
 use site_caps::SiteFault;
 use std::alloc::Global;
@@ -204,6 +206,7 @@ fn listing_reply(alloc: Global, listing: &Listing, head_only: bool) -> Result<By
         Listing::Losses(lines) => preview_reply(alloc, lines.as_slice(), head_only),
         Listing::Why(reasons) => why_reply(alloc, reasons.as_slice(), head_only),
         Listing::Owed(members) => missing_reply(alloc, members.as_slice(), head_only),
+        Listing::Page(page) => page_reply(alloc, page, head_only),
     }
 }
 

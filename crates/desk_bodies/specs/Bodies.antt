@@ -23,7 +23,7 @@ use Rattle.desk_bodies.specs.declared.bodies.TokenFields.{TokenFields}
 use Rattle.desk_bodies.specs.declared.fault.BodyFault.{BodyFault}
 use Rattle.desk_bodies.specs.declared.fault.BodyFault.TheVariants.{Manifest}
 use Rattle.desk_bodies.specs.Answers.{field}
-use Rattle.desk_bodies.specs.Fields.{name_of, handle_of, mark_of, token_of, tab_of, expiry_of, number_of, account_of, member_of, app_of, grant_of, permissions_of}
+use Rattle.desk_bodies.specs.Fields.{name_of, handle_of, mark_of, token_of, tab_of, expiry_of, number_of, account_of, after_of, member_of, app_of, grant_of, permissions_of}
 use Rattle.desk_bodies.specs.Fields.{assignment_of, needs_of, query_of, offer_of}
 
 -- the text that a body is read as: an empty body counts as `{}`
@@ -123,6 +123,11 @@ collect_body body = in_object body λ object.
     field 1 (grant_of (get (codes "grant") object)) λ link.
     field 2 (member_of (get (codes "account") object)) λ member.
     Ok (record { link = link; member = member })
+
+-- /mine, /accounts/list, /apps/list and /grains/{n}/shares: 1 after?
+abbrev pub after_body : List ℕ → Result ℕ BodyFault
+after_body body = in_object body λ object.
+    field 1 (after_of (get (codes "after") object)) Ok
 
 -- /claim: 1 token, 2 permissions
 abbrev pub claim_body : List ℕ → Result ClaimFields BodyFault

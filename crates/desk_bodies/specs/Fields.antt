@@ -74,6 +74,11 @@ abbrev pub member_of : Option Data → Option (Option AccountId)
 member_of None = Some None
 member_of (Some d) = option_map Some (account_of (Some d))
 
+-- the number behind which a page is asked for, which may be missing
+abbrev pub after_of : Option Data → Option ℕ
+after_of None = Some 0
+after_of (Some d) = number_of (Some d)
+
 abbrev pub app_of : Option Data → Option AppId
 app_of found = option_map (λ number. record { 0 = number }) (number_of found)
 

@@ -8,8 +8,8 @@ ghost use Rattle.desk_bodies.specs.Bodies as bodies;
 
 use crate::fault::BodyFault;
 use crate::fields::{
-    assignment_from, expiry_from, handle_from, mark_from, member_from, name_from, needs_from,
-    number_from, offer_from, permissions_from, query_from, tab_from, token_from,
+    after_from, assignment_from, expiry_from, handle_from, mark_from, member_from, name_from,
+    needs_from, number_from, offer_from, permissions_from, query_from, tab_from, token_from,
 };
 use crate::object::{field, object_from, text_of};
 use app_manifest::{Manifest, ManifestError, manifest_from};
@@ -258,6 +258,14 @@ pub fn collect_fields(alloc: Global, body: &[u8]) -> Result<CollectFields, BodyF
     let link = field(1, number_from(object.get("grant")).map(GrantId))?;
     let member = field(2, member_from(object.get("account")))?;
     Ok(CollectFields { link, member })
+}
+
+/// The number behind which a page of a list is asked for.
+pub fn after_field(alloc: Global, body: &[u8]) -> Result<u32, BodyFault>
+    ensures stated { Answers (bodies.after_body body.now) result }
+{
+    let object = field(0, object_from(alloc, text_of(body))?)?;
+    field(1, after_from(object.get("after")))
 }
 
 /// The SHA-256 digest of the token to claim, and the permissions that the user of the grain has to hold.

@@ -94,6 +94,16 @@ pub(crate) fn member_from(value: Option<&Value>) -> Option<Option<AccountId>>
     }
 }
 
+/// The number behind which a page is asked for, 0 where the field is missing, or none where it is not of the shape.
+pub(crate) fn after_from(value: Option<&Value>) -> Option<u32>
+    ensures { result ≡ fields.after_of (option_map (λ v. view v.now) value.entry) }
+{
+    match value {
+        Some(_) => number_from(value),
+        None => Some(0),
+    }
+}
+
 /// The set of permissions that a field states, or none where it is missing or not of the shape.
 pub(crate) fn permissions_from(
     alloc: Global,

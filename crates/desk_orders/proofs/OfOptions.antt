@@ -9,6 +9,10 @@ use Rattle.desk_base.specs.Steps.{Refuses, Keeps, Makes, Change, denies}
 use Rattle.desk_base.proofs.FitForms.{unless_fits, found_fits, some_fits}
 use Rattle.collections.specs.Commands.{Missing}
 use Rattle.collections.proofs.FitRow.{curator_fits}
+use Rattle.listings.specs.Asking.{Lists}
+use Rattle.listings.specs.Commands.{Asks}
+use Rattle.listings.specs.declared.asking.Subject.{Subject}
+use Rattle.listings.specs.declared.asking.Subject.TheVariants as subject
 use Rattle.report_desk.specs.Commands.{Access, Preview, Why}
 use Rattle.saved_refs.specs.Options.{Options}
 use Rattle.desk_orders.specs.declared.order.Command.{Command}
@@ -61,6 +65,23 @@ missing_fits s who c g =
     curator_fits s who c g _ λ account link.
     record { fits = keeps_only s }
 
+asks_fits : (s : State) (who : Caller) → RowFits s false (Asks s who)
+asks_fits s who =
+    some_fits s tt λ account is.
+    unless_fits s tt λ enabled.
+    record { fits = keeps_only s }
+
+pub lists_fits : (s : State) (who : Caller) (what : Subject) → RowFits s false (Lists s who what)
+lists_fits s who subject.Own = asks_fits s who
+lists_fits s who (subject.Accounts after) = asks_fits s who
+lists_fits s who (subject.Apps after) = asks_fits s who
+lists_fits s who (subject.Entered after) = asks_fits s who
+lists_fits s who (subject.Given n after) =
+    some_fits s tt λ account is.
+    unless_fits s tt λ enabled.
+    found_fits s tt λ grain there.
+    record { fits = keeps_only s }
+
 -- it chooses nothing
 pub none_found : (law : Law) (s : State) (who : Caller) (c : Command) → lists c ≡ true → IsFoundBy law s who c None
 none_found law s who (command.Options n query) asks = tt
@@ -68,4 +89,5 @@ none_found law s who (command.Access n) asks = tt
 none_found law s who (command.Preview g) asks = tt
 none_found law s who (command.Why n a) asks = tt
 none_found law s who (command.Missing c g) asks = tt
+none_found law s who (command.List subject) asks = tt
 none_found law s who _ asks = cc

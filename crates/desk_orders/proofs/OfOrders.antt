@@ -13,8 +13,9 @@ use Rattle.saved_refs.proofs.OneRows.{choose_one, claim_one, save_one, restore_o
 use Rattle.saved_refs.proofs.FitRows.{choose_fits, claim_fits, save_fits, restore_fits, drop_saved_fits}
 use Rattle.collections.proofs.FitRow.{collect_fits}
 use Rattle.collections.proofs.OneRow.{collect_one, missing_one}
+use Rattle.listings.proofs.OneRows.{lists_one}
 use Rattle.report_desk.proofs.OneRows.{access_one, preview_one, why_one}
-use Rattle.desk_orders.proofs.OfOptions.{options_fits, access_fits, preview_fits, why_fits, missing_fits}
+use Rattle.desk_orders.proofs.OfOptions.{options_fits, access_fits, preview_fits, why_fits, lists_fits, missing_fits}
 use Rattle.desk_orders.specs.declared.order.Command.{Command}
 use Rattle.desk_orders.specs.declared.order.Command.TheVariants as command
 use Rattle.desk_orders.specs.Commands.{Asked, IsStated, draws}
@@ -48,6 +49,7 @@ one_by s formed found who (command.Access n) = access_one s formed who n
 one_by s formed found who (command.Preview g) = preview_one s formed who g
 one_by s formed found who (command.Why n a) = why_one s formed who n a
 one_by s formed found who (command.Missing c g) = missing_one s formed who c g
+one_by s formed found who (command.List subject) = lists_one s formed who subject
 one_by s formed found who (command.Collect c g u) = collect_one s formed who c g u
 
 pub order_one : (s : State) → IsWellFormed s → (found : Option Bool) (order : Asked) → IsOne (RowOf s found order)
@@ -82,4 +84,5 @@ fits_by s formed found who (command.Access n) stated = access_fits s who n
 fits_by s formed found who (command.Preview g) stated = preview_fits s who g
 fits_by s formed found who (command.Why n a) stated = why_fits s who n a
 fits_by s formed found who (command.Missing c g) stated = missing_fits s who c g
+fits_by s formed found who (command.List subject) stated = lists_fits s who subject
 fits_by s formed found who (command.Collect c g u) stated = collect_fits s formed who c g u

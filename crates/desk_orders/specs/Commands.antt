@@ -31,6 +31,7 @@ lists (command.Access n) = true
 lists (command.Preview g) = true
 lists (command.Why n a) = true
 lists (command.Missing c g) = true
+lists (command.List subject) = true
 lists _ = false
 
 -- A command is stated as its form asks: by the caller of its row, which is a login where nothing else is said; a handle

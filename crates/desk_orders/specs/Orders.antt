@@ -1,6 +1,6 @@
 -- What the machine makes of an order: by the row of its command. Nothing above this definition speaks of a command.
 use Rattle.std.specs.Prelude.{Bool, true, false, Option}
-use Rattle.desk_orders.specs.Terms.{Access, AddAccount, AddApp, Caller, Child, Choose, Claim, CloseSession, Collect, Command, DropSaved, MakeToken, Missing, NewGrain, OpenSession, Options, Preview, Redeem, Restore, Revoke, Save, SetAdmin, SetEnabled, Share, StartRun, State, Step, StopRun, Trash, UpgradeApp, Why}
+use Rattle.desk_orders.specs.Terms.{Access, AddAccount, AddApp, Caller, Child, Choose, Claim, CloseSession, Collect, Command, DropSaved, Lists, MakeToken, Missing, NewGrain, OpenSession, Options, Preview, Redeem, Restore, Revoke, Save, SetAdmin, SetEnabled, Share, StartRun, State, Step, StopRun, Trash, UpgradeApp, Why}
 use Rattle.desk_orders.specs.declared.order.Command.TheVariants as command
 use Rattle.desk_orders.specs.Commands.{Asked}
 
@@ -34,6 +34,7 @@ RowBy s found who (command.Access n) = Access s who n
 RowBy s found who (command.Preview g) = Preview s who g
 RowBy s found who (command.Why n a) = Why s who n a
 RowBy s found who (command.Missing c g) = Missing s who c g
+RowBy s found who (command.List subject) = Lists s who subject
 RowBy s found who (command.Collect c g u) = Collect s who c g u
 
 unfoldable pub RowOf : State → Option Bool → Asked → Step → Type 0

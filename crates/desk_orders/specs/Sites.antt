@@ -1,7 +1,7 @@
 -- What the sites tell of an order, and what is listed of them.
 use Rattle.std.specs.Prelude.{◌≡◌, ◌⊎◌, ◌++◌, ◌∷◌, [], ℕ, Bool, List, Option, Some, None, Contains, IsTrue, option_map, map, filter}
 use Rattle.std.specs.List.{filter_map}
-use Rattle.desk_orders.specs.Terms.{Acceptable, Account, AreAccessLines, AreLossLines, AreOptions, AreReasons, Caller, Choice, Command, DescriptorData, GrainId, HasNoOffer, HasOffer, IsCaller, IsCallerOn, IsNoCallerOn, IsOne, IsPlanFor, IsSites, Law, Listed, Listing, match_of, Offer, Preferred, Quality, Refusal, same_quality, secret_of, SiteOffer, State}
+use Rattle.desk_orders.specs.Terms.{Acceptable, Account, AreAccessLines, AreLossLines, AreOptions, AreReasons, Caller, Choice, Command, DescriptorData, GrainId, HasNoOffer, HasOffer, IsCaller, IsCallerOn, IsNoCallerOn, IsOne, IsPageOf, IsPlanFor, IsSites, Law, Listed, Listing, match_of, Offer, Preferred, Quality, Refusal, same_quality, secret_of, SiteOffer, State}
 use Rattle.share_graph.specs.declared.desk.Offer.TheVariants as offer
 use Rattle.desk_orders.specs.declared.order.Command.TheVariants as command
 use Rattle.desk_orders.specs.declared.reply.Listing.TheVariants as listing
@@ -67,6 +67,7 @@ ListsBy law s who (command.Access n) (listing.Access lines) = AreAccessLines s.t
 ListsBy law s who (command.Preview g) (listing.Losses lines) = AreLossLines s.tables g lines
 ListsBy law s who (command.Why n a) (listing.Why reasons) = AreReasons s.tables n a reasons
 ListsBy law s who (command.Missing c g) (listing.Owed plan) = IsPlanFor s who c g plan
+ListsBy law s who (command.List subject) (listing.Page page) = IsPageOf s who subject page
 ListsBy law s who _ told = ⊥
 
 -- the law allows one list of offers alone for each query at a tag

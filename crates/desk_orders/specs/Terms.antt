@@ -12,6 +12,7 @@ pub use Rattle.desk_base.specs.Terms.{Account, Caller, DeskFault, Digest, Event,
 pub use Rattle.desk_base.specs.Wording.{secret_of}
 pub use Rattle.desk_orders.specs.declared.{deciding.Decision.Decision, order.Command.Command, reply.Listing.Listing, reply.OrderFault.OrderFault, reply.Reply.Reply, secrets.SecretUse.SecretUse}
 pub use Rattle.host_base.specs.Drawing.{Coming, Draws}
+pub use Rattle.listings.specs.Asking.{IsPageOf, Lists}
 pub use Rattle.powerbox_match.specs.Descriptor.{DescriptorData}
 pub use Rattle.powerbox_match.specs.Matching.{match_of, same_quality}
 pub use Rattle.powerbox_match.specs.declared.{choices.Choice.Choice, value.Quality.Quality}

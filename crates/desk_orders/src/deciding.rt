@@ -148,6 +148,7 @@ fn carry(
         Command::CloseSession(session) => close_session(state, solved, caller, *session),
         Command::Options(_, _) | Command::Access(_) => unreachable!(),
         Command::Preview(_) | Command::Why(_, _) | Command::Missing(_, _) => unreachable!(),
+        Command::List(_) => unreachable!(),
         Command::Claim { token, permissions } => {
             claim(alloc, state, solved, caller, token, permissions)
         }

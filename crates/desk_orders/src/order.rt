@@ -5,6 +5,7 @@ ghost use Rattle.desk_orders.specs.Commands as commands;
 
 use app_manifest::Manifest;
 use host_base::{AccountId, AppId, Digest, GrainId, GrantId, SessionId};
+use listings::Subject;
 use perm_roles::{Assignment, PermSet};
 use plain_data::Name;
 use powerbox_match::Query;
@@ -101,6 +102,8 @@ pub enum Command {
     Why(GrainId, AccountId),
     /// Which members of a collection are owed a share of what the caller lists there by a link.
     Missing(GrainId, GrantId),
+    /// A page of a list.
+    List(Subject),
     /// A member of a collection gets the share that it is owed in the same way.
     Collect {
         collection: GrainId,

@@ -13,6 +13,7 @@ use crate::order::{Command, Order};
 use crate::reply::Listing;
 use crate::sites::options_of;
 use collections::missing;
+use listings::list;
 use live_access::Solution;
 use report_desk::{access, preview, why};
 use share_graph::{DeskFault, State};
@@ -30,6 +31,7 @@ pub fn lists(order: &Order) -> bool
             | Command::Preview(_)
             | Command::Why(_, _)
             | Command::Missing(_, _)
+            | Command::List(_)
     )
 }
 
@@ -66,6 +68,9 @@ pub fn listing_of<C: SiteDriver + Drop>(
         }
         Command::Missing(collection, link) => {
             missing(alloc, state, solution, caller, *collection, *link).map(Listing::Owed)
+        }
+        Command::List(subject) => {
+            list(alloc, state, solution, caller, *subject).map(Listing::Page)
         }
         _ => unreachable!(),
     }

@@ -1,6 +1,7 @@
 //! What is answered to orders.
 
 use host_base::{AccountId, Bytes, Memory};
+use listings::Page;
 use plain_data::List;
 use report_desk::{Reasons, ReportLines};
 use saved_refs::Listed;
@@ -21,6 +22,8 @@ pub enum Listing {
     Why(Reasons),
     /// Which members of a collection are owed a share, by number.
     Owed(List<AccountId>),
+    /// A page of a list.
+    Page(Page),
 }
 
 /// The answer to an order that was carried out or refused.

@@ -45,11 +45,11 @@ are_slashed [] = true
 are_slashed (([], key) ∷ rest) = false
 are_slashed ((x ∷ t, key) ∷ rest) = (x == 47) && are_slashed rest
 
--- each row goes on with a parameter
+-- each row goes on with what is no digit, as a parameter isn't
 abbrev pub are_wild : Paths → Bool
 are_wild [] = true
 are_wild (([], key) ∷ rest) = false
-are_wild ((x ∷ t, key) ∷ rest) = (x == 256) && are_wild rest
+are_wild ((x ∷ t, key) ∷ rest) = ltb 57 x && are_wild rest
 
 both : (p q : Bool) → p && q ≡ true → (p ≡ true) × (q ≡ true)
 both true true e = (refl, refl)
@@ -62,13 +62,16 @@ same_number x y is = grind (arith, nat_tests, is)
 other_number : (x y : ℕ) → x < y → (y == x) ≡ false
 other_number x y less = grind (arith, nat_tests, less)
 
-step_wild : (d : ℕ) (rows : Paths) → d < 256 → are_wild rows ≡ true → step d rows ≡ []
+above : (x : ℕ) → ltb 57 x ≡ true → 57 < x
+above x is = grind (arith, nat_tests, is)
+
+step_wild : (d : ℕ) (rows : Paths) → d ≤ 57 → are_wild rows ≡ true → step d rows ≡ []
 step_wild d [] small are = refl
 step_wild d (([], key) ∷ rest) small are = cc
 step_wild d ((x ∷ t, key) ∷ rest) small are =
-    let parts = both (x == 256) (are_wild rest) are in
-    let x_is : x ≡ 256 = same_number x 256 parts.0 in
-    rw (x_is, other_number d 256 small) (step_wild d rest small parts.1)
+    let parts = both (ltb 57 x) (are_wild rest) are in
+    let other : d < x = omega (arith, small, above x parts.0) in
+    rw (other_number d x other) (step_wild d rest small parts.1)
 
 digit_bounds : (d : ℕ) → is_ascii_digit d ≡ true → (48 ≤ d) × (d ≤ 57)
 digit_bounds d is = (grind (arith, nat_tests, is), grind (arith, nat_tests, is))
@@ -134,7 +137,7 @@ param_found rows [] more found wild slashed some digits_are digits_some is = abs
 param_found rows (d ∷ ds) more found wild slashed some digits_are digits_some is =
     let parts = both (is_ascii_digit d) (list_all is_ascii_digit ds) digits_are in
     let bounds = digit_bounds d parts.0 in
-    let none : step d rows ≡ [] = step_wild d rows (omega arith) wild in
+    let none : step d rows ≡ [] = step_wild d rows bounds.1 wild in
     let here : param_step (step 256 rows) (d ∷ (ds ++ (47 ∷ more))) ≡ (length (d ∷ ds), step 256 rows) = step_is (step 256 rows) (d ∷ ds) more slashed some digits_are digits_some in
     let less : length (d ∷ ds) - 1 ≡ length ds = omega arith in
     let rest : seek (length (d ∷ ds) - 1) (step 256 rows) (ds ++ (47 ∷ more)) ≡ Some found = rw less (seek_skip ds (47 ∷ more) (step 256 rows) ∙ is) in

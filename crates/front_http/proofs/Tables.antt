@@ -15,9 +15,11 @@ use Rattle.front_http.proofs.Seeking.{Paths, steps, are_slashed, are_wild, numbe
 -- the desk's paths, in the order of its router
 unfoldable desk_table : Paths
 desk_table =
-    (codes "/accounts/" ++ (256 ∷ codes "/admin"), route.AccountAdmin 0)
+    (codes "/accounts/list", route.AccountsList)
+    ∷ (codes "/accounts/" ++ (256 ∷ codes "/admin"), route.AccountAdmin 0)
     ∷ (codes "/accounts/" ++ (256 ∷ codes "/enabled"), route.AccountEnabled 0)
     ∷ (codes "/accounts", route.Accounts)
+    ∷ (codes "/apps/list", route.AppsList)
     ∷ (codes "/apps/" ++ (256 ∷ codes "/upgrade"), route.AppUpgrade 0)
     ∷ (codes "/apps", route.Apps)
     ∷ (codes "/child", route.Child)
@@ -28,6 +30,7 @@ desk_table =
     ∷ (codes "/grains/" ++ (256 ∷ codes "/missing"), route.GrainMissing 0)
     ∷ (codes "/grains/" ++ (256 ∷ codes "/open"), route.GrainOpen 0)
     ∷ (codes "/grains/" ++ (256 ∷ codes "/query"), route.GrainQuery 0)
+    ∷ (codes "/grains/" ++ (256 ∷ codes "/shares"), route.GrainShares 0)
     ∷ (codes "/grains/" ++ (256 ∷ codes "/share"), route.GrainShare 0)
     ∷ (codes "/grains/" ++ (256 ∷ codes "/stop"), route.GrainStop 0)
     ∷ (codes "/grains/" ++ (256 ∷ codes "/token"), route.GrainToken 0)
@@ -38,6 +41,8 @@ desk_table =
     ∷ (codes "/grains", route.Grains)
     ∷ (codes "/grants/" ++ (256 ∷ codes "/preview"), route.GrantPreview 0)
     ∷ (codes "/grants/" ++ (256 ∷ codes "/revoke"), route.GrantRevoke 0)
+    ∷ (codes "/me", route.Me)
+    ∷ (codes "/mine", route.Mine)
     ∷ (codes "/open", route.Open)
     ∷ (codes "/redeem", route.Redeem)
     ∷ (codes "/sessions/" ++ (256 ∷ codes "/close"), route.SessionClose 0)
@@ -102,6 +107,11 @@ desk_path (route.GrainAccess n) path is = desk_numbered (codes "/grains/") (code
 desk_path (route.GrainWhy n) path is = desk_numbered (codes "/grains/") (codes "why") path n (route.GrainWhy 0) refl refl (omega arith) refl is
 desk_path (route.GrainMissing n) path is = desk_numbered (codes "/grains/") (codes "missing") path n (route.GrainMissing 0) refl refl (omega arith) refl is
 desk_path (route.GrainCollect n) path is = desk_numbered (codes "/grains/") (codes "collect") path n (route.GrainCollect 0) refl refl (omega arith) refl is
+desk_path (route.GrainShares n) path is = desk_numbered (codes "/grains/") (codes "shares") path n (route.GrainShares 0) refl refl (omega arith) refl is
+desk_path route.Me path is = desk_fixed (codes "/me") path route.Me refl is
+desk_path route.Mine path is = desk_fixed (codes "/mine") path route.Mine refl is
+desk_path route.AccountsList path is = desk_fixed (codes "/accounts/list") path route.AccountsList refl is
+desk_path route.AppsList path is = desk_fixed (codes "/apps/list") path route.AppsList refl is
 desk_path route.Redeem path is = desk_fixed (codes "/redeem") path route.Redeem refl is
 desk_path (route.GrantRevoke n) path is = desk_numbered (codes "/grants/") (codes "revoke") path n (route.GrantRevoke 0) refl refl (omega arith) refl is
 desk_path (route.GrantPreview n) path is = desk_numbered (codes "/grants/") (codes "preview") path n (route.GrantPreview 0) refl refl (omega arith) refl is

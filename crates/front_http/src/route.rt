@@ -51,6 +51,16 @@ pub enum Route {
     GrainMissing(u32),
     /// `/grains/{n}/collect`
     GrainCollect(u32),
+    /// `/grains/{n}/shares`
+    GrainShares(u32),
+    /// `/me`
+    Me,
+    /// `/mine`
+    Mine,
+    /// `/accounts/list`
+    AccountsList,
+    /// `/apps/list`
+    AppsList,
     /// `/redeem`
     Redeem,
     /// `/grants/{n}/revoke`

@@ -23,7 +23,7 @@ pub enum Texts {
 }
 
 // The desk's paths and those of a running grain, as the router reads them.
-const DESK_PATHS: [(&str, Route); 27] = [
+const DESK_PATHS: [(&str, Route); 32] = [
     ("/accounts", Route::Accounts),
     ("/accounts/{n}/admin", Route::AccountAdmin(0)),
     ("/accounts/{n}/enabled", Route::AccountEnabled(0)),
@@ -44,6 +44,11 @@ const DESK_PATHS: [(&str, Route); 27] = [
     ("/grains/{n}/why", Route::GrainWhy(0)),
     ("/grains/{n}/missing", Route::GrainMissing(0)),
     ("/grains/{n}/collect", Route::GrainCollect(0)),
+    ("/grains/{n}/shares", Route::GrainShares(0)),
+    ("/me", Route::Me),
+    ("/mine", Route::Mine),
+    ("/accounts/list", Route::AccountsList),
+    ("/apps/list", Route::AppsList),
     ("/redeem", Route::Redeem),
     ("/grants/{n}/revoke", Route::GrantRevoke(0)),
     ("/grants/{n}/preview", Route::GrantPreview(0)),
@@ -85,6 +90,11 @@ fn desk_texts(route: Route) -> Texts
         Route::GrainWhy(_) => Texts::Numbered("/grains/", "/why"),
         Route::GrainMissing(_) => Texts::Numbered("/grains/", "/missing"),
         Route::GrainCollect(_) => Texts::Numbered("/grains/", "/collect"),
+        Route::GrainShares(_) => Texts::Numbered("/grains/", "/shares"),
+        Route::Me => Texts::Fixed("/me"),
+        Route::Mine => Texts::Fixed("/mine"),
+        Route::AccountsList => Texts::Fixed("/accounts/list"),
+        Route::AppsList => Texts::Fixed("/apps/list"),
         Route::Redeem => Texts::Fixed("/redeem"),
         Route::GrantRevoke(_) => Texts::Numbered("/grants/", "/revoke"),
         Route::GrantPreview(_) => Texts::Numbered("/grants/", "/preview"),
@@ -132,6 +142,7 @@ fn with_number(route: Route, number: u32) -> Route
         Route::GrainWhy(_) => Route::GrainWhy(number),
         Route::GrainMissing(_) => Route::GrainMissing(number),
         Route::GrainCollect(_) => Route::GrainCollect(number),
+        Route::GrainShares(_) => Route::GrainShares(number),
         Route::GrantRevoke(_) => Route::GrantRevoke(number),
         Route::GrantPreview(_) => Route::GrantPreview(number),
         Route::SessionClose(_) => Route::SessionClose(number),

@@ -13,5 +13,5 @@ mod step;
 pub use asking::{access, preview, why};
 pub use holder::{Holder, ReportLine, ReportLines};
 pub use lines::{access_lines, loss_lines};
-pub use passing::{GivenAs, GivenBy, Passing};
+pub use passing::{GivenAs, GivenBy, Passing, passing_of};
 pub use step::{Reason, ReasonStep, Reasons};

@@ -92,8 +92,8 @@ fn changes_base(assignment: &Assignment) -> bool
     assignment.add.len() > 0 || assignment.remove.len() > 0
 }
 
-// A grant that is there, as it is shown.
-fn passing_of(tables: &Tables, num: GrantId) -> Result<Passing, Memory>
+/// A grant that is there, as it is shown.
+pub fn passing_of(tables: &Tables, num: GrantId) -> Result<Passing, Memory>
     requires coherent { IsCoherent tables.now }
     requires there { HasGrant tables.now num }
     ensures { IfOk result (IsPassing tables.now num) }

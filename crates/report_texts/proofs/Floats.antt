@@ -6,7 +6,7 @@ use Rattle.report_desk.specs.declared.holder.Holder.TheVariants as holder
 use Rattle.report_texts.specs.Terms.{AccountId, Data, Holder, Passing, ReasonStep, ReportLine}
 use Rattle.report_texts.specs.Answers.{access_data, array_of, grant_data, items_of, line_data, line_members, missing_data, number_of, preview_data, shared_data, step_data, why_data}
 
-items_exact : {X : Type 0} (make : X → Data) → ((x : X) → has_float (make x) ≡ false) → (xs : List X) → items_have_float (items_of make xs) ≡ false
+pub items_exact : {X : Type 0} (make : X → Data) → ((x : X) → has_float (make x) ≡ false) → (xs : List X) → items_have_float (items_of make xs) ≡ false
 items_exact make each [] = refl
 items_exact make each (x ∷ xs) = rw (each x) (items_exact make each xs)
 

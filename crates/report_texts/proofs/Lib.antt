@@ -1,3 +1,4 @@
 pub mod Joined
 pub mod Arrays
 pub mod Floats
+pub mod PageFloats

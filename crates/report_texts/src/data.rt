@@ -86,8 +86,8 @@ impl AsJson for ReasonStep {
     }
 }
 
-// An array with each item.
-fn array_value<T: AsJson>(alloc: Global, items: &[T]) -> Result<Value, AllocError>
+/// An array with each item.
+pub(crate) fn array_value<T: AsJson>(alloc: Global, items: &[T]) -> Result<Value, AllocError>
     ensures { IfOk result (λ value. view value ≡ array_of T.shown items.now) }
 {
     let mut values = Vec::new(alloc);

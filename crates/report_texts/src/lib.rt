@@ -3,8 +3,9 @@
 
 mod data;
 mod lines;
+mod pages;
 mod reply;
 mod words;
 
 pub use lines::{access_text, preview_text, shared_text};
-pub use reply::{access_reply, missing_reply, preview_reply, shared_reply, why_reply};
+pub use reply::{access_reply, missing_reply, page_reply, preview_reply, shared_reply, why_reply};

@@ -3,11 +3,14 @@
 ghost use Rattle.std.specs.Prelude.{◌≡◌, false, IfOk};
 ghost use Rattle.serde_json.specs.View.{view};
 ghost use Rattle.serde_json.specs.Written.{has_float};
+ghost use Rattle.report_texts.specs.Pages.{page_data};
 ghost use Rattle.report_texts.specs.Answers.{access_data, data_text, missing_data, preview_data, shared_data, why_data};
 
 use crate::data::{access_value, missing_value, preview_value, shared_value, why_value};
+use crate::pages::page_value;
 use front_http::reply_text;
 use host_base::{AccountId, Bytes, Memory};
+use listings::Page;
 use report_desk::{Reason, ReportLine};
 use serde_json::Value;
 use std::alloc::Global;
@@ -64,5 +67,14 @@ pub fn shared_reply(alloc: Global, made: u64, head_only: bool) -> Result<Bytes, 
     ensures { IfOk result (λ text. text ≡ data_text (shared_data made) head_only) }
 {
     let value = shared_value(alloc, made)?;
+    value_reply(alloc, &value, head_only)
+}
+
+/// The answer to the question for a page of a list.
+#[tactic(auto, using(crate::proofs::PageFloats::page_exact))]
+pub fn page_reply(alloc: Global, page: &Page, head_only: bool) -> Result<Bytes, Memory>
+    ensures { IfOk result (λ text. text ≡ data_text (page_data page.now) head_only) }
+{
+    let value = page_value(alloc, page)?;
     value_reply(alloc, &value, head_only)
 }

@@ -2,10 +2,8 @@
 //! threads' schedule is. The notation is described beside the texts, in `test_player/data/NOTATION.md`.
 
 use crate::gated::answer_beside_commit;
-use crate::halls::serve_halls;
 use crate::shares::share_by_threads;
 use crate::streams::serve_two;
-use crate::tunnels::tunnel_of;
 use std::alloc::Global;
 use std::sync::Wait;
 use std::thread::Threads;
@@ -28,8 +26,6 @@ fn answer_row<R: Threads + Wait + Sync>(rt: &R, alloc: Global, row: &str) -> Res
         }
         "gated" if rest.is_empty() => answer_beside_commit(rt, alloc),
         "streams" if rest.is_empty() => serve_two(rt, alloc),
-        "tunnel" => tunnel_of(rt, alloc, rest),
-        "halls" => serve_halls(rt, alloc, rest),
         _ => Err(Fault::Unreadable),
     }
 }

@@ -9,7 +9,6 @@ mod gate;
 mod gated;
 mod gated_keeper;
 mod given;
-mod halls;
 mod holding;
 mod keeping;
 mod making;
@@ -17,7 +16,6 @@ mod passes;
 mod shares;
 mod states;
 mod streams;
-mod tunnels;
 mod values;
 
 use crate::calls::Calls;

@@ -93,5 +93,20 @@ returns-in-GrainMissing c = states c.args.route (route.GrainMissing c.in-GrainMi
 pub returns-in-GrainCollect : goal.returns-in-GrainCollect
 returns-in-GrainCollect c = states c.args.route (route.GrainCollect c.in-GrainCollect.num) c.args.who c.args.body.now _ c.collection.result c.in-GrainCollect.is refl c.collection.ensures
 
+pub returns-in-GrainShares : goal.returns-in-GrainShares
+returns-in-GrainShares c = states c.args.route (route.GrainShares c.in-GrainShares.num) c.args.who c.args.body.now _ c.page.result c.in-GrainShares.is refl c.page.ensures
+
+pub returns-in-Me : goal.returns-in-Me
+returns-in-Me c = states c.args.route route.Me c.args.who c.args.body.now _ c.plain-in-Me.result c.in-Me.is refl c.plain-in-Me.ensures
+
+pub returns-in-Mine : goal.returns-in-Mine
+returns-in-Mine c = states c.args.route route.Mine c.args.who c.args.body.now _ c.page-in-Mine.result c.in-Mine.is refl c.page-in-Mine.ensures
+
+pub returns-in-AccountsList : goal.returns-in-AccountsList
+returns-in-AccountsList c = states c.args.route route.AccountsList c.args.who c.args.body.now _ c.page-in-AccountsList.result c.in-AccountsList.is refl c.page-in-AccountsList.ensures
+
+pub returns-in-AppsList : goal.returns-in-AppsList
+returns-in-AppsList c = states c.args.route route.AppsList c.args.who c.args.body.now _ c.page-in-AppsList.result c.in-AppsList.is refl c.page-in-AppsList.ensures
+
 pub returns-in-GrantPreview : goal.returns-in-GrantPreview
 returns-in-GrantPreview c = states c.args.route (route.GrantPreview c.in-GrantPreview.num) c.args.who c.args.body.now _ c.plain-in-GrantPreview.result c.in-GrantPreview.is refl c.plain-in-GrantPreview.ensures

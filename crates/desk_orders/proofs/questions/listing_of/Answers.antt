@@ -1,4 +1,5 @@
 use Rattle.collections.specs.Members.{IsPlanFor}
+use Rattle.listings.specs.Asking.{IsPageOf}
 use Rattle.report_desk.specs.Lines.{AreAccessLines, AreLossLines}
 use Rattle.report_desk.specs.Reasons.{AreReasons}
 use Rattle.desk_orders.specs.Sites.{AreListed}
@@ -33,6 +34,11 @@ returns-in-Missing-clause-listed g c =
     answered_by g.C.Law.SiteLaw.law c.args.state.now c.order.inside.caller (command.Missing c.in-Missing.collection c.in-Missing.link) (IsPlanFor c.args.state.now c.order.inside.caller c.in-Missing.collection c.in-Missing.link) listing.Owed (λ told are. are)
     c.order.inside.command c.in-Missing.is c.args.order.now c.order.view_is c.missing.result c.map-in-Missing.result c.map-in-Missing.ensures.cases c.missing.ensures.row
 
+pub returns-in-List-clause-listed : goal.returns-in-List-clause-listed
+returns-in-List-clause-listed g c =
+    answered_by g.C.Law.SiteLaw.law c.args.state.now c.order.inside.caller (command.List c.in-List.subject) (IsPageOf c.args.state.now c.order.inside.caller c.in-List.subject) listing.Page (λ told are. are)
+    c.order.inside.command c.in-List.is c.args.order.now c.order.view_is c.list.result c.map-in-List.result c.map-in-List.ensures.cases c.list.ensures.row
+
 pub returns-in-Options-clause-one : goal.returns-in-Options-clause-one
 returns-in-Options-clause-one g c = λ one n query. listed_one g.C.Law.SiteLaw.law one query c.args.state.now c.requires.formed c.args.order.now.caller n
 
@@ -47,3 +53,6 @@ returns-in-Why-clause-one g c = λ one n query. listed_one g.C.Law.SiteLaw.law o
 
 pub returns-in-Missing-clause-one : goal.returns-in-Missing-clause-one
 returns-in-Missing-clause-one g c = λ one n query. listed_one g.C.Law.SiteLaw.law one query c.args.state.now c.requires.formed c.args.order.now.caller n
+
+pub returns-in-List-clause-one : goal.returns-in-List-clause-one
+returns-in-List-clause-one g c = λ one n query. listed_one g.C.Law.SiteLaw.law one query c.args.state.now c.requires.formed c.args.order.now.caller n

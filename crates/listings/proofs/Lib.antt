@@ -1,0 +1,4 @@
+pub mod OneRows
+pub mod Chosen
+pub mod Paged
+pub mod Running
