@@ -7,7 +7,7 @@ import tempfile
 import time
 import traceback
 
-from served import Server, Started, Workplace, end_in_order, exchange, words_of
+from served import PATIENCE, PAUSE, Server, Started, Workplace, end_in_order, exchange, words_of
 from trials.talk import Talk
 from trials.tally import Tally
 
@@ -64,6 +64,13 @@ class Bench:
         """The words of the processes that are left."""
         return sorted(" ".join(words_of(process)) for process in self.place.left())
 
+    def left_at_last(self):
+        """The words of the processes that don't end by themselves: the programs of a server that was killed end a moment behind it."""
+        end = time.monotonic() + PATIENCE
+        while (words := self.left()) and time.monotonic() < end:
+            time.sleep(PAUSE)
+        return words
+
     def play(self, title, trial):
         """Plays the rows of a trial, which leaves no process; one that breaks off is a row that failed."""
         began, counted = time.monotonic(), self.tally.passed + self.tally.failed
@@ -74,7 +81,7 @@ class Bench:
             frames = traceback.extract_tb(error.__traceback__)
             at = [frame for frame in frames if f"/trials/{trial.__module__.rpartition('.')[2]}.py" in frame.filename][-1]
             self.tally.differs("the trial broke off", f"no error at: {at.line}", f"{type(error).__name__}: {error}")
-        self.same("no process is left", [], self.left())
+        self.same("no process is left", [], self.left_at_last())
         self.place.clear()
         print(f"{title}: {self.tally.passed + self.tally.failed - counted} rows, {time.monotonic() - began:.1f} s", flush=True)
 
