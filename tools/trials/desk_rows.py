@@ -153,7 +153,7 @@ ADA_LINKS = [
     Darkens("in the dark", True),
     Pictures("dark", "#mine"),
     Darkens("in the light", False),
-    Complains("what the browser has complained of", [UNKNOWN.format("login"), told("me", "401 (Unauthorized)"), UNKNOWN.format("mine/trash")]),
+    Complains("what the browser has complained of", [told("me", "401 (Unauthorized)"), UNKNOWN.format("mine/trash")]),
 ]
 
 BEN_REDEEMS = [
@@ -165,7 +165,7 @@ BEN_REDEEMS = [
     PHONE,
     Pictures("phone", "#shared-title"),
     WIDE,
-    Complains("what the browser has complained of", sorted([*REFUSED, *(UNKNOWN.format(path) for path in ("login", "mine/trash"))])),
+    Complains("what the browser has complained of", sorted([*REFUSED, UNKNOWN.format("mine/trash")])),
     Clicks("he signs out", "#leave"),
     Sees("that is said", "#login-answer", ["You are signed out. Grains that are open in tabs stay open."]),
     Sees("and nothing is shown", "#view-grains h2", []),
@@ -186,9 +186,32 @@ ADMIN = [
     Clicks("Ben is disabled", "#enabled-3"),
     Sees("that is said", "#said", ["The account of Ben \u00c5s was changed."]),
     Pictures("admin", "#accounts"),
-    Clicks("she signs out", "#leave"),
+    Clicks("Ada lost her login", "#login-2"),
+    Clicks("she gets a new one", "#sure-yes"),
+    Reads("it is shown once", "#secret-text", "ada_again"),
+    Clicks("it was taken", "#secret-done"),
+    Clicks("the admin signs out", "#leave"),
     *signing_in("eva", "Eva Lind (eva)"),
-    Sees("the new login works", "#mine", ["You have no grains yet."]),
+    Sees("the new account's login works", "#mine", ["You have no grains yet."]),
+]
+
+EVA_RENEWS = [
+    Clicks("her account", "nav a[href='#account']"),
+    Clicks("another login", "#new-login"),
+    Pictures("renew", "#sure"),
+    Clicks("it is wanted", "#sure-yes"),
+    Reads("it is shown once", "#secret-text", "eva_again"),
+    Clicks("it was taken", "#secret-done"),
+    Sees("it isn't shown any more", "#secret-text", []),
+    Clicks("she signs out", "#leave"),
+    Types("the old login", "#login", "$eva"),
+    Clicks("it is shown", "#login-form button.first"),
+    Sees("it is refused in words", "#login-answer", ["This login is worth nothing, or no more. Sign in with another one."]),
+    *signing_in("eva_again", "Eva Lind (eva)"),
+    Clicks("she signs out", "#leave"),
+    *signing_in("ada_again", "Ada Holm (ada)"),
+    Clicks("her grains", "nav a[href='#grains']"),
+    Sees("what is Ada's is there", "#mine h3", ["Minutes", "The next meeting", "Papers", "Agenda"]),
 ]
 
 BEGINNING = SETTING_UP
@@ -196,4 +219,5 @@ BEGINNING = SETTING_UP
 PARTS = [
     ("ada", "ada makes a grain, and shares it", ADA_MAKES), ("ben", "ben looks at it", BEN_LOOKS), ("ada", "ada takes it back", ADA_REVOKES),
     ("ben", "ben is refused", BEN_IS_REFUSED), ("ada", "ada makes a link", ADA_LINKS), ("ben", "ben redeems it", BEN_REDEEMS), ("ben", "an admin", ADMIN),
+    ("ben", "eva renews her login", EVA_RENEWS),
 ]

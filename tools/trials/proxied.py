@@ -1,7 +1,5 @@
 """A server behind a proxy, by the configurations of docs/proxy: its clients speak TLS to the proxy, which alone speaks to the server."""
-import base64
 import contextlib
-import hashlib
 import os
 import re
 import signal
@@ -12,8 +10,9 @@ from typing import NamedTuple
 
 from served import Connection, Port, request_text, until
 from trials import proxy_rows as rows
+from trials.desk_text import is_page
 from trials.hostile import in_place_of
-from trials.proxies import DOMAIN, PAGE, Caddy, Nginx
+from trials.proxies import DOMAIN, Caddy, Nginx
 from trials.rows import ADMIN
 from trials.talk import Plain, Relayed, Talk, asked
 from trials.tunnel_rows import ASKING, BEN, BETWEEN, LOST, REVOKED, SETTING_OUT, closed, pong, relayed, said, text
@@ -123,21 +122,9 @@ def finish(bench, talk):
     until("the end of the proxy's processes", lambda: not bench.place.left())
 
 
-def sum_in(text, tag):
-    """The sum of what stands in an element of a page, as a policy has it."""
-    (found,) = re.findall(f"<{tag}>(.*?)</{tag}>", text, re.DOTALL)
-    return f"'sha256-{base64.b64encode(hashlib.sha256(found.encode()).digest()).decode()}'"
-
-
 def page(bench, talk):
-    """The desk's page, with a policy that lets it have its own script and style, and nothing else."""
-    with open(os.path.join(PAGE, "index.html"), encoding="utf-8") as file:
-        text = file.read()
-    head, _, body = talk.exchange(talk.name("desk"), request_text("GET", talk.name("desk"), "/")).decode().partition("\r\n\r\n")
-    bench.same("the desk's page", text, body)
-    policies = re.findall(r"(?im)^content-security-policy: (.*?)\r?$", head)
-    own = f"script-src {sum_in(text, 'script')}; style-src {sum_in(text, 'style')}"
-    bench.same("its policy", [f"default-src 'none'; {rows.ALLOWED}; {own}"], policies)
+    """The desk's page, with its own lines."""
+    is_page(bench.same, talk.exchange(talk.name("desk"), request_text("GET", talk.name("desk"), "/")))
 
 
 def posted(talk, body):

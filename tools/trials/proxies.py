@@ -8,8 +8,6 @@ import subprocess
 from served import Connection, Started, listeners_on, until
 
 PAGES = os.path.join(os.path.dirname(os.path.dirname(os.path.dirname(os.path.realpath(__file__)))), "docs", "proxy")
-# The folder of the desk's page.
-PAGE = os.path.join(os.path.dirname(os.path.dirname(PAGES)), "page")
 # The domain that the configurations name.
 DOMAIN = "club.example"
 # What stands around the part of nginx's configuration that is tried: all that is made goes into its folder.
@@ -72,7 +70,7 @@ class Proxy(Started):
         self.folder, self.port, self.held = folder, port.number, port
         self.certificate, key = certify(folder)
         ports = {"127.0.0.1:8080": f"127.0.0.1:{server.port}", "127.0.0.1:8081": f"127.0.0.1:{server.tunnels}"}
-        paths = {f"/etc/ssl/certs/{DOMAIN}.pem": self.certificate, f"/etc/ssl/private/{DOMAIN}.key": key, "/usr/share/lumbyte/page": PAGE}
+        paths = {f"/etc/ssl/certs/{DOMAIN}.pem": self.certificate, f"/etc/ssl/private/{DOMAIN}.key": key}
         words = self.words(program_named(self.name), {**ports, **paths})
         self.context = ssl.create_default_context(cafile=self.certificate)
         super().__init__(words[0], words[1:], folder)

@@ -45,6 +45,3 @@ HOSTS = [
     Ask("its bearer", "link", "GET api/notes", None, 200, asked("GET /notes", None, "view,edit")),
     Ask("a run's token that is none", "link", "POST grain/drop", '{"token":"a"}', 401, NO_KEY),
 ]
-
-# What the policy of the desk's page allows beside its own script and style.
-ALLOWED = "connect-src 'self'; img-src data:; base-uri 'none'; form-action 'none'; frame-ancestors 'none'"

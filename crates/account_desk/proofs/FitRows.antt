@@ -1,21 +1,21 @@
 -- The changes of each command fit.
-use Rattle.std.proofs.Common.{◌≡◌, ℕ, Bool, true, false, List, refl}
+use Rattle.std.proofs.Common.{◌≡◌, ℕ, Bool, true, false, List, Option, Some, None, refl}
 use Rattle.app_manifest.proofs.Kept.{fits_without_fault}
 use Rattle.desk_base.specs.Terms.{Account, AccountId, AppId, Caller, Event, EventFits, GrainId, HasAccount, is_handle}
 use Rattle.desk_base.specs.Terms.{IsSoundManifest, IsWellFormed, Manifest, State}
-use Rattle.share_graph.specs.declared.event.Event.TheVariants.{AccountAdded, AppAdded, AppUpgraded, GrainAdded, AdminSet, EnabledSet, TrashedSet}
+use Rattle.share_graph.specs.declared.event.Event.TheVariants.{AccountAdded, AppAdded, AppUpgraded, GrainAdded, AdminSet, EnabledSet, LoginSet, TrashedSet}
 use Rattle.share_graph.specs.declared.fault.Kind.TheVariants as kind
-use Rattle.state_step.proofs.AccountLaws.{account_added_fits, admin_set_fits, enabled_set_fits}
+use Rattle.state_step.proofs.AccountLaws.{account_added_fits, admin_set_fits, enabled_set_fits, login_set_fits}
 use Rattle.state_step.proofs.AppLaws.{app_added_fits, app_upgraded_fits}
 use Rattle.state_step.proofs.GrainLaws.{grain_added_fits, trashed_set_fits}
 use Rattle.desk_base.specs.Fitting.{RowFits, StartsNoRun}
-use Rattle.desk_base.specs.Made.{nothing_made, made_account, made_app, made_grain}
+use Rattle.desk_base.specs.Made.{nothing_made, shown_account, made_account, made_app, made_grain}
 use Rattle.desk_base.specs.Steps.{Step, Drawn}
 use Rattle.desk_base.specs.Wording.{by_admin}
 use Rattle.desk_base.proofs.FitForms.{when_fits, unless_fits, must_fits, found_fits, some_fits, adds_fits, plain_adds}
 use Rattle.desk_base.proofs.Room.{room_of}
 use Rattle.desk_base.proofs.Words.{listed_account}
-use Rattle.account_desk.specs.Commands.{AddAccount, SetMark, SetAdmin, SetEnabled, AddApp, UpgradeApp, NewGrain, Trash}
+use Rattle.account_desk.specs.Commands.{AddAccount, RenewLogin, SetMark, SetAdmin, SetEnabled, AddApp, UpgradeApp, NewGrain, Trash}
 use Rattle.account_desk.specs.Rows.{new_account, new_app, new_grain}
 
 module _ (s : State) (formed : IsWellFormed s) (who : Caller) where
@@ -29,6 +29,18 @@ module _ (s : State) (formed : IsWellFormed s) (who : Caller) where
       adds_fits s (Drawn λ d. AccountAdded (new_account s.tables handle name d)) (made_account s.tables) λ room d unused.
       account_added_fits s formed (new_account s.tables handle name d)
       (record { num = refl; room = room_of kind.Account 4096 _ room; formed = named; free = free; unused = unused })
+
+  pub renew_login_fits : (num : Option AccountId) → RowFits s true (RenewLogin s who num)
+  renew_login_fits None =
+      some_fits s tt λ account is.
+      unless_fits s tt λ enabled.
+      adds_fits s (Drawn λ d. LoginSet account.num d) (shown_account account.num.0) λ room d unused.
+      login_set_fits s formed account.num d (record { changed = listed_account s formed account is.listed; unused = unused })
+  renew_login_fits (Some a) =
+      admin_fits λ admin.
+      found_fits s tt λ account there.
+      adds_fits s (Drawn λ d. LoginSet a d) (shown_account a.0) λ room d unused.
+      login_set_fits s formed a d (record { changed = (account, there); unused = unused })
 
   mark_fits : (mark : Account → Bool) (event : AccountId → Bool → Event) (a : AccountId) (on : Bool) → StartsNoRun (event a on) → (HasAccount s.tables a → EventFits s (event a on))
       → RowFits s false (SetMark mark event s who a on)

@@ -1,5 +1,5 @@
 -- Of each command the machine makes one thing at the most. A proof goes along the row, check by check.
-use Rattle.std.proofs.Common.{◌≡◌, ◌+◌, ◌∙◌, ℕ, Bool, List, Some, None, sym, ap}
+use Rattle.std.proofs.Common.{◌≡◌, ◌+◌, ◌∙◌, ℕ, Bool, List, Option, Some, None, sym, ap}
 use Rattle.std.proofs.lemmas.Option.{same_Some}
 use Rattle.app_manifest.specs.declared.fault.ManifestFault.{ManifestFault}
 use Rattle.desk_base.specs.Terms.{Account, AccountId, AppId, Caller, Event, GrainId, HasHandle, IsOne, IsOneOf}
@@ -13,7 +13,7 @@ use Rattle.state_step.proofs.Sound.{sound_of}
 use Rattle.desk_base.specs.Steps.{refusing}
 use Rattle.desk_base.proofs.GivenRoles.{refusing_one}
 use Rattle.desk_base.proofs.OneWord.{by_account_one, by_admin_one, known_account_one, known_app_one, known_grain_one, adds_one}
-use Rattle.account_desk.specs.Commands.{AddAccount, SetMark, SetAdmin, SetEnabled, AddApp, UpgradeApp, NewGrain, Trash}
+use Rattle.account_desk.specs.Commands.{AddAccount, RenewLogin, SetMark, SetAdmin, SetEnabled, AddApp, UpgradeApp, NewGrain, Trash}
 use Rattle.account_desk.specs.Rows.{HasUpgradeFault, IsTaken}
 
 module _ (s : State) (formed : IsWellFormed s) where
@@ -35,6 +35,13 @@ module _ (s : State) (formed : IsWellFormed s) (who : Caller) where
   add_account_one handle name =
       by_admin_one s formed who λ admin.
       must_one (λ step free taken. free taken.2.0 taken.2.2.listed taken.2.2.is) (taken_one s formed handle) (adds_one s _)
+
+  pub renew_login_one : (num : Option AccountId) → IsOne (RenewLogin s who num)
+  renew_login_one None = by_account_one s formed who λ account. adds_one s _
+  renew_login_one (Some a) =
+      by_admin_one s formed who λ admin.
+      known_account_one s a λ account.
+      adds_one s _
 
   mark_one : (mark : Account → Bool) (event : AccountId → Bool → Event) (a : AccountId) (on : Bool) → IsOne (SetMark mark event s who a on)
   mark_one mark event a on =

@@ -1,12 +1,12 @@
--- THE COMMANDS on accounts, applications and grains. Each definition reads like its row of the table of commands.
-use Rattle.std.specs.Prelude.{◌≡◌, ℕ, Bool, List, None}
+-- THE COMMANDS on accounts and their logins, applications and grains. Each definition reads like its row of the table of commands.
+use Rattle.std.specs.Prelude.{◌≡◌, ℕ, Bool, List, Option, Some, None}
 use Rattle.app_manifest.specs.Upgrade.{upgrade_fault}
 use Rattle.desk_base.specs.Terms.{Account, AccountId, AppId, Caller, Event, GrainId, HasHandle, IsNoneOf, Manifest}
 use Rattle.desk_base.specs.Terms.{must◌or◌then◌, State, Tables, unless◌then◌else◌, when◌then◌else◌}
-use Rattle.share_graph.specs.declared.event.Event.TheVariants.{AccountAdded, AppAdded, AppUpgraded, GrainAdded, AdminSet, EnabledSet, TrashedSet}
+use Rattle.share_graph.specs.declared.event.Event.TheVariants.{AccountAdded, AppAdded, AppUpgraded, GrainAdded, AdminSet, EnabledSet, LoginSet, TrashedSet}
 use Rattle.share_graph.specs.declared.refusal.Refusal.TheVariants.{LastAdmin, NotOwner}
 use Rattle.desk_base.specs.Limits.{adds}
-use Rattle.desk_base.specs.Made.{nothing_made, made_account, made_app, made_grain}
+use Rattle.desk_base.specs.Made.{nothing_made, shown_account, made_account, made_app, made_grain}
 use Rattle.desk_base.specs.Steps.{Step, Refuses, Keeps, Makes, Plain, Drawn, refusing}
 use Rattle.desk_base.specs.Wording.{by_account, by_admin, known_account, known_app, known_grain}
 use Rattle.account_desk.specs.Rows.{new_account, new_app, new_grain, HasUpgradeFault, IsTaken, LeavesNoAdmin}
@@ -27,6 +27,19 @@ AddAccount s who handle name =
     by_admin s who λ admin.
     must IsNoneOf s.tables.accounts (HasHandle handle) or refusing (IsTaken s.tables handle) then
     adds s (account_step s.tables handle name)
+
+-- renew_login: of the caller's own account, or by an admin: NotAdmin; Unknown(1, a)
+abbrev pub login_step : AccountId → Step
+login_step a = Makes (Drawn λ d. LoginSet a d) (shown_account a.0)
+
+abbrev pub RenewLogin : State → Caller → Option AccountId → Step → Type 0
+RenewLogin s who None =
+    by_account s who λ account.
+    adds s (login_step account.num)
+RenewLogin s who (Some a) =
+    by_admin s who λ admin.
+    known_account s a λ account.
+    adds s (login_step a)
 
 -- a mark of an account is set: NotAdmin; Unknown(1, a); same where it is so; LastAdmin where no enabled admin would be left
 abbrev pub SetMark : (Account → Bool) → (AccountId → Bool → Event) → State → Caller → AccountId → Bool → Step → Type 0

@@ -82,7 +82,6 @@ module _ (law : Law) (count tunnels status : ℕ) (old : Outside) (out : Outlet)
       → new ≡ record old { outlet = new.outlet; holds = new.holds; doorway = new.doorway; hallway = new.hallway } → ServesFrom law count tunnels may_leave old new status
   serves_from may_leave new told zero tells le le' served others =
       let first = subst (λ (n : ℕ). Tells old.outlet out (login_line login) 0 n) zero tells in
-      let (added, stay) = logins_stay (opened tables) served.history in
       record {
         tables = tables;
         login = login;
@@ -90,8 +89,7 @@ module _ (law : Law) (count tunnels status : ℕ) (old : Outside) (out : Outlet)
         history = served.history;
         stored = served.stored;
         outlive = served.outlive;
-        added = added;
-        logins_stay = stay;
+        logins_stay = logins_stay (opened tables) served.history;
         drew = (drawer.coming, begins.drew, (served.kept.drawn, served.kept.draws));
         spawned = served.kept.spawned;
         counts = record {
@@ -107,7 +105,6 @@ module _ (law : Law) (count tunnels status : ℕ) (old : Outside) (out : Outlet)
   -- the login couldn't be printed
   pub stops_at_login : (may_leave : List Row → Type 0) → OutliveStops keeping may_leave → Tells old.outlet out (login_line login) 0 status → status ≡ 5 → ServesFrom law count tunnels may_leave old (record old { outlet = out; holds = held }) status
   stops_at_login may_leave outlive told five =
-      let (added, stay) = logins_stay (opened tables) [] in
       let none = kept_none (opened tables) old.holds in
       record {
         tables = tables;
@@ -116,8 +113,7 @@ module _ (law : Law) (count tunnels status : ℕ) (old : Outside) (out : Outlet)
         history = [];
         stored = begins.stored;
         outlive = outlive;
-        added = added;
-        logins_stay = stay;
+        logins_stay = logins_stay (opened tables) [];
         drew = (drawer.coming, begins.drew, ([], refl));
         spawned = none.spawned;
         counts = record { store = begins.store_counts; secrets = begins.secrets_count; starts = none.counts.starts; clean = begins.clean };

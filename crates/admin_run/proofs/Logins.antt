@@ -1,66 +1,77 @@
--- The accounts keep their logins.
-use Rattle.std.proofs.Common.{◌≡◌, ◌∙◌, ℕ, zero, suc, List, [], ◌∷◌, ◌++◌, map, refl, ap}
-use Rattle.std.proofs.lemmas.List.{map-append}
+-- The accounts keep their logins, unless they are given others.
+use Rattle.std.proofs.Common.{◌≡◌, ◌≢◌, ◌∙◌, ℕ, List, [], ◌∷◌, ◌++◌, Some, refl, sym, subst, ap, inl, inr}
+use Rattle.std.specs.List.{AllByRecursion}
 use Rattle.host_base.specs.declared.digest.Digest.{Digest}
+use Rattle.host_base.specs.declared.ids.AccountId.{AccountId}
 use Rattle.share_graph.specs.declared.rows.Account.{Account}
 use Rattle.share_graph.specs.declared.event.Event.{Event}
 use Rattle.share_graph.specs.declared.event.Event.TheVariants as event
 use Rattle.share_graph.specs.declared.state.State.{State}
-use Rattle.share_graph.specs.Changing.{change, change_row}
+use Rattle.share_graph.specs.Changing.{change_row}
 use Rattle.share_graph.specs.History.{after, replay}
-use Rattle.share_graph.specs.Setting.{with_admin, with_enabled}
-use Rattle.admin_run.specs.Serving.{logins}
+use Rattle.share_graph.specs.Rows.{row, IsAccount}
+use Rattle.share_graph.specs.Setting.{with_admin, with_enabled, with_login}
+use Rattle.share_graph.proofs.Marked.{change_row_other, row_changed, same_number}
+use Rattle.state_step.proofs.Each.{push_old_row}
+use Rattle.admin_run.specs.Serving.{KeepLogins, LeavesLogin}
 
-abbrev login_of : Account → Digest
-login_of account = account.login
+-- an account after an event: with its login, unless the event gives it another one
+abbrev Stays : State → Event → AccountId → Account → Type 0
+Stays s e a account = (now : Account) × IsAccount (after s e).tables a now × (LeavesLogin a e → now.login ≡ account.login)
 
-change_keeps : (f : Account → Account) → ((a : Account) → login_of (f a) ≡ login_of a) → (rows : List Account) (i : ℕ) → map login_of (change f rows i) ≡ map login_of rows
-change_keeps f same [] i = refl
-change_keeps f same (row ∷ rows) zero = ap (λ d. d ∷ map login_of rows) (same row)
-change_keeps f same (row ∷ rows) (suc i) = ap (λ ds. login_of row ∷ ds) (change_keeps f same rows i)
+-- a change of the row of a number that keeps logins
+kept : (f : Account → Account) → ((x : Account) → (f x).login ≡ x.login) → (rows : List Account) (n : ℕ) (a : AccountId) (account : Account) → row rows a.0 ≡ Some account
+    → (now : Account) × (row (change_row f rows n) a.0 ≡ Some now) × (now.login ≡ account.login)
+kept f keeps rows n a account is = elim (same_number a.0 n) [
+  | inl same ↦
+      let there : row rows n ≡ Some account = subst (λ (k : ℕ). row rows k ≡ Some account) same is in
+      (f account, subst (λ (k : ℕ). row (change_row f rows n) k ≡ Some (f account)) (sym same) (row_changed f rows n account there), keeps account)
+  | inr apart ↦ (account, change_row_other f rows n a.0 apart ∙ is, refl)
+]
 
-row_keeps : (f : Account → Account) → ((a : Account) → login_of (f a) ≡ login_of a) → (rows : List Account) (n : ℕ) → map login_of (change_row f rows n) ≡ map login_of rows
-row_keeps f same rows zero = refl
-row_keeps f same rows (suc i) = change_keeps f same rows i
+same_account : (a b : AccountId) → a.0 ≡ b.0 → b ≡ a
+same_account a b same = sym (ap (λ (n : ℕ). let i : AccountId = record { 0 = n } in i) same)
 
-nothing_more : (ds : List Digest) → ds ≡ ds ++ []
-nothing_more [] = refl
-nothing_more (d ∷ ds) = ap (λ xs. d ∷ xs) (nothing_more ds)
+-- a login that is set is that of the account alone
+set : (rows : List Account) (b : AccountId) (login : Digest) (a : AccountId) (account : Account) → row rows a.0 ≡ Some account
+    → (now : Account) × (row (change_row (with_login login) rows b.0) a.0 ≡ Some now) × (b ≢ a → now.login ≡ account.login)
+set rows b login a account is = elim (same_number a.0 b.0) [
+  | inl same ↦
+      let there : row rows b.0 ≡ Some account = subst (λ (k : ℕ). row rows k ≡ Some account) same is in (
+        with_login login account,
+        subst (λ (k : ℕ). row (change_row (with_login login) rows b.0) k ≡ Some (with_login login account)) (sym same) (row_changed (with_login login) rows b.0 account there),
+        (λ other. absurd (other (same_account a b same))),
+      )
+  | inr apart ↦ (account, change_row_other (with_login login) rows b.0 a.0 apart ∙ is, (λ other. refl))
+]
 
--- The logins of one state begin with those of another.
-abbrev Stay : State → State → Type 0
-Stay s t = (more : List Digest) × (logins t.tables ≡ logins s.tables ++ more)
+still : (s : State) (e : Event) (a : AccountId) (account : Account) → IsAccount (after s e).tables a account → Stays s e a account
+still s e a account is = (account, is, (λ leaves. refl))
 
-still : (s t : State) → logins t.tables ≡ logins s.tables → Stay s t
-still s t same = ([], same ∙ nothing_more (logins s.tables))
+stays_after : (s : State) (e : Event) (a : AccountId) (account : Account) → IsAccount s.tables a account → Stays s e a account
+stays_after s (event.AccountAdded new) a account is = still s (event.AccountAdded new) a account (push_old_row s.tables.accounts (new ∷ []) a.0 account is)
+stays_after s (event.AdminSet b on) a account is = let (now, there, same) = kept (with_admin on) (λ x. refl) s.tables.accounts b.0 a account is in (now, there, (λ leaves. same))
+stays_after s (event.EnabledSet b on) a account is = let (now, there, same) = kept (with_enabled on) (λ x. refl) s.tables.accounts b.0 a account is in (now, there, (λ leaves. same))
+stays_after s (event.LoginSet b login) a account is = set s.tables.accounts b login a account is
+stays_after s (event.AppAdded app) a account is = still s (event.AppAdded app) a account is
+stays_after s (event.AppUpgraded p manifest) a account is = still s (event.AppUpgraded p manifest) a account is
+stays_after s (event.GrainAdded grain) a account is = still s (event.GrainAdded grain) a account is
+stays_after s (event.GrantAdded grant) a account is = still s (event.GrantAdded grant) a account is
+stays_after s (event.SavedAdded saved) a account is = still s (event.SavedAdded saved) a account is
+stays_after s (event.TrashedSet n on) a account is = still s (event.TrashedSet n on) a account is
+stays_after s (event.GrantRevoked g) a account is = still s (event.GrantRevoked g) a account is
+stays_after s (event.SavedDropped v) a account is = still s (event.SavedDropped v) a account is
+stays_after s (event.Claimed grant handle) a account is = still s (event.Claimed grant handle) a account is
+stays_after s (event.RunStarted run) a account is = still s (event.RunStarted run) a account is
+stays_after s (event.RunStopped r) a account is = still s (event.RunStopped r) a account is
+stays_after s (event.SessionOpened session) a account is = still s (event.SessionOpened session) a account is
+stays_after s (event.SessionClosed n) a account is = still s (event.SessionClosed n) a account is
+stays_after s (event.HandleMade handle) a account is = still s (event.HandleMade handle) a account is
+stays_after s (event.Ticked m) a account is = still s (event.Ticked m) a account is
 
-stay_after : (s : State) (e : Event) → Stay s (after s e)
-stay_after s (event.AccountAdded account) = (account.login ∷ [], map-append login_of s.tables.accounts (account ∷ []))
-stay_after s (event.AdminSet a on) = still s (after s (event.AdminSet a on)) (row_keeps (with_admin on) (λ account. refl) s.tables.accounts a.0)
-stay_after s (event.EnabledSet a on) = still s (after s (event.EnabledSet a on)) (row_keeps (with_enabled on) (λ account. refl) s.tables.accounts a.0)
-stay_after s (event.AppAdded app) = still s (after s (event.AppAdded app)) refl
-stay_after s (event.AppUpgraded p manifest) = still s (after s (event.AppUpgraded p manifest)) refl
-stay_after s (event.GrainAdded grain) = still s (after s (event.GrainAdded grain)) refl
-stay_after s (event.GrantAdded grant) = still s (after s (event.GrantAdded grant)) refl
-stay_after s (event.SavedAdded saved) = still s (after s (event.SavedAdded saved)) refl
-stay_after s (event.TrashedSet n on) = still s (after s (event.TrashedSet n on)) refl
-stay_after s (event.GrantRevoked g) = still s (after s (event.GrantRevoked g)) refl
-stay_after s (event.SavedDropped v) = still s (after s (event.SavedDropped v)) refl
-stay_after s (event.Claimed grant handle) = still s (after s (event.Claimed grant handle)) refl
-stay_after s (event.RunStarted run) = still s (after s (event.RunStarted run)) refl
-stay_after s (event.RunStopped r) = still s (after s (event.RunStopped r)) refl
-stay_after s (event.SessionOpened session) = still s (after s (event.SessionOpened session)) refl
-stay_after s (event.SessionClosed n) = still s (after s (event.SessionClosed n)) refl
-stay_after s (event.HandleMade handle) = still s (after s (event.HandleMade handle)) refl
-stay_after s (event.Ticked m) = still s (after s (event.Ticked m)) refl
-
-append_assoc : (xs ys zs : List Digest) → (xs ++ ys) ++ zs ≡ xs ++ (ys ++ zs)
-append_assoc [] ys zs = refl
-append_assoc (x ∷ xs) ys zs = ap (λ ds. x ∷ ds) (append_assoc xs ys zs)
-
-pub logins_stay : (s : State) (events : List Event) → (more : List Digest) × (logins (replay s events).tables ≡ logins s.tables ++ more)
-logins_stay s [] = ([], nothing_more (logins s.tables))
-logins_stay s (e ∷ events) =
-    let (one, first) = stay_after s e in
-    let (more, rest) = logins_stay (after s e) events in
-    (one ++ more, rest ∙ (ap (λ ds. ds ++ more) first ∙ append_assoc (logins s.tables) one more))
+pub logins_stay : (s : State) (events : List Event) → KeepLogins s.tables events (replay s events).tables
+logins_stay s [] a account is = (account, is, (λ leave. refl))
+logins_stay s (e ∷ events) a account is =
+    let (between, there, first) = stays_after s e a account is in
+    let (now, at_end, rest) = logins_stay (after s e) events a between there in
+    (now, at_end, (λ leave. rest leave.1 ∙ first leave.0))

@@ -1,7 +1,9 @@
 -- What `serve` does, by its two ends.
-use Rattle.std.specs.Prelude.{◌≡◌, ℕ, ◌⊎◌, ◌++◌, ◌<◌, List, [], ◌∷◌, Option, None, Some, map, codes, decimal}
-use Rattle.admin_run.specs.Terms.{all_together, AreStaff, Backing, Coming, CountsOn, Digest, DoneAtOnce, DrawsAll, Event, expecting, given_and_back, HasKept, IsStored, Law, opened, Outlet, OutliveStops, Post, Posts, replay, Row, SpawnedSince, State, Stop, Stopped, Tables, together, with_handles, workers_at, WorksBoth}
+use Rattle.std.specs.Prelude.{◌≡◌, ℕ, ◌⊎◌, ◌++◌, ◌<◌, List, [], ◌∷◌, Option, None, Some, ◌≢◌, codes, decimal}
+use Rattle.std.specs.List.{AllByRecursion}
+use Rattle.admin_run.specs.Terms.{Account, AccountId, all_together, AreStaff, Backing, Coming, CountsOn, DoneAtOnce, DrawsAll, Event, expecting, given_and_back, HasKept, IsAccount, IsStored, Law, opened, Outlet, OutliveStops, Post, Posts, replay, Row, SpawnedSince, State, Stop, Stopped, Tables, together, with_handles, workers_at, WorksBoth}
 use Rattle.serve_door.specs.declared.serving.Stop.TheVariants as stop
+use Rattle.share_graph.specs.declared.event.Event.TheVariants as event
 use Rattle.admin_run.specs.Beginning.{BeginsWith, CannotBegin, DrewLogin}
 use Rattle.admin_run.specs.Outside.{Entrances, entrances, Outside, Tells}
 
@@ -14,9 +16,15 @@ login_line (Some token) = (codes "login " ++ token) ++ codes "\n"
 abbrev pub served_line : ℕ → List ℕ
 served_line answered = (codes "served " ++ decimal answered) ++ codes "\n"
 
--- the logins of the accounts, in order
-abbrev pub logins : Tables → List Digest
-logins t = map (λ account. account.login) t.accounts
+-- the event gives the account no other login
+abbrev pub LeavesLogin : AccountId → Event → Type 0
+LeavesLogin a (event.LoginSet b login) = b ≢ a
+LeavesLogin a e = Unit {0}
+
+-- each account is still there, and with its login, unless some of the events gave it another one
+abbrev pub KeepLogins : Tables → List Event → Tables → Type 0
+KeepLogins t history u = (a : AccountId) (account : Account) → IsAccount t a account
+    → (now : Account) × IsAccount u a now × (AllByRecursion (LeavesLogin a) history → now.login ≡ account.login)
 
 -- What is printed where serving stopped, behind a text, and the status: how many requests were answered, where all was served.
 abbrev pub TellsStop : Stop → List ℕ → ℕ → Outlet → Outlet → ℕ → Type 0
@@ -72,7 +80,7 @@ pub record ServesHistory (law : Law) (start : State) (count tunnels : ℕ) (may_
   pub ends : EndsServing law start count tunnels [] history old new out out' status
 
 -- THE HEADLINE of `serve`. A history begins with the tables of the rows that the keeper told, or of the first account, whose login's token is printed; connections
--- and tunnels are served on it; and the keeper has the tables at its end, in which the accounts still have their logins. The secrets that were
+-- and tunnels are served on it; and the keeper has the tables at its end, in which each account still has its login, unless it was given another. The secrets that were
 -- drawn are the login's, where there is a first account, and then those of the orders. The spawner was told the starts and stops of its
 -- entries, and no count fell. Neither the input nor the link is asked, and the clock stands where it stood. What a stop may leave at its end is the rows of these tables, or those after one event more.
 pub record ServesFrom (law : Law) (count tunnels : ℕ) (may_leave : List Row → Type 0) (old new : Outside) (status : ℕ)
@@ -83,8 +91,7 @@ pub record ServesFrom (law : Law) (count tunnels : ℕ) (may_leave : List Row �
   pub history : List Event
   pub stored : IsStored new.holds.keeping (replay (opened tables) history).tables
   pub outlive : OutliveStops new.holds.keeping may_leave
-  pub added : List Digest
-  pub logins_stay : logins (replay (opened tables) history).tables ≡ logins tables ++ added
+  pub logins_stay : KeepLogins tables history (replay (opened tables) history).tables
   pub drew : (between : Option Coming) × DrewLogin login old.holds.drawer.coming between
       × ((drawn : List (List ℕ)) × DrawsAll between new.holds.drawer.coming drawn)
   pub spawned : SpawnedSince (opened tables) old.holds.spawns new.holds.spawns history

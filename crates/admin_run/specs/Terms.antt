@@ -19,7 +19,7 @@ pub use Rattle.hex.specs.Hex.{encode_lower}
 pub use Rattle.host_base.specs.Drawing.{Coming, Drawer}
 pub use Rattle.host_base.specs.InMemory.{is_at_end}
 pub use Rattle.host_base.specs.Outside.{CountStands, Inlet, Outlet, Rose}
-pub use Rattle.host_base.specs.declared.digest.Digest.{Digest}
+pub use Rattle.host_base.specs.declared.{digest.Digest.Digest, ids.AccountId.AccountId}
 pub use Rattle.host_clock.specs.Ticking.{Ticks}
 pub use Rattle.hub_core.specs.Book.{Backing, Book, CountsOn}
 pub use Rattle.hub_core.specs.Opening.{AreLoaded, AreOfKeeper, HasBadRow, opened}
@@ -42,8 +42,9 @@ pub use Rattle.sha2.specs.Sha256.{sha256}
 pub use Rattle.share_graph.specs.Checked.{IsChecked}
 pub use Rattle.share_graph.specs.History.{replay}
 pub use Rattle.share_graph.specs.Known.{HasGrain, HasGrant}
+pub use Rattle.share_graph.specs.Rows.{IsAccount}
 pub use Rattle.share_graph.specs.WellFormed.{IsWellFormed}
-pub use Rattle.share_graph.specs.declared.{event.Event.Event, refusal.Refusal.Refusal, state.State.State, state.Tables.Tables}
+pub use Rattle.share_graph.specs.declared.{event.Event.Event, refusal.Refusal.Refusal, rows.Account.Account, state.State.State, state.Tables.Tables}
 pub use Rattle.shared_hub.specs.Since.{HasKept, SpawnedSince}
 pub use Rattle.site_caps.specs.Law.{Law}
 pub use Rattle.small_book.specs.SmallBook.{small_book}

@@ -68,6 +68,7 @@ keyed_later old new later low key passed turn is = record {
 -- what was lawful stays so when more is seen
 lawful_later : (r : Showing) (old new : Book) → Later old new → (low last : ℕ) (turn : Turn) → IsLawfulBy r old low last turn → IsLawfulBy r new low last turn
 lawful_later showing.NoRoute old new later low last turn is = is
+lawful_later showing.Page old new later low last turn is = is
 lawful_later showing.NoCredential old new later low last turn is = is
 lawful_later (showing.BadBody field) old new later low last turn is = is
 lawful_later (showing.BadManifest bad) old new later low last turn is = is
@@ -80,6 +81,7 @@ lawful_later (showing.Collects asks) old new later low last turn is = (collects_
 
 reached_within : (r : Showing) (book : Book) (low last : ℕ) (turn : Turn) → low ≤ length book.seen → IsLawfulBy r book low last turn → turn.reached ≤ length book.seen
 reached_within showing.NoRoute book low last turn less is = omega (arith, is.reached_is)
+reached_within showing.Page book low last turn less is = omega (arith, is.reached_is)
 reached_within showing.NoCredential book low last turn less is = omega (arith, is.reached_is)
 reached_within (showing.BadBody field) book low last turn less is = omega (arith, is.reached_is)
 reached_within (showing.BadManifest bad) book low last turn less is = omega (arith, is.reached_is)

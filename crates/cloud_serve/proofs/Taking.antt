@@ -16,6 +16,7 @@ use Rattle.desk_orders.specs.declared.reply.Reply.{Reply}
 use Rattle.site_caps.specs.Law.{Law}
 use Rattle.site_caps.specs.Answering.{GivesText}
 use Rattle.desk_orders.specs.Commands.{Asked}
+use Rattle.desk_page.specs.Page.{desk_page_text}
 use Rattle.reply_texts.specs.declared.faults.OwnFault.TheVariants as own
 use Rattle.reply_texts.specs.Faults.{fault_text}
 use Rattle.reply_texts.specs.Refusals.{command_text}
@@ -101,6 +102,12 @@ pub answers_no_route : (book : Book) (line : Line) (counted low last : ℕ) (req
 answers_no_route book line counted low last request (Ok text) r is =
     answers_plain text book line counted low last request showing.NoRoute r (record { place_is = refl; reached_is = refl; unasked = refl; unordered = refl; answer_is = is })
 answers_no_route book line counted low last request (Err m) r is = breaks_at_once book line counted low request last m
+
+pub answers_page : (book : Book) (line : Line) (counted low last : ℕ) (request : Request) (text : Result (List ℕ) Memory) → Shows request showing.Page
+    → IfOk text (λ t. t ≡ desk_page_text (wants_head request)) → Takes book book line line counted counted low last request (answered_at last text)
+answers_page book line counted low last request (Ok text) r is =
+    answers_plain text book line counted low last request showing.Page r (record { place_is = refl; reached_is = refl; unasked = refl; unordered = refl; answer_is = is })
+answers_page book line counted low last request (Err m) r is = breaks_at_once book line counted low request last m
 
 pub answers_no_credential : (book : Book) (line : Line) (counted low last : ℕ) (request : Request) (text : Result (List ℕ) Memory) → Shows request showing.NoCredential
     → IfOk text (λ t. t ≡ denial_text denial.UnknownKey (wants_head request)) → Takes book book line line counted counted low last request (answered_at last text)

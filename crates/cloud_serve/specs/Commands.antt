@@ -54,6 +54,8 @@ module _ (who : Digest) (body : List ℕ) where
   asked_at route.Accounts = asks login (account_body body) λ f. command.AddAccount f.handle f.name
   asked_at (route.AccountAdmin n) = asks login (mark_body body) (command.SetAdmin (record { 0 = n }))
   asked_at (route.AccountEnabled n) = asks login (mark_body body) (command.SetEnabled (record { 0 = n }))
+  asked_at (route.AccountLogin n) = asks login (plain_body body) λ _. command.RenewLogin (Some (record { 0 = n }))
+  asked_at route.Login = asks login (plain_body body) λ _. command.RenewLogin None
   asked_at route.Apps = asks login (manifest_body body) command.AddApp
   asked_at (route.AppUpgrade n) = asks login (manifest_body body) (command.UpgradeApp (record { 0 = n }))
   asked_at route.Grains = asks login (grain_body body) λ f. command.NewGrain f.app f.title

@@ -25,8 +25,9 @@ abbrev pub IsUsing : ℕ → List ℕ → Digest → Showing → Type 0
 IsUsing n target who shown =
     (m : ℕ) × (rest : List ℕ) × IsUse m target rest × (shown ≡ showing.Used (key.Handle who n) (47 ∷ rest))
 
--- what is shown on a route: the key of a session, a bearer's token, a handle, or what the body asks of the desk
+-- what is shown on a route: that the page is asked for, the key of a session, a bearer's token, a handle, or what the body asks of the desk
 abbrev pub ShowsAt : Route → Request → Showing → Type 0
+ShowsAt route.Page request shown = shown ≡ showing.Page
 ShowsAt (route.Session digest) request shown = shown ≡ showing.Keyed (key.Session digest)
 ShowsAt route.Api request shown = Needs request.bearer shown λ who. shown ≡ showing.Keyed (key.Bearer who)
 ShowsAt (route.Use n) request shown = Needs request.bearer shown λ who. IsUsing n request.target who shown

@@ -8,6 +8,7 @@ pub use Rattle.desk_bodies.specs.declared.fault.BodyFault.{BodyFault}
 pub use Rattle.desk_orders.specs.Commands.{Asked}
 pub use Rattle.desk_orders.specs.Secrets.{DrawsAll}
 pub use Rattle.desk_orders.specs.declared.{order.Command.Command, reply.Listing.Listing, reply.OrderFault.OrderFault, reply.Reply.Reply}
+pub use Rattle.desk_page.specs.Page.{desk_page_text}
 pub use Rattle.front_http.specs.Reading.{IsRemaining, Reading}
 pub use Rattle.front_http.specs.Routes.{IsRoute, IsUse}
 pub use Rattle.front_http.specs.Stream.{Bad, Cut, Done, Ending, IsStream, Last, Requests}

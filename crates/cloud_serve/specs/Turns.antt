@@ -1,6 +1,6 @@
 -- What one request comes to: its turn, and when a turn is lawful.
 use Rattle.std.specs.Prelude.{◌≡◌, ◌≢◌, ℕ, ◌⊎◌, ◌++◌, Bool, true, false, List, [], ◌∷◌, Option, Some, None, Result, Ok, Err, length, codes}
-use Rattle.cloud_serve.specs.Terms.{access_data, Ask, Asked, Book, Collecting, command_text, data_text, denial_text, done_text, fault_text, GivesText, grain_text, Handed, Judged, Key, Law, Listing, missing_data, options_text, OrderFault, own_text, page_data, Permit, preview_data, RelayFault, Relays, Reply, Request, shared_data, Showing, site_text, SiteFault, Verdict, wants_head, why_data}
+use Rattle.cloud_serve.specs.Terms.{access_data, Ask, Asked, Book, Collecting, command_text, data_text, denial_text, desk_page_text, done_text, fault_text, GivesText, grain_text, Handed, Judged, Key, Law, Listing, missing_data, options_text, OrderFault, own_text, page_data, Permit, preview_data, RelayFault, Relays, Reply, Request, shared_data, Showing, site_text, SiteFault, Verdict, wants_head, why_data}
 use Rattle.host_base.specs.declared.verdict.Denial.TheVariants as denial
 use Rattle.host_base.specs.declared.verdict.Verdict.TheVariants as verdict
 use Rattle.bridge_headers.specs.declared.fault.RelayFault.TheVariants as fault
@@ -172,6 +172,7 @@ IsCollected book low asks turn =
 -- A lawful turn, where the connection had counted `low` entries and the place before it was `last`.
 abbrev pub IsLawfulBy : Showing → Book → ℕ → ℕ → Turn → Type 0
 IsLawfulBy showing.NoRoute book low last turn = IsPlain low last (own_text 404 (codes "NoRoute") []) turn
+IsLawfulBy showing.Page book low last turn = IsPlain low last desk_page_text turn
 IsLawfulBy showing.NoCredential book low last turn = IsPlain low last (denial_text denial.UnknownKey) turn
 IsLawfulBy (showing.BadBody field) book low last turn = IsPlain low last (fault_text (own.BadBody field)) turn
 IsLawfulBy (showing.BadManifest bad) book low last turn =

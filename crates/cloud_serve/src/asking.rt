@@ -38,6 +38,11 @@ fn stated(
         Route::Accounts => Some(new_account(alloc, who, body)),
         Route::AccountAdmin(num) => Some(admin_mark(alloc, who, AccountId(num), body)),
         Route::AccountEnabled(num) => Some(enabled_mark(alloc, who, AccountId(num), body)),
+        Route::AccountLogin(num) => {
+            let renewal = Command::RenewLogin(Some(AccountId(num)));
+            Some(plain(alloc, login, renewal, body))
+        }
+        Route::Login => Some(plain(alloc, login, Command::RenewLogin(None), body)),
         Route::Apps => Some(new_app(alloc, who, body)),
         Route::AppUpgrade(num) => Some(new_manifest(alloc, who, AppId(num), body)),
         Route::Grains => Some(new_grain(alloc, who, body)),
@@ -84,7 +89,7 @@ fn stated(
         Route::Save => Some(reference(alloc, who, body)),
         Route::Restore => Some(restoration(alloc, who, body)),
         Route::Drop => Some(drop_reference(alloc, who, body)),
-        Route::Session(_) | Route::Api | Route::Use(_) => None,
+        Route::Session(_) | Route::Api | Route::Use(_) | Route::Page => None,
     }
 }
 

@@ -20,6 +20,8 @@ use std::alloc::Global;
 pub enum Showing {
     /// It asks for nothing that is there.
     NoRoute,
+    /// It asks for the desk's page.
+    Page,
     /// It has no credential, and needs one.
     NoCredential,
     /// The field of that number in its body isn't as it should be, or at 0 the body is no object.
@@ -85,6 +87,7 @@ fn showing_at(alloc: Global, route: Route, request: &Request) -> Result<Showing,
 {
     let bearer = &request.bearer;
     match route {
+        Route::Page => Ok(Showing::Page),
         Route::Session(digest) => Ok(Showing::Keyed(Key::Session(digest))),
         Route::Api => Ok(credential(bearer)),
         Route::Use(num) => used(alloc, num, bearer, request.target.as_str()),

@@ -13,6 +13,7 @@ use crate::passing::with_target;
 use crate::sharing::{Collecting, Stopped, collect_members};
 use crate::showing::{Showing, find_showing};
 use bridge_headers::{RelayFault, answer_text, grain_text};
+use desk_page::desk_page_reply;
 use front_http::Routes;
 use grain_supervise::{AskFault, Link, LongAnswer, whole_answer};
 use host_base::{
@@ -346,6 +347,7 @@ pub fn take_turn<D: Desk, L: Link>(
         Err(Memory) => Err(Memory),
         Ok(showing) => match showing {
             Showing::NoRoute => placed(last, own_reply(alloc, 404, "NoRoute", &[], head_only)),
+            Showing::Page => placed(last, desk_page_reply(alloc, head_only)),
             Showing::NoCredential => {
                 placed(last, denial_reply(alloc, &Denial::UnknownKey, head_only))
             }

@@ -52,6 +52,7 @@ limit_of s (event.SessionOpened session) =
 limit_of s (event.AppUpgraded p manifest) = None
 limit_of s (event.AdminSet a on) = None
 limit_of s (event.EnabledSet a on) = None
+limit_of s (event.LoginSet a login) = None
 limit_of s (event.TrashedSet n on) = None
 limit_of s (event.GrantRevoked g) = None
 limit_of s (event.SavedDropped v) = None

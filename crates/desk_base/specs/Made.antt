@@ -18,6 +18,10 @@ made_app t = record nothing_made { app = Some (next t.apps) }
 abbrev pub made_grain : Tables → Made
 made_grain t = record nothing_made { grain = Some (next t.grains) }
 
+-- the reply shows the number of an account
+abbrev pub shown_account : ℕ → Made
+shown_account num = record nothing_made { account = Some num }
+
 -- the reply shows the number of a grant
 abbrev pub shown_grant : ℕ → Made
 shown_grant num = record nothing_made { grant = Some num }

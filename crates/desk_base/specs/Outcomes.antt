@@ -19,6 +19,7 @@ with_digest (event.GrantAdded grant) d = event.GrantAdded (record grant { digest
 with_digest (event.SavedAdded saved) d = event.SavedAdded (record saved { digest = d })
 with_digest (event.RunStarted run) d = event.RunStarted (record run { digest = d })
 with_digest (event.SessionOpened session) d = event.SessionOpened (record session { digest = d })
+with_digest (event.LoginSet a login) d = event.LoginSet a d
 with_digest e d = e
 
 -- the step that an outcome is: a draft is completed by the digest of a secret

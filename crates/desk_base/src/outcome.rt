@@ -43,6 +43,7 @@ fn with_digest(event: Event, digest: Digest) -> Event
         }
         Event::RunStarted(run) => Event::RunStarted(Run { digest, ..run }),
         Event::SessionOpened(session) => Event::SessionOpened(Session { digest, ..session }),
+        Event::LoginSet(num, _) => Event::LoginSet(num, digest),
         other => other,
     }
 }

@@ -2,8 +2,8 @@
 use Rattle.std.proofs.Common.{Option, Bool, true, false}
 use Rattle.desk_base.specs.Terms.{Caller, IsOne, IsWellFormed, State}
 use Rattle.desk_base.specs.Fitting.{RowFits}
-use Rattle.account_desk.proofs.OneRows.{add_account_one, set_admin_one, set_enabled_one, add_app_one, upgrade_app_one, new_grain_one, trash_one}
-use Rattle.account_desk.proofs.FitRows.{add_account_fits, set_admin_fits, set_enabled_fits, add_app_fits, upgrade_app_fits, new_grain_fits, trash_fits}
+use Rattle.account_desk.proofs.OneRows.{add_account_one, renew_login_one, set_admin_one, set_enabled_one, add_app_one, upgrade_app_one, new_grain_one, trash_one}
+use Rattle.account_desk.proofs.FitRows.{add_account_fits, renew_login_fits, set_admin_fits, set_enabled_fits, add_app_fits, upgrade_app_fits, new_grain_fits, trash_fits}
 use Rattle.session_desk.proofs.OneRows.{start_run_one, stop_run_one, open_session_one, close_session_one}
 use Rattle.session_desk.proofs.FitRows.{start_run_fits, stop_run_fits, open_session_fits, close_session_fits}
 use Rattle.share_desk.proofs.OneRows.{share_one, make_token_one, child_one, redeem_one, revoke_one}
@@ -25,6 +25,7 @@ pub one_by : (s : State) → IsWellFormed s → (found : Option Bool) (who : Cal
 one_by s formed found who (command.AddAccount handle name) = add_account_one s formed who handle name
 one_by s formed found who (command.SetAdmin a on) = set_admin_one s formed who a on
 one_by s formed found who (command.SetEnabled a on) = set_enabled_one s formed who a on
+one_by s formed found who (command.RenewLogin a) = renew_login_one s formed who a
 one_by s formed found who (command.AddApp manifest) = add_app_one s formed who manifest
 one_by s formed found who (command.UpgradeApp p manifest) = upgrade_app_one s formed who p manifest
 one_by s formed found who (command.NewGrain app title) = new_grain_one s formed who app title
@@ -60,6 +61,7 @@ pub fits_by : (s : State) → IsWellFormed s → (found : Option Bool) (who : Ca
 fits_by s formed found who (command.AddAccount handle name) stated = add_account_fits s formed who handle name stated.1
 fits_by s formed found who (command.SetAdmin a on) stated = set_admin_fits s formed who a on
 fits_by s formed found who (command.SetEnabled a on) stated = set_enabled_fits s formed who a on
+fits_by s formed found who (command.RenewLogin a) stated = renew_login_fits s formed who a
 fits_by s formed found who (command.AddApp manifest) stated = add_app_fits s formed who manifest stated.1
 fits_by s formed found who (command.UpgradeApp p manifest) stated = upgrade_app_fits s formed who p manifest stated.1
 fits_by s formed found who (command.NewGrain app title) stated = new_grain_fits s formed who app title

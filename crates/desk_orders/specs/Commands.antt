@@ -14,6 +14,7 @@ abbrev pub secret_use : Command → Option SecretUse
 secret_use (command.OpenSession n tab) = Some secret_uses.Session
 secret_use (command.StartRun n) = Some secret_uses.Run
 secret_use (command.AddAccount handle name) = Some secret_uses.Token
+secret_use (command.RenewLogin a) = Some secret_uses.Token
 secret_use (command.MakeToken n for_sharing assignment needs expires) = Some secret_uses.Token
 secret_use (command.Child for_sharing assignment needs expires) = Some secret_uses.Token
 secret_use (command.Choose n offer query assignment) = Some secret_uses.Token

@@ -1,6 +1,6 @@
 -- What the machine makes of an order: by the row of its command. Nothing above this definition speaks of a command.
 use Rattle.std.specs.Prelude.{Bool, true, false, Option}
-use Rattle.desk_orders.specs.Terms.{Access, AddAccount, AddApp, Caller, Child, Choose, Claim, CloseSession, Collect, Command, DropSaved, Lists, MakeToken, Missing, NewGrain, OpenSession, Options, Preview, Redeem, Restore, Revoke, Save, SetAdmin, SetEnabled, Share, StartRun, State, Step, StopRun, Trash, UpgradeApp, Why}
+use Rattle.desk_orders.specs.Terms.{Access, AddAccount, AddApp, Caller, Child, Choose, Claim, CloseSession, Collect, Command, DropSaved, Lists, MakeToken, Missing, NewGrain, OpenSession, Options, Preview, Redeem, RenewLogin, Restore, Revoke, Save, SetAdmin, SetEnabled, Share, StartRun, State, Step, StopRun, Trash, UpgradeApp, Why}
 use Rattle.desk_orders.specs.declared.order.Command.TheVariants as command
 use Rattle.desk_orders.specs.Commands.{Asked}
 
@@ -9,6 +9,7 @@ abbrev pub RowBy : State → Option Bool → Caller → Command → Step → Typ
 RowBy s found who (command.AddAccount handle name) = AddAccount s who handle name
 RowBy s found who (command.SetAdmin a on) = SetAdmin s who a on
 RowBy s found who (command.SetEnabled a on) = SetEnabled s who a on
+RowBy s found who (command.RenewLogin a) = RenewLogin s who a
 RowBy s found who (command.AddApp manifest) = AddApp s who manifest
 RowBy s found who (command.UpgradeApp p manifest) = UpgradeApp s who p manifest
 RowBy s found who (command.NewGrain app title) = NewGrain s who app title

@@ -1,5 +1,5 @@
 -- The words that the definitions here speak in, each defined in the crate that its line names.
-pub use Rattle.account_desk.specs.Commands.{AddAccount, AddApp, NewGrain, SetAdmin, SetEnabled, Trash, UpgradeApp}
+pub use Rattle.account_desk.specs.Commands.{AddAccount, AddApp, NewGrain, RenewLogin, SetAdmin, SetEnabled, Trash, UpgradeApp}
 pub use Rattle.collections.specs.Commands.{Collect, Missing}
 pub use Rattle.collections.specs.Members.{IsPlanFor}
 pub use Rattle.desk_base.specs.Accepting.{Accepts, IsRefusal, Ready, WantsSecret}

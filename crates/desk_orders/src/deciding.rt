@@ -11,7 +11,8 @@ ghost use Rattle.desk_orders.specs.Orders.{RowBy, RowOf};
 
 use crate::order::{Command, Order};
 use account_desk::{
-    add_account, add_app, new_grain, set_admin, set_enabled, trash, untrash, upgrade_app,
+    add_account, add_app, new_grain, renew_login, set_admin, set_enabled, trash, untrash,
+    upgrade_app,
 };
 use collections::collect;
 use desk_base::{Answer, Draft, Outcome, Stop, has_room};
@@ -54,6 +55,7 @@ fn carry_drawing(
 {
     match command {
         Command::AddAccount(handle, name) => add_account(state, caller, handle, name),
+        Command::RenewLogin(account) => renew_login(state, caller, *account),
         Command::MakeToken {
             grain,
             for_sharing: link,

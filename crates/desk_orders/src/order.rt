@@ -21,6 +21,8 @@ pub enum Command {
     SetAdmin(AccountId, bool),
     /// An account is enabled, or disabled.
     SetEnabled(AccountId, bool),
+    /// An account gets another login: the caller's, or the one that is named.
+    RenewLogin(Option<AccountId>),
     /// A new application.
     AddApp(Manifest),
     /// An application gets another manifest.

@@ -27,7 +27,7 @@ pub fn secret_use(command: &Command) -> Option<SecretUse>
     match command {
         Command::OpenSession { .. } => Some(SecretUse::Session),
         Command::StartRun(_) => Some(SecretUse::Run),
-        Command::AddAccount(_, _) => Some(SecretUse::Token),
+        Command::AddAccount(_, _) | Command::RenewLogin(_) => Some(SecretUse::Token),
         Command::MakeToken { .. } | Command::Child { .. } => Some(SecretUse::Token),
         Command::Choose { .. } | Command::Save { .. } => Some(SecretUse::Token),
         _ => None,

@@ -18,6 +18,7 @@ desk_table =
     (codes "/accounts/list", route.AccountsList)
     ∷ (codes "/accounts/" ++ (256 ∷ codes "/admin"), route.AccountAdmin 0)
     ∷ (codes "/accounts/" ++ (256 ∷ codes "/enabled"), route.AccountEnabled 0)
+    ∷ (codes "/accounts/" ++ (256 ∷ codes "/login"), route.AccountLogin 0)
     ∷ (codes "/accounts", route.Accounts)
     ∷ (codes "/apps/list", route.AppsList)
     ∷ (codes "/apps/" ++ (256 ∷ codes "/upgrade"), route.AppUpgrade 0)
@@ -41,6 +42,7 @@ desk_table =
     ∷ (codes "/grains", route.Grains)
     ∷ (codes "/grants/" ++ (256 ∷ codes "/preview"), route.GrantPreview 0)
     ∷ (codes "/grants/" ++ (256 ∷ codes "/revoke"), route.GrantRevoke 0)
+    ∷ (codes "/login", route.Login)
     ∷ (codes "/me", route.Me)
     ∷ (codes "/mine", route.Mine)
     ∷ (codes "/open", route.Open)
@@ -90,6 +92,8 @@ unfolding desk_table seek param_step
 desk_path route.Accounts path is = desk_fixed (codes "/accounts") path route.Accounts refl is
 desk_path (route.AccountAdmin n) path is = desk_numbered (codes "/accounts/") (codes "admin") path n (route.AccountAdmin 0) refl refl (omega arith) refl is
 desk_path (route.AccountEnabled n) path is = desk_numbered (codes "/accounts/") (codes "enabled") path n (route.AccountEnabled 0) refl refl (omega arith) refl is
+desk_path (route.AccountLogin n) path is = desk_numbered (codes "/accounts/") (codes "login") path n (route.AccountLogin 0) refl refl (omega arith) refl is
+desk_path route.Login path is = desk_fixed (codes "/login") path route.Login refl is
 desk_path route.Apps path is = desk_fixed (codes "/apps") path route.Apps refl is
 desk_path (route.AppUpgrade n) path is = desk_numbered (codes "/apps/") (codes "upgrade") path n (route.AppUpgrade 0) refl refl (omega arith) refl is
 desk_path route.Grains path is = desk_fixed (codes "/grains") path route.Grains refl is
@@ -121,6 +125,7 @@ desk_path route.Open path is = desk_fixed (codes "/open") path route.Open refl i
 desk_path route.Wake path is = desk_fixed (codes "/wake") path route.Wake refl is
 desk_path (route.Session digest) path is = absurd is
 desk_path route.Api path is = absurd is
+desk_path route.Page path is = absurd is
 desk_path (route.Use n) path is = absurd is
 desk_path route.Claim path is = absurd is
 desk_path route.Save path is = absurd is

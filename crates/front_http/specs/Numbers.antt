@@ -15,6 +15,7 @@ use Rattle.front_http.specs.Routes.{Form, Fixed, Numbered, Nowhere, Host, Sessio
 abbrev pub with_number : Route → ℕ → Route
 with_number (route.AccountAdmin m) n = route.AccountAdmin n
 with_number (route.AccountEnabled m) n = route.AccountEnabled n
+with_number (route.AccountLogin m) n = route.AccountLogin n
 with_number (route.GrainTrash m) n = route.GrainTrash n
 with_number (route.GrainUntrash m) n = route.GrainUntrash n
 with_number (route.AppUpgrade m) n = route.AppUpgrade n
@@ -38,6 +39,8 @@ with_number (route.Session digest) n = (route.Session digest)
 with_number route.Api n = route.Api
 with_number (route.Use m) n = route.Use n
 with_number route.Accounts n = route.Accounts
+with_number route.Login n = route.Login
+with_number route.Page n = route.Page
 with_number route.Apps n = route.Apps
 with_number route.Grains n = route.Grains
 with_number route.Me n = route.Me

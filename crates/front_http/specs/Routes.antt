@@ -48,6 +48,8 @@ abbrev pub desk_form : Route → Form
 desk_form route.Accounts = Fixed (codes "/accounts")
 desk_form (route.AccountAdmin n) = Numbered (codes "/accounts/") (codes "/admin")
 desk_form (route.AccountEnabled n) = Numbered (codes "/accounts/") (codes "/enabled")
+desk_form (route.AccountLogin n) = Numbered (codes "/accounts/") (codes "/login")
+desk_form route.Login = Fixed (codes "/login")
 desk_form route.Apps = Fixed (codes "/apps")
 desk_form (route.AppUpgrade n) = Numbered (codes "/apps/") (codes "/upgrade")
 desk_form route.Grains = Fixed (codes "/grains")
@@ -79,6 +81,7 @@ desk_form route.Open = Fixed (codes "/open")
 desk_form route.Wake = Fixed (codes "/wake")
 desk_form (route.Session digest) = Nowhere
 desk_form route.Api = Nowhere
+desk_form route.Page = Nowhere
 desk_form (route.Use n) = Nowhere
 desk_form route.Claim = Nowhere
 desk_form route.Save = Nowhere
@@ -97,6 +100,7 @@ grain_form _ = Nowhere
 abbrev pub number_of : Route → ℕ
 number_of (route.AccountAdmin n) = n
 number_of (route.AccountEnabled n) = n
+number_of (route.AccountLogin n) = n
 number_of (route.GrainTrash n) = n
 number_of (route.GrainUntrash n) = n
 number_of (route.AppUpgrade n) = n
@@ -137,6 +141,11 @@ pub record IsPost (form : Route → Form) (request : Request) (found : Route) : 
   pub method : request.method ≡ codes "POST"
   pub path : HasForm (form found) (number_of found) (path_of request.target)
 
+-- the desk's page is asked for, or its head: by a GET or a HEAD of the root
+pub record IsPageAsked (request : Request) : Type 0 where
+  pub method : (request.method ≡ codes "GET") ⊎ (request.method ≡ codes "HEAD")
+  pub path : path_of request.target ≡ codes "/"
+
 -- the target is `/use/{n}/` and this
 pub record IsUse (n : ℕ) (target rest : List ℕ) : Type 0 where
   pub digits : List ℕ
@@ -168,7 +177,7 @@ abbrev pub IsRouteAt : Host → Request → Route → Type 0
 IsRouteAt Session request found = IsAskedAs request × (found ≡ route.Session (record { 0 = sha256 (session_text request.host) }))
 IsRouteAt Api request found = IsAskedAs request × (found ≡ route.Api)
 IsRouteAt Grain request found = IsPost grain_form request found ⊎ ((n : ℕ) × IsUsed request n × (found ≡ route.Use n))
-IsRouteAt Desk request found = IsPost desk_form request found
+IsRouteAt Desk request found = IsPost desk_form request found ⊎ (IsPageAsked request × (found ≡ route.Page))
 
 -- what a request is for
 abbrev pub IsRoute : Request → Route → Type 0

@@ -22,6 +22,10 @@ type_line plain = codes "Content-Type: " ++ media_type plain ++ codes "\r\n"
 abbrev pub sent_body : List ℕ → Bool → List ℕ
 sent_body body head_only = if head_only then [] else body
 
+-- an answer with its length, these header lines, an empty line and the body
+unfoldable pub lined_text : ℕ → List ℕ → List ℕ → Bool → List ℕ
+lined_text status lines body head_only = status_line status ++ length_line (length body) ++ lines ++ codes "\r\n" ++ sent_body body head_only
+
 -- an answer of the server's own: the status, the header lines, an empty line and the body
 unfoldable pub reply_text : ℕ → Bool → List ℕ → Bool → List ℕ
 reply_text status plain body head_only = status_line status ++ length_line (length body) ++ type_line plain ++ codes "\r\n" ++ sent_body body head_only

@@ -22,4 +22,4 @@ pub use refusal::Refusal;
 pub use route::Route;
 pub use routes::Routes;
 pub use target::use_target;
-pub use texts::{memory_reply, refusal_body, reply_text};
+pub use texts::{lined_text, memory_reply, refusal_body, reply_text};

@@ -11,12 +11,18 @@ pub enum Route {
     Use(u32),
 
     // The desk's.
+    /// The desk's page: a GET or HEAD of `/`.
+    Page,
     /// `/accounts`
     Accounts,
     /// `/accounts/{n}/admin`
     AccountAdmin(u32),
     /// `/accounts/{n}/enabled`
     AccountEnabled(u32),
+    /// `/accounts/{n}/login`
+    AccountLogin(u32),
+    /// `/login`
+    Login,
     /// `/apps`
     Apps,
     /// `/apps/{n}/upgrade`

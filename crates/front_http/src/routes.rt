@@ -1,7 +1,7 @@
 //! What a request is for.
 ghost use Rattle.std.specs.Prelude.{◌≡◌, ◌≤◌, ◌↔◌, ℕ, [], length, IsTrue, Some, IfSome, OnOk, IfOk, fold};
 ghost use Rattle.matchit.specs.Seek.{first};
-ghost use Rattle.front_http.specs.Routes.{HasForm, desk_form, grain_form, number_of, IsPost, IsUsed, IsAskedAs, IsRouteAt, IsRoute, Session, Api, Grain};
+ghost use Rattle.front_http.specs.Routes.{HasForm, desk_form, grain_form, number_of, IsPost, IsPageAsked, IsUsed, IsAskedAs, IsRouteAt, IsRoute, Session, Api, Grain, Desk};
 ghost use Rattle.front_http.specs.Routes.{host_kind as host_kind_of, is_method as is_method_of};
 ghost use Rattle.front_http.specs.Tables.{with_route, value_of};
 ghost use Rattle.front_http.specs.Numbers.{with_number as renumbered, form_of, kept_number, kind_of};
@@ -23,10 +23,12 @@ pub enum Texts {
 }
 
 // The desk's paths and those of a running grain, as the router reads them.
-const DESK_PATHS: [(&str, Route); 32] = [
+const DESK_PATHS: [(&str, Route); 34] = [
     ("/accounts", Route::Accounts),
     ("/accounts/{n}/admin", Route::AccountAdmin(0)),
     ("/accounts/{n}/enabled", Route::AccountEnabled(0)),
+    ("/accounts/{n}/login", Route::AccountLogin(0)),
+    ("/login", Route::Login),
     ("/apps", Route::Apps),
     ("/apps/{n}/upgrade", Route::AppUpgrade(0)),
     ("/grains", Route::Grains),
@@ -73,6 +75,8 @@ fn desk_texts(route: Route) -> Texts
         Route::Accounts => Texts::Fixed("/accounts"),
         Route::AccountAdmin(_) => Texts::Numbered("/accounts/", "/admin"),
         Route::AccountEnabled(_) => Texts::Numbered("/accounts/", "/enabled"),
+        Route::AccountLogin(_) => Texts::Numbered("/accounts/", "/login"),
+        Route::Login => Texts::Fixed("/login"),
         Route::Apps => Texts::Fixed("/apps"),
         Route::AppUpgrade(_) => Texts::Numbered("/apps/", "/upgrade"),
         Route::Grains => Texts::Fixed("/grains"),
@@ -102,7 +106,7 @@ fn desk_texts(route: Route) -> Texts
         Route::Child => Texts::Fixed("/child"),
         Route::Open => Texts::Fixed("/open"),
         Route::Wake => Texts::Fixed("/wake"),
-        Route::Session(_) | Route::Api | Route::Use(_) => Texts::Nowhere,
+        Route::Session(_) | Route::Api | Route::Use(_) | Route::Page => Texts::Nowhere,
         Route::Claim | Route::Save | Route::Restore | Route::Drop => Texts::Nowhere,
     }
 }
@@ -127,6 +131,7 @@ fn with_number(route: Route, number: u32) -> Route
     match route {
         Route::AccountAdmin(_) => Route::AccountAdmin(number),
         Route::AccountEnabled(_) => Route::AccountEnabled(number),
+        Route::AccountLogin(_) => Route::AccountLogin(number),
         Route::AppUpgrade(_) => Route::AppUpgrade(number),
         Route::GrainTrash(_) => Route::GrainTrash(number),
         Route::GrainUntrash(_) => Route::GrainUntrash(number),
@@ -258,7 +263,7 @@ impl Routes {
         fit(route, grain_texts(route), path.as_bytes())
     }
 
-    // A request to the desk.
+    // A request to a path of the desk.
     fn at_desk(&self, request: &Request) -> Option<Route>
         ensures found { IfSome result (λ found. IsPost desk_form request.now found) }
         ensures whole { (found : Route) → IsPost desk_form request.now found → result ≡ Some found }
@@ -278,6 +283,17 @@ impl Routes {
             return None;
         }
         self.grain_route(path(request.target.as_str()))
+    }
+
+    // A request to the desk.
+    fn of_desk(&self, request: &Request) -> Option<Route>
+        ensures found { IfSome result (λ found. IsRouteAt Desk request.now found) }
+        ensures whole { (found : Route) → IsRouteAt Desk request.now found → result ≡ Some found }
+    {
+        if asks_page(request) {
+            return Some(Route::Page);
+        }
+        self.at_desk(request)
     }
 
     // A request of a running grain.
@@ -300,7 +316,7 @@ impl Routes {
             HostKind::Session => session_route(request),
             HostKind::Api => api_route(request),
             HostKind::Grain => self.of_grain(request),
-            HostKind::Desk => self.at_desk(request),
+            HostKind::Desk => self.of_desk(request),
         }
     }
 }
@@ -346,6 +362,14 @@ fn is_asked(request: &Request) -> bool
     ensures { IsTrue result ↔ IsAskedAs request.now }
 {
     is_method(request.method.as_str()) && request.target.as_str().as_bytes().starts_with(b"/")
+}
+
+// Whether the desk's page is asked for.
+fn asks_page(request: &Request) -> bool
+    ensures { IsTrue result ↔ IsPageAsked request.now }
+{
+    let method = request.method.as_str();
+    (method == "GET" || method == "HEAD") && path(request.target.as_str()) == "/"
 }
 
 // The handle that a request of a running grain goes through.

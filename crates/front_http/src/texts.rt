@@ -75,6 +75,28 @@ fn sent_body(body: &[u8], head_only: bool) -> &[u8]
     if head_only { &[] } else { body }
 }
 
+/// An answer of the server's own with header lines, each of which ends as one, and without its body where the head alone is asked
+/// for.
+#[tactic(auto, unfolding(crate::specs::Texts::lined_text))]
+pub fn lined_text(
+    alloc: Global,
+    status: u16,
+    lines: &str,
+    body: &[u8],
+    head_only: bool,
+) -> Result<Vec<u8>, Memory>
+    requires { IsStatusCode status }
+    ensures { IfOk result (λ reply. reply.items ≡ texts.lined_text status lines.now body.now head_only) }
+{
+    let mut text = Bytes::empty(alloc);
+    put_status_line(&mut text, status)?;
+    put_length(&mut text, body.len())?;
+    text.put(lines.as_bytes())?;
+    text.put(b"\r\n")?;
+    text.put(sent_body(body, head_only))?;
+    Ok(text.into_vec())
+}
+
 /// An answer of the server's own, of `text/plain` where `plain` and else of JSON, and without its body where the head alone is
 /// asked for.
 #[tactic(auto, unfolding(crate::specs::Texts::reply_text))]

@@ -23,7 +23,7 @@ use Rattle.share_graph.specs.History.{after}
 use Rattle.share_graph.specs.Nodes.{node_of, Gives}
 use Rattle.share_graph.specs.Region.{GivesOutside}
 use Rattle.share_graph.specs.Rows.{row, IsGrain, IsKept, IsEnabled, IsAdmin}
-use Rattle.share_graph.specs.Setting.{with_admin, with_enabled, with_manifest, with_trashed}
+use Rattle.share_graph.specs.Setting.{with_admin, with_enabled, with_login, with_manifest, with_trashed}
 use Rattle.share_graph.specs.WellFormed.{IsWellFormed}
 use Rattle.share_graph.proofs.Coherence.{coherent}
 use Rattle.share_graph.proofs.Marked.{change_row_other, row_changed, same_number}
@@ -184,7 +184,7 @@ module _ (s : State) (seeds : List Node) (formed : IsWellFormed s) where
   event_only_adds (event.AdminSet a true) fits exact only =
       record {
         all = account_raised t a (with_admin true) whole (λ account on. on) (λ account admin. refl);
-        only = account_set_back t a (with_admin true) seeds (inl (λ account. refl)) (λ g grant is c. (exact (node_of g grant)).1 (g, grant, is, c, refl))
+        only = account_set_back t a (with_admin true) seeds (inl (λ account. refl)) (inr (λ g grant is c. (exact (node_of g grant)).1 (g, grant, is, c, refl)))
             (coherent (after s (event.AdminSet a true)).tables fits.formed.tables);
       }
   event_only_adds (event.EnabledSet a false) fits exact only = cc only
@@ -192,8 +192,13 @@ module _ (s : State) (seeds : List Node) (formed : IsWellFormed s) where
       record {
         all = account_raised t a (with_enabled true) whole (λ account on. refl) (λ account admin. admin);
         only = account_set_back t a (with_enabled true) seeds (inr (λ n grain is. (exact (node.User n a)).1 (inr (n, grain, is, refl))))
-            (λ g grant is c. (exact (node_of g grant)).1 (inl (g, grant, is, c, refl)))
+            (inr (λ g grant is c. (exact (node_of g grant)).1 (inl (g, grant, is, c, refl))))
             (coherent (after s (event.EnabledSet a true)).tables fits.formed.tables);
+      }
+  event_only_adds (event.LoginSet a login) fits exact only =
+      record {
+        all = account_raised t a (with_login login) whole (λ account on. on) (λ account admin. admin);
+        only = account_set_back t a (with_login login) seeds (inl (λ account. refl)) (inl (λ account. (refl, refl))) (coherent (after s (event.LoginSet a login)).tables fits.formed.tables);
       }
   event_only_adds (event.SavedAdded saved) fits exact only = untouched (after s (event.SavedAdded saved)).tables refl refl refl refl refl
   event_only_adds (event.SavedDropped v) fits exact only = untouched (after s (event.SavedDropped v)).tables refl refl refl refl refl

@@ -13,7 +13,7 @@ use Rattle.share_graph.specs.EventFits.{HasChanged, EventFits}
 use Rattle.share_graph.specs.History.{after}
 use Rattle.share_graph.specs.Nodes.{node_of}
 use Rattle.share_graph.specs.Region.{seed}
-use Rattle.share_graph.specs.Setting.{with_admin, with_enabled, with_manifest}
+use Rattle.share_graph.specs.Setting.{with_admin, with_enabled, with_login, with_manifest}
 use Rattle.share_graph.specs.WellFormed.{IsNumbered, IsWellFormed}
 use Rattle.share_graph.proofs.Coherence.{coherent}
 use Rattle.state_step.proofs.Each.{push_old_row}
@@ -81,10 +81,12 @@ touched s (event.TrashedSet n on) nodes set =
     trash_touches s.tables n on nodes (λ grain is. set.inside (node.User n grain.owner) (inl (grain, is, refl))) (λ g grant is same. set.inside (node_of g grant) (inr (g, grant, is, same, refl)))
     set.whole set.whole_after set.closed
 touched s (event.AdminSet a on) nodes set =
-    account_set_touches s.tables a (with_admin on) nodes (inl (λ account. refl)) (λ g grant is c. set.inside (node_of g grant) (g, grant, is, c, refl)) set.whole set.whole_after set.closed
+    account_set_touches s.tables a (with_admin on) nodes (inl (λ account. refl)) (inr (λ g grant is c. set.inside (node_of g grant) (g, grant, is, c, refl))) set.whole set.whole_after set.closed
 touched s (event.EnabledSet a on) nodes set =
     account_set_touches s.tables a (with_enabled on) nodes (inr (λ n grain is. set.inside (node.User n a) (inr (n, grain, is, refl))))
-    (λ g grant is c. set.inside (node_of g grant) (inl (g, grant, is, c, refl))) set.whole set.whole_after set.closed
+    (inr (λ g grant is c. set.inside (node_of g grant) (inl (g, grant, is, c, refl)))) set.whole set.whole_after set.closed
+touched s (event.LoginSet a login) nodes set =
+    account_set_touches s.tables a (with_login login) nodes (inl (λ account. refl)) (inl (λ account. (refl, refl))) set.whole set.whole_after set.closed
 touched s (event.SavedAdded saved) nodes set = touches_by_widening s.tables (after s (event.SavedAdded saved)).tables (same_rows s.tables _ refl refl refl refl refl) set.whole nodes set.closed
 touched s (event.SavedDropped v) nodes set = touches_by_widening s.tables (after s (event.SavedDropped v)).tables (same_rows s.tables _ refl refl refl refl refl) set.whole nodes set.closed
 touched s (event.RunStarted run) nodes set = touches_by_widening s.tables s.tables (same_rows s.tables _ refl refl refl refl refl) set.whole nodes set.closed
@@ -112,6 +114,7 @@ event_adds s (event.GrainAdded grain) added fits is = adds_nothing s.tables (aft
 event_adds s (event.SavedAdded saved) added fits is = adds_nothing s.tables (after s (event.SavedAdded saved)).tables added is (adds_none s.tables _ (λ g. refl))
 event_adds s (event.AdminSet a on) added fits is = adds_nothing s.tables (after s (event.AdminSet a on)).tables added is (adds_none s.tables _ (λ g. refl))
 event_adds s (event.EnabledSet a on) added fits is = adds_nothing s.tables (after s (event.EnabledSet a on)).tables added is (adds_none s.tables _ (λ g. refl))
+event_adds s (event.LoginSet a login) added fits is = adds_nothing s.tables (after s (event.LoginSet a login)).tables added is (adds_none s.tables _ (λ g. refl))
 event_adds s (event.TrashedSet n on) added fits is = adds_nothing s.tables (after s (event.TrashedSet n on)).tables added is (adds_none s.tables _ (λ g. refl))
 event_adds s (event.SavedDropped v) added fits is = adds_nothing s.tables (after s (event.SavedDropped v)).tables added is (adds_none s.tables _ (λ g. refl))
 event_adds s (event.RunStarted run) added fits is = adds_nothing s.tables s.tables added is (adds_none s.tables _ (λ g. refl))
@@ -133,6 +136,7 @@ event_is_new s (event.GrainAdded grain) added fits is = no_row_of_none s.tables 
 event_is_new s (event.SavedAdded saved) added fits is = no_row_of_none s.tables added is
 event_is_new s (event.AdminSet a on) added fits is = no_row_of_none s.tables added is
 event_is_new s (event.EnabledSet a on) added fits is = no_row_of_none s.tables added is
+event_is_new s (event.LoginSet a login) added fits is = no_row_of_none s.tables added is
 event_is_new s (event.TrashedSet n on) added fits is = no_row_of_none s.tables added is
 event_is_new s (event.SavedDropped v) added fits is = no_row_of_none s.tables added is
 event_is_new s (event.RunStarted run) added fits is = no_row_of_none s.tables added is

@@ -101,7 +101,7 @@ module _ (t : Tables) (grain : Grain) (next : grain.num.0 ≡ length t.grains + 
   pub grain_added_back : (nodes : List Node) → IsCoherent with_grain → Contains nodes (node.User grain.num grain.owner) → GivesOutside (Contains nodes) with_grain t
   grain_added_back nodes coherent_after inside = gives_by_grains t nodes with_grain.grains t.grains coherent_after (grain_after nodes inside)
 
--- ---- an account that becomes an admin or is one no longer, or is enabled or disabled
+-- ---- an account that becomes an admin or is one no longer, is enabled or disabled, or gets another login
 
 abbrev pub account_id : ℕ → AccountId
 account_id n = record { 0 = n }
@@ -110,7 +110,11 @@ account_id n = record { 0 = n }
 abbrev pub MayEnable : Tables → List Node → AccountId → (Account → Account) → Type 0
 MayEnable t nodes a f = ((account : Account) → (f account).enabled ≡ account.enabled) ⊎ HasOwnNodes t nodes a
 
-module _ (t : Tables) (a : AccountId) (f : Account → Account) (nodes : List Node) (own : MayEnable t nodes a f) (needing : HasNeeding t nodes a) where
+-- it leaves whether it is enabled and an admin, or the nodes have those that need it as an admin
+abbrev pub MayRaise : Tables → List Node → AccountId → (Account → Account) → Type 0
+MayRaise t nodes a f = ((account : Account) → ((f account).enabled ≡ account.enabled) × ((f account).admin ≡ account.admin)) ⊎ HasNeeding t nodes a
+
+module _ (t : Tables) (a : AccountId) (f : Account → Account) (nodes : List Node) (own : MayEnable t nodes a f) (raise : MayRaise t nodes a f) where
   abbrev set : List Account
   set = change_row f t.accounts a.0
 
@@ -120,8 +124,8 @@ module _ (t : Tables) (a : AccountId) (f : Account → Account) (nodes : List No
   own_of : (b : AccountId) → b.0 ≡ a.0 → HasOwnNodes t nodes a → HasOwnNodes t nodes b
   own_of b same has = let one : b ≡ a = ap (λ n. account_id n) same in subst (λ (k : AccountId). HasOwnNodes t nodes k) (sym one) has
 
-  needing_of : (b : AccountId) → b.0 ≡ a.0 → HasNeeding t nodes b
-  needing_of b same = let one : b ≡ a = ap (λ n. account_id n) same in subst (λ (k : AccountId). HasNeeding t nodes k) (sym one) needing
+  needing_of : (b : AccountId) → b.0 ≡ a.0 → HasNeeding t nodes a → HasNeeding t nodes b
+  needing_of b same needing = let one : b ≡ a = ap (λ n. account_id n) same in subst (λ (k : AccountId). HasNeeding t nodes k) (sym one) needing
 
   enabled : (b : AccountId) → IsEnabled t b → IsEnabled after_set b ⊎ HasOwnNodes t nodes b
   enabled b (account, is, is_enabled) =
@@ -153,14 +157,32 @@ module _ (t : Tables) (a : AccountId) (f : Account → Account) (nodes : List No
   admin : (b : AccountId) → IsAdmin t b → IsAdmin after_set b ⊎ HasNeeding t nodes b
   admin b (account, is, is_enabled, is_admin) =
       elim (same_number b.0 a.0) [
-        | inl same ↦ inr (needing_of b same)
+        | inl same ↦
+            elim raise [
+              | inl keeps ↦
+                  let there : row t.accounts a.0 ≡ Some account = subst (λ (k : ℕ). row t.accounts k ≡ Some account) same is in
+                  let now : row set a.0 ≡ Some (f account) = row_changed f t.accounts a.0 account there in
+                  inl (f account, subst (λ (k : ℕ). row set k ≡ Some (f account)) (sym same) now, (keeps account).0 ∙ is_enabled, (keeps account).1 ∙ is_admin)
+              | inr needing ↦ inr (needing_of b same needing)
+            ]
         | inr apart ↦ inl (account, change_row_other f t.accounts a.0 b.0 apart ∙ is, is_enabled, is_admin)
       ]
 
   admin_before : (b : AccountId) → IsAdmin after_set b → IsAdmin t b ⊎ HasNeeding t nodes b
   admin_before b (account, is, is_enabled, is_admin) =
       elim (same_number b.0 a.0) [
-        | inl same ↦ inr (needing_of b same)
+        | inl same ↦
+            elim raise [
+              | inl keeps ↦
+                  let (was, there, now) = row_changed_back f t.accounts a.0 account (subst (λ (k : ℕ). row set k ≡ Some account) same is) in
+                  inl (
+                    was,
+                    subst (λ (k : ℕ). row t.accounts k ≡ Some was) (sym same) there,
+                    sym (keeps was).0 ∙ ap (λ (x : Account). x.enabled) now ∙ is_enabled,
+                    sym (keeps was).1 ∙ ap (λ (x : Account). x.admin) now ∙ is_admin,
+                  )
+              | inr needing ↦ inr (needing_of b same needing)
+            ]
         | inr apart ↦ inl (account, sym (change_row_other f t.accounts a.0 b.0 apart) ∙ is, is_enabled, is_admin)
       ]
 

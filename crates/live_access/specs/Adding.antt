@@ -21,6 +21,7 @@ grant_added (event.GrainAdded grain) = None
 grant_added (event.SavedAdded saved) = None
 grant_added (event.AdminSet a on) = None
 grant_added (event.EnabledSet a on) = None
+grant_added (event.LoginSet a login) = None
 grant_added (event.TrashedSet n on) = None
 grant_added (event.GrantRevoked g) = None
 grant_added (event.SavedDropped v) = None

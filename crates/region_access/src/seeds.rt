@@ -254,6 +254,7 @@ pub fn seeds_of(
         | Event::AppAdded(_)
         | Event::SavedAdded(_)
         | Event::SavedDropped(_)
+        | Event::LoginSet(_, _)
         | Event::RunStarted(_)
         | Event::RunStopped(_)
         | Event::SessionOpened(_)

@@ -4,7 +4,7 @@ use Rattle.std.proofs.lemmas.List.{length-set}
 use Rattle.std.proofs.lemmas.Option.{slice_get_read}
 use Rattle.row_index.specs.declared.clues.Clues.{Clues}
 use Rattle.row_index.specs.declared.index.Index.{Index}
-use Rattle.row_index.specs.Index.{HasClue, IsIndexOf, IsNoted}
+use Rattle.row_index.specs.Index.{HasClue, IsIndexBut, IsIndexOf, IsNoted}
 use Rattle.row_index.specs.Marks.{places_at, AreMarksOf, ForgetsPlace}
 use Rattle.row_index.proofs.Marking.{marks_stay, marks_set, marks_lose}
 
@@ -36,6 +36,18 @@ module _ {X : Type 0} (clues_of : X → Clues) (mark_of : X → Option ℕ) wher
     within = omega (arith, is.within, length-append rows more);
     noted = λ place row c below there has. is.noted place row c below (get_left rows more place row (omega (arith, below, is.within)) there) has;
     marked = marks_stay mark_of rows more index.covered index.marks is.within is.marked;
+  }
+
+  -- whatever clues the row of the place has now
+  pub index_but : (rows : List X) (index : Index) (i : ℕ) (row now : X) → i < length rows → row ≡ slice_index_or rows i row → mark_of now ≡ mark_of row → IsIndexOf clues_of rows mark_of index
+      → IsIndexBut clues_of (slice_set rows i now) mark_of i index
+  index_but rows index i row now inside read same is = record {
+    within = subst (λ n. index.covered ≤ n) (sym (length-set rows i now)) is.within;
+    noted = λ place other c below elsewhere at has. elim (get_set rows i now place other at) [
+      | inl here ↦ absurd (elsewhere here.0)
+      | inr as_before ↦ is.noted place other c below as_before has
+    ];
+    marked = marks_set mark_of rows index.covered index.marks i now row (slice_get_read rows (length rows) i row refl inside read) same is.marked;
   }
 
   module _ (f : X → X) (rows : List X) (index : Index) (i : ℕ) (row : X) (fewer : (c : ℕ) → HasClue (clues_of (f row)) c → HasClue (clues_of row) c)

@@ -42,3 +42,9 @@ module _ {X : Type 0} (clues_of : X → Clues) (rows : List X) where
     pub within : index.covered ≤ length rows
     pub noted : (place : ℕ) (row : X) (c : ℕ) → place < index.covered → slice_get rows place ≡ Some row → HasClue (clues_of row) c → IsNoted index.slots place c
     pub marked : AreMarksOf mark_of rows index.covered index.marks
+
+  -- the same, but that the row of one place need not be found by its clues
+  pub record IsIndexBut (mark_of : X → Option ℕ) (but : ℕ) (index : Index) : Type 0 where
+    pub within : index.covered ≤ length rows
+    pub noted : (place : ℕ) (row : X) (c : ℕ) → place < index.covered → (place ≡ but → ⊥) → slice_get rows place ≡ Some row → HasClue (clues_of row) c → IsNoted index.slots place c
+    pub marked : AreMarksOf mark_of rows index.covered index.marks

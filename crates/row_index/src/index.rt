@@ -1,5 +1,5 @@
 ghost use Rattle.std.specs.Prelude.{◌≡◌, ◌<◌, ◌≤◌, ◌↔◌, Some, slice_get, take, length, IsTrue, OnOk, [], zero, count_by, is_some, MatchOption};
-ghost use Rattle.row_index.specs.Index.{HasClue, IsIndexOf, IsNoted, IsSlotFor, StaysNoted};
+ghost use Rattle.row_index.specs.Index.{HasClue, IsIndexBut, IsIndexOf, IsNoted, IsSlotFor, StaysNoted};
 ghost use Rattle.row_index.specs.Marks.{places_at, has_mark, NoneHasMark, IsFirstMarked, ForgetsPlace};
 ghost use Rattle.row_index.specs.Narrow.{Narrows, seen};
 
@@ -142,6 +142,16 @@ impl Index {
             self.covered += 1;
         }
         Ok(())
+    }
+
+    /// Takes in that the row of a place has other keys than it had.
+    pub fn learn<T: Keyed>(&mut self, rows: &[T], place: usize) -> Result<(), AllocError>
+        requires within { place < length rows.now }
+        requires others { IsIndexBut T.clues_of rows.now T.mark_of place self.old }
+        ensures index { OnOk result (IsIndexOf T.clues_of rows.now T.mark_of self.new) }
+        ensures covered { self.new.covered ≡ self.old.covered }
+    {
+        note_row(&mut self.slots, rows, place)
     }
 
     /// The rows before a place that may have a clue.

@@ -3,6 +3,7 @@ use Rattle.std.proofs.Common.{◌≡◌, ℕ, zero, suc, ◌+◌, ◌≤◌, ◌
 use Rattle.std.specs.Prelude.{IfOk, OnOk, slice_get}
 use Rattle.app_manifest.specs.declared.manifest.Manifest.{Manifest}
 use Rattle.host_base.specs.declared.bytes.Memory.{Memory}
+use Rattle.host_base.specs.declared.digest.Digest.{Digest}
 use Rattle.std.proofs.lemmas.List.{length-append}
 use Rattle.std.proofs.lemmas.List.Elements.{All-nil}
 use Rattle.share_graph.specs.declared.event.Event.{Event}
@@ -17,7 +18,7 @@ use Rattle.share_graph.specs.declared.state.Tables.{Tables}
 use Rattle.share_graph.specs.Changing.{change, change_row}
 use Rattle.share_graph.specs.EventFits.{EventFits}
 use Rattle.share_graph.specs.History.{tables_after}
-use Rattle.share_graph.specs.Setting.{with_admin, with_enabled, with_manifest, with_trashed, revoked, dropped}
+use Rattle.share_graph.specs.Setting.{with_admin, with_enabled, with_login, with_manifest, with_trashed, revoked, dropped}
 use Rattle.share_graph.specs.Rows.{row}
 use Rattle.share_graph.specs.WellFormed.{IsWellFormed}
 use Rattle.share_graph.proofs.Marked.{row_changed}
@@ -82,6 +83,15 @@ upgraded_fits s (suc i) manifest f fits x is =
     let number : x.num.0 ≡ suc i = f.formed.numbered.apps i (with_manifest manifest x) there ∙ omega arith in
     subst (λ (k : ℕ). (app k).fits (with_manifest manifest x)) number (fits x is short)
 
+-- an account with another login fits
+login_fits : (s : State) (n : ℕ) (login : Digest) → EventFits s (event.LoginSet (record { 0 = n }) login) → AddedFits s.tables (event.LoginSet (record { 0 = n }) login)
+    → (x : Account) → row s.tables.accounts n ≡ Some x → (account n).fits (with_login login x)
+login_fits s zero login f fits x is = cc is
+login_fits s (suc i) login f fits x is =
+    let there = row_changed (with_login login) s.tables.accounts (suc i) x is in
+    let number : x.num.0 ≡ suc i = f.formed.numbered.accounts i (with_login login x) there ∙ omega arith in
+    subst (λ (k : ℕ). (account k).fits (with_login login x)) number (fits x is)
+
 -- what is set in a row leaves it one that fits
 admin_fits : (on : Bool) (n : ℕ) (a : Account) → (account n).fits a → (account n).fits (with_admin on a)
 admin_fits on n a h = ((h.0.0, (h.0.1.0, (h.0.1.1.0, (flag_fits on, h.0.1.1.1.1)))), ap (with_admin on) h.1)
@@ -141,6 +151,13 @@ have_rows_after s (event.SavedAdded v) f fits h =
     record { accounts = h.accounts; apps = h.apps; grains = h.grains; grants = h.grants; saved = one_more_fits 65536 saved 1 s.tables.saved v v.num.0 h.saved (omega (arith, next)) (at_end 65536 s.tables.saved v v.num.0 next f.formed.limits.saved) fits }
 have_rows_after s (event.AdminSet a on) f fits h = record { accounts = row_change_fits 4096 account (with_admin on) (admin_fits on) s.tables.accounts a.0 h.accounts; apps = h.apps; grains = h.grains; grants = h.grants; saved = h.saved }
 have_rows_after s (event.EnabledSet a on) f fits h = record { accounts = row_change_fits 4096 account (with_enabled on) (enabled_fits on) s.tables.accounts a.0 h.accounts; apps = h.apps; grains = h.grains; grants = h.grants; saved = h.saved }
+have_rows_after s (event.LoginSet a login) f fits h = record {
+  accounts = row_change_fits_at 4096 account (with_login login) s.tables.accounts a.0 (login_fits s a.0 login f fits) h.accounts;
+  apps = h.apps;
+  grains = h.grains;
+  grants = h.grants;
+  saved = h.saved;
+}
 have_rows_after s (event.TrashedSet n on) f fits h = record { accounts = h.accounts; apps = h.apps; grains = row_change_fits 16384 grain (with_trashed on) (trashed_fits on) s.tables.grains n.0 h.grains; grants = h.grants; saved = h.saved }
 have_rows_after s (event.GrantRevoked g) f fits h = record { accounts = h.accounts; apps = h.apps; grains = h.grains; grants = row_change_fits 65536 grant revoked revoked_fits s.tables.grants g.0 h.grants; saved = h.saved }
 have_rows_after s (event.SavedDropped v) f fits h = record { accounts = h.accounts; apps = h.apps; grains = h.grains; grants = h.grants; saved = row_change_fits 65536 saved dropped dropped_fits s.tables.saved v.0 h.saved }
@@ -217,6 +234,9 @@ rows_after s (event.AdminSet a on) f =
     with_that _ _ _ _ p.0 p.1
 rows_after s (event.EnabledSet a on) f =
     let p = changed 1 account (with_enabled on) s.tables.accounts a.0 f.changed.0 _ f.changed.1 in
+    with_that _ _ _ _ p.0 p.1
+rows_after s (event.LoginSet a login) f =
+    let p = changed 1 account (with_login login) s.tables.accounts a.0 f.changed.0 _ f.changed.1 in
     with_that _ _ _ _ p.0 p.1
 rows_after s (event.TrashedSet n on) f =
     let p = changed 3 grain (with_trashed on) s.tables.grains n.0 f.changed.0 _ f.changed.1 in

@@ -21,6 +21,7 @@ fits_next s (event.SavedAdded saved) h = next (λ v. v.num.0) s.tables.saved sav
 fits_next s (event.AppUpgraded p manifest) h = tt
 fits_next s (event.AdminSet a on) h = tt
 fits_next s (event.EnabledSet a on) h = tt
+fits_next s (event.LoginSet a login) h = tt
 fits_next s (event.TrashedSet n on) h = tt
 fits_next s (event.GrantRevoked g) h = tt
 fits_next s (event.SavedDropped v) h = tt

@@ -3,11 +3,12 @@ use Rattle.std.specs.Prelude.{◌≡◌, ◌+◌, length, Option}
 use Rattle.std.specs.Option.{option_and_then}
 use Rattle.share_graph.specs.declared.event.Event.{Event}
 use Rattle.share_graph.specs.declared.event.Event.TheVariants as event
+use Rattle.share_graph.specs.declared.rows.Account.{Account}
 use Rattle.share_graph.specs.declared.rows.App.{App}
 use Rattle.share_graph.specs.declared.state.Tables.{Tables}
 use Rattle.share_graph.specs.History.{tables_after}
-use Rattle.share_graph.specs.Rows.{IsApp}
-use Rattle.share_graph.specs.Setting.{with_manifest}
+use Rattle.share_graph.specs.Rows.{IsAccount, IsApp}
+use Rattle.share_graph.specs.Setting.{with_login, with_manifest}
 use Rattle.state_step.specs.Changed.{changed_row}
 use Rattle.cloud_keeper.specs.declared.row.Row.{Row}
 use Rattle.row_codec.specs.Rows.{account, grain, saved}
@@ -26,6 +27,7 @@ AddsNext t (event.SavedAdded saved) = saved.num.0 ≡ length t.saved + 1
 AddsNext t (event.AppUpgraded p manifest) = Unit {0}
 AddsNext t (event.AdminSet a on) = Unit {0}
 AddsNext t (event.EnabledSet a on) = Unit {0}
+AddsNext t (event.LoginSet a login) = Unit {0}
 AddsNext t (event.TrashedSet n on) = Unit {0}
 AddsNext t (event.GrantRevoked g) = Unit {0}
 AddsNext t (event.SavedDropped v) = Unit {0}
@@ -36,11 +38,12 @@ AddsNext t (event.SessionClosed n) = Unit {0}
 AddsNext t (event.HandleMade handle) = Unit {0}
 AddsNext t (event.Ticked m) = Unit {0}
 
--- the row that the event adds, or the application as it has it, fits the row of the number that it carries
+-- the row that the event adds, or the account or the application as it has it, fits the row of the number that it carries
 abbrev pub AddedFits : Tables → Event → Type 0
 AddedFits t (event.AccountAdded row) = (account row.num.0).fits row
 AddedFits t (event.AppAdded row) = IsCountableApp row → (app row.num.0).fits row
 AddedFits t (event.AppUpgraded p manifest) = (x : App) → IsApp t p x → IsCountableApp (with_manifest manifest x) → (app x.num.0).fits (with_manifest manifest x)
+AddedFits t (event.LoginSet a login) = (x : Account) → IsAccount t a x → (account x.num.0).fits (with_login login x)
 AddedFits t (event.GrainAdded row) = (grain row.num.0).fits row
 AddedFits t (event.GrantAdded row) = IsCountableGrant row → (grant row.num.0).fits row
 AddedFits t (event.Claimed row handle) = IsCountableGrant row → (grant row.num.0).fits row

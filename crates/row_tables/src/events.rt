@@ -2,10 +2,11 @@
 
 ghost use Rattle.std.specs.Prelude.{◌≡◌, List, Some, IfOk, OnOk, option_map};
 ghost use Rattle.std.specs.Option.{option_copied};
-ghost use Rattle.share_graph.specs.Setting.{with_admin, with_enabled, with_manifest, with_trashed, revoked, dropped};
+ghost use Rattle.share_graph.specs.Setting.{with_admin, with_enabled, with_login, with_manifest, with_trashed, revoked, dropped};
 ghost use Rattle.share_graph.specs.EventFits.{EventFits};
 ghost use Rattle.share_graph.specs.History.{tables_after};
 ghost use Rattle.share_graph.specs.WellFormed.{IsWellFormed};
+ghost use Rattle.share_graph.specs.declared.rows.Account as the_account;
 ghost use Rattle.share_graph.specs.declared.rows.App as the_app;
 ghost use Rattle.share_graph.specs.declared.state.State.{State};
 ghost use Rattle.cloud_keeper.specs.declared.row.Row.{Row};
@@ -19,7 +20,7 @@ ghost use Rattle.row_tables.specs.Kept.{AreRowsOf, with_row};
 use crate::writing::stored;
 use app_manifest::Manifest;
 use cloud_keeper::Row;
-use host_base::Memory;
+use host_base::{Digest, Memory};
 use share_graph::{
     Account, App, Event, Grain, Grant, Saved, Tables, account, app, grain, grant, saved,
 };
@@ -97,6 +98,28 @@ fn enabled_set(
         Some(row) => {
             let mut changed = copy_of_account(row)?;
             changed.enabled = on;
+            Ok(Some(stored(alloc, 1, num, &changed)?))
+        }
+        None => Ok(None),
+    }
+}
+
+// The row of an account after it got another login.
+fn login_set(
+    alloc: Global,
+    row: Option<&Account>,
+    num: u32,
+    login: Digest,
+) -> Result<Option<Row>, Memory>
+    ensures row { IfOk result (λ r. r ≡ option_map (stored 1 an_account num)
+        (option_map (with_login login) (option_copied row.entry))) }
+    ensures fits { OnOk result ((x : the_account.Account) → option_copied row.entry ≡ Some x
+        → (an_account x.num.0).fits (with_login login x)) }
+{
+    match row {
+        Some(row) => {
+            let mut changed = copy_of_account(row)?;
+            changed.login = login;
             Ok(Some(stored(alloc, 1, num, &changed)?))
         }
         None => Ok(None),
@@ -190,6 +213,7 @@ fn event_row(alloc: Global, tables: &Tables, event: &Event) -> Result<Option<Row
         Event::SavedAdded(row) => Ok(Some(stored(alloc, 5, row.num.0, row)?)),
         Event::AdminSet(num, on) => admin_set(alloc, account(tables, *num), num.0, *on),
         Event::EnabledSet(num, on) => enabled_set(alloc, account(tables, *num), num.0, *on),
+        Event::LoginSet(num, login) => login_set(alloc, account(tables, *num), num.0, *login),
         Event::AppUpgraded(num, manifest) => {
             app_upgraded(alloc, app(tables, *num), num.0, manifest)
         }

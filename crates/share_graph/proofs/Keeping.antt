@@ -1,5 +1,5 @@
 -- Rows keep their room and their index where one of them is changed so that it has no further clue.
-use Rattle.std.proofs.Common.{if◌then◌else◌, ◌≡◌, ◌<◌, ℕ, Bool, true, Option, Some, None, inl, inr, slice_index_or, slice_set, vec_len, length, refl, sym, ◌∙◌, arith}
+use Rattle.std.proofs.Common.{if◌then◌else◌, ◌≡◌, ◌<◌, ℕ, Bool, true, false, Option, Some, None, inl, inr, slice_index_or, slice_set, vec_len, length, refl, subst, sym, ◌∙◌, arith}
 use Rattle.std.proofs.lemmas.List.{length-set}
 use Rattle.std.specs.Global.{Vec}
 use Rattle.std.specs.Vec.{with_item}
@@ -8,9 +8,9 @@ use Rattle.row_index.specs.declared.clues.Clues.{Clues}
 use Rattle.row_index.specs.declared.index.Index.{Index}
 use Rattle.row_index.specs.declared.ways.Link.{Link}
 use Rattle.row_index.specs.declared.ways.Ways.{Ways}
-use Rattle.row_index.specs.Index.{HasClue}
+use Rattle.row_index.specs.Index.{HasClue, IsIndexBut, IsIndexOf}
 use Rattle.row_index.specs.Marks.{ForgetsPlace}
-use Rattle.row_index.proofs.Indexed.{index_keeps, index_loses}
+use Rattle.row_index.proofs.Indexed.{index_but, index_keeps, index_loses}
 use Rattle.row_index.proofs.Leading.{ways_keep}
 use Rattle.share_graph.specs.declared.grants.Giver.{Giver}
 use Rattle.share_graph.specs.declared.grants.Giver.TheVariants as giver
@@ -44,6 +44,28 @@ module _ {X : Type 0} (clues_of : X → Clues) (mark_of : X → Option ℕ) (lin
     index_of = index_loses clues_of mark_of f items.items index i row fewer within read is.index_of mark after had none slots covered forgets;
     ways_of = ways_keep link_of f items.items ways i row stands within read is.ways_of;
     all = λ fed. let (indexed, led) = is.all fed in (covered ∙ (indexed ∙ same_number), led ∙ same_number);
+  }
+
+-- a row whose clues have changed, once its index has learnt them
+module _ {X : Type 0} (clues_of : X → Clues) (mark_of : X → Option ℕ) (link_of : X → Link) (f : X → X) (items : Vec X) (index : Index) (ways : Ways) (i : ℕ) (row : X)
+    (stands : link_of (f row) ≡ link_of row) (within : i < vec_len items) (read : row ≡ slice_index_or items.items i row) where
+  inside : i < length items.items
+  inside = omega (arith, within, items.ok.0)
+
+  pub within_set : i < length (slice_set items.items i (f row))
+  within_set = subst (λ n. i < n) (sym (length-set items.items i (f row))) inside
+
+  pub others_known : {starved : Bool} → mark_of (f row) ≡ mark_of row → IsRowsOf clues_of mark_of link_of items index ways starved → IsIndexBut clues_of (slice_set items.items i (f row)) mark_of i index
+  others_known same is = index_but clues_of mark_of items.items index i row (f row) inside read same is.index_of
+
+  pub rows_learn : {starved : Bool} → (after : Index) (still : Bool) → IsIndexOf clues_of (slice_set items.items i (f row)) mark_of after → (still ≡ false → (starved ≡ false) × (after.covered ≡ index.covered))
+      → IsRowsOf clues_of mark_of link_of items index ways starved → IsRowsOf clues_of mark_of link_of (with_item items i (f row)) after ways still
+  rows_learn after still learnt fed is = record {
+    room = is.room;
+    index_of = learnt;
+    ways_of = ways_keep link_of f items.items ways i row stands inside read is.ways_of;
+    all = λ not_starved. let (was, kept) = fed not_starved in let (indexed, led) = is.all was in
+        (kept ∙ (indexed ∙ sym (length-set items.items i (f row))), led ∙ sym (length-set items.items i (f row)));
   }
 
 pub stopped_fewer : (run : Run) (c : ℕ) → HasClue (run_clues (stopped run)) c → HasClue (run_clues run) c

@@ -18,6 +18,7 @@ use Rattle.share_graph.specs.WellFormed.{IsWellFormed}
 abbrev pub HasChanged : State → Event → Type 0
 HasChanged s (event.AdminSet a on) = HasAccount s.tables a
 HasChanged s (event.EnabledSet a on) = HasAccount s.tables a
+HasChanged s (event.LoginSet a login) = HasAccount s.tables a
 HasChanged s (event.AppUpgraded p manifest) = (app : App) × IsApp s.tables p app × StillFits app.manifest manifest
 HasChanged s (event.TrashedSet n on) = HasGrain s.tables n
 HasChanged s (event.GrantRevoked g) = HasGrant s.tables g

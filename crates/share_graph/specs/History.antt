@@ -9,7 +9,7 @@ use Rattle.share_graph.specs.declared.state.State.{State}
 use Rattle.share_graph.specs.declared.state.Tables.{Tables}
 use Rattle.share_graph.specs.Changing.{change_row}
 use Rattle.share_graph.specs.Revoking.{revoke_in}
-use Rattle.share_graph.specs.Setting.{with_admin, with_enabled, with_manifest, with_trashed, dropped, stopped, closed}
+use Rattle.share_graph.specs.Setting.{with_admin, with_enabled, with_login, with_manifest, with_trashed, dropped, stopped, closed}
 
 abbrev pub is_same_root : Root → Root → Bool
 is_same_root (root.Account a) (root.Account b) = a.0 == b.0
@@ -42,6 +42,7 @@ tables_after t (event.GrantAdded grant) = record t { grants = t.grants ++ grant 
 tables_after t (event.SavedAdded saved) = record t { saved = t.saved ++ saved ∷ [] }
 tables_after t (event.AdminSet a on) = record t { accounts = change_row (with_admin on) t.accounts a.0 }
 tables_after t (event.EnabledSet a on) = record t { accounts = change_row (with_enabled on) t.accounts a.0 }
+tables_after t (event.LoginSet a login) = record t { accounts = change_row (with_login login) t.accounts a.0 }
 tables_after t (event.TrashedSet n on) = record t { grains = change_row (with_trashed on) t.grains n.0 }
 tables_after t (event.GrantRevoked g) = revoke_in t g
 tables_after t (event.Claimed grant handle) = record t { grants = t.grants ++ grant ∷ [] }
@@ -63,6 +64,7 @@ after s (event.GrantAdded grant) = record s { tables = tables_after s.tables (ev
 after s (event.SavedAdded saved) = record s { tables = tables_after s.tables (event.SavedAdded saved) }
 after s (event.AdminSet a on) = record s { tables = tables_after s.tables (event.AdminSet a on) }
 after s (event.EnabledSet a on) = record s { tables = tables_after s.tables (event.EnabledSet a on) }
+after s (event.LoginSet a login) = record s { tables = tables_after s.tables (event.LoginSet a login) }
 after s (event.TrashedSet n on) = record s { tables = tables_after s.tables (event.TrashedSet n on) }
 after s (event.GrantRevoked g) = record s { tables = tables_after s.tables (event.GrantRevoked g) }
 after s (event.SavedDropped v) = record s { tables = tables_after s.tables (event.SavedDropped v) }

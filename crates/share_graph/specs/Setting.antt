@@ -1,6 +1,7 @@
 -- What events set in rows.
 use Rattle.std.specs.Prelude.{Bool, true}
 use Rattle.app_manifest.specs.declared.manifest.Manifest.{Manifest}
+use Rattle.host_base.specs.declared.digest.Digest.{Digest}
 use Rattle.share_graph.specs.declared.grants.Grant.{Grant}
 use Rattle.share_graph.specs.declared.rows.Account.{Account}
 use Rattle.share_graph.specs.declared.rows.App.{App}
@@ -14,6 +15,9 @@ with_admin on account = record account { admin = on }
 
 abbrev pub with_enabled : Bool → Account → Account
 with_enabled on account = record account { enabled = on }
+
+abbrev pub with_login : Digest → Account → Account
+with_login login account = record account { login = login }
 
 abbrev pub with_manifest : Manifest → App → App
 with_manifest manifest app = record app { manifest = manifest }

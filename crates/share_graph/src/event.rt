@@ -2,7 +2,7 @@ use crate::grants::Grant;
 use crate::rows::{Account, App, Grain, Saved};
 use crate::sessions::{Handle, Run, Session};
 use app_manifest::Manifest;
-use host_base::{AccountId, AppId, GrainId, GrantId, RunId, SavedId, SessionId};
+use host_base::{AccountId, AppId, Digest, GrainId, GrantId, RunId, SavedId, SessionId};
 
 /// What an accepted command does: it adds a whole row, or sets one value of the row of a number.
 #[derive(Clone, Drop)]
@@ -16,6 +16,8 @@ pub enum Event {
     SavedAdded(Saved),
     AdminSet(AccountId, bool),
     EnabledSet(AccountId, bool),
+    /// The account is known by this login from then on.
+    LoginSet(AccountId, Digest),
     TrashedSet(GrainId, bool),
     GrantRevoked(GrantId),
     /// A grain claimed a grant: what it holds from then on, and the handle to that.

@@ -1,7 +1,7 @@
-ghost use Rattle.std.specs.Prelude.{◌≡◌, ◌∷◌, ◌++◌, [], ◌≤◌, ◌+◌, length, map, take, count_by, is_some, IsTrue, MatchOption, IfSome, IfOk, OnOk, OnErr, vec_len, vec_capacity};
+ghost use Rattle.std.specs.Prelude.{◌≡◌, ◌∷◌, ◌++◌, [], ◌<◌, ◌≤◌, ◌+◌, false, length, map, take, count_by, is_some, IsTrue, MatchOption, IfSome, IfOk, OnOk, OnErr, vec_len, vec_capacity};
 ghost use Rattle.row_index.specs.Marks.{has_mark, NoneHasMark, IsFirstMarked};
 ghost use Rattle.row_index.specs.Narrow.{Narrows, seen};
-ghost use Rattle.row_index.specs.Index.{IsIndexOf};
+ghost use Rattle.row_index.specs.Index.{IsIndexBut, IsIndexOf};
 ghost use Rattle.row_index.specs.Ways.{AreWaysOf, Leads};
 ghost use Rattle.row_index.specs.declared.index.Index.{Index};
 ghost use Rattle.row_index.specs.declared.ways.Ways.{Ways};
@@ -19,7 +19,7 @@ pub struct Rows<T: Keyed> {
     pub(crate) index: Index,
     ways: Ways,
     // Memory ran out when rows were last covered.
-    starved: bool,
+    pub(crate) starved: bool,
 }
 
 // Written by hand, so that whoever lets rows go makes one call.
@@ -101,6 +101,21 @@ fn cover<T: Keyed>(items: &Vec<T>, index: &mut Index, ways: &mut Ways) -> bool
     let of_index = index.cover(rows).is_err();
     let of_ways = ways.cover(rows).is_err();
     of_index || of_ways
+}
+
+// Takes in that the row of a place has other keys than an index knows. Where there is no memory for that, which it says, the
+// index covers nothing from then on.
+pub(crate) fn learn<T: Keyed>(items: &Vec<T>, index: &mut Index, place: usize) -> bool
+    requires within { place < length items.now.items }
+    requires others { IsIndexBut T.clues_of items.now.items T.mark_of place index.old }
+    ensures index { IsIndexOf T.clues_of items.now.items T.mark_of index.new }
+    ensures covered { result ≡ false → index.new.covered ≡ index.old.covered }
+{
+    if index.learn(items.as_slice(), place).is_ok() {
+        return false;
+    }
+    *index = Index::empty(*items.allocator());
+    true
 }
 
 impl<T: Keyed> Rows<T> {

@@ -1,15 +1,15 @@
 ghost use Rattle.std.specs.Prelude.{◌≡◌, ◌<◌, ◌+◌, ◌==◌, ◌⊎◌, length, count_by, not, MatchOption};
 ghost use Rattle.share_graph.specs.Changing.{change, change_row};
 ghost use Rattle.share_graph.specs.History.{is_open_of, close_first};
-ghost use Rattle.share_graph.specs.Setting.{with_admin, with_enabled, with_manifest, with_trashed, revoked, dropped, stopped, closed};
+ghost use Rattle.share_graph.specs.Setting.{with_admin, with_enabled, with_login, with_manifest, with_trashed, revoked, dropped, stopped, closed};
 
 use crate::grants::Grant;
 use crate::keyed::root_mark;
-use crate::row_list::Rows;
+use crate::row_list::{Rows, learn};
 use crate::rows::{Account, App, Grain, Saved};
 use crate::sessions::{Handle, Root, Run, Session};
 use app_manifest::Manifest;
-use host_base::{AccountId, AppId, GrainId, GrantId, RunId, SavedId, SessionId};
+use host_base::{AccountId, AppId, Digest, GrainId, GrantId, RunId, SavedId, SessionId};
 use row_index::Keyed;
 
 // The place, from 0, of the row of a number, from 1.
@@ -41,6 +41,19 @@ impl Rows<Account> {
     {
         if let Some(place) = place_of(u64::from(num.0), self.items.len()) {
             self.items[place].enabled = on;
+        }
+    }
+
+    /// Gives the account of a number another login. Where it isn't there nothing changes.
+    #[tactic(auto, using(crate::proofs::ChangedRow::sets_nothing))]
+    pub fn set_login(&mut self, num: AccountId, login: Digest)
+        ensures { self.new ≡ change_row (with_login login) self.old num.0 }
+    {
+        if let Some(place) = place_of(u64::from(num.0), self.items.len()) {
+            self.items[place].login = login;
+            if learn(&self.items, &mut self.index, place) {
+                self.starved = true;
+            }
         }
     }
 }

@@ -1,6 +1,7 @@
 -- An event may cross threads, as what each of its variants has may.
 use denote.Param.Send.{IsSend, sendable}
 use denote.Param.SendFields.{variants_send}
+use Rattle.host_base.proofs.digest.Digest.TheSendSync as digest
 use Rattle.host_base.proofs.ids.AccountId.TheSendSync as account_id
 use Rattle.host_base.proofs.ids.AppId.TheSendSync as app_id
 use Rattle.host_base.proofs.ids.GrainId.TheSendSync as grain_id
@@ -37,22 +38,25 @@ Event-send =
                   (
                     (account_id.the_send, (search sendable depth 5, tt)),
                     (
-                      (grain_id.the_send, (search sendable depth 5, tt)),
+                      (account_id.the_send, (digest.the_send, tt)),
                       (
-                        (grant_id.the_send, tt),
+                        (grain_id.the_send, (search sendable depth 5, tt)),
                         (
-                          (grant.the_send, (handle.the_send, tt)),
+                          (grant_id.the_send, tt),
                           (
-                            (saved_id.the_send, tt),
+                            (grant.the_send, (handle.the_send, tt)),
                             (
-                              (run.the_send, tt),
+                              (saved_id.the_send, tt),
                               (
-                                (run_id.the_send, tt),
+                                (run.the_send, tt),
                                 (
-                                  (session.the_send, tt),
+                                  (run_id.the_send, tt),
                                   (
-                                    (session_id.the_send, tt),
-                                    ((handle.the_send, tt), ((search sendable depth 5, tt), tt)),
+                                    (session.the_send, tt),
+                                    (
+                                      (session_id.the_send, tt),
+                                      ((handle.the_send, tt), ((search sendable depth 5, tt), tt)),
+                                    ),
                                   ),
                                 ),
                               ),

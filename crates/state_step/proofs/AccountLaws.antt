@@ -1,5 +1,6 @@
--- An account that is added, or whose marks are set, leaves a well-formed state so.
-use Rattle.std.proofs.Common.{◌≡◌, ◌≤◌, ℕ, Bool, true, List, [], ◌∷◌, ◌++◌, Option, Some, None, length, refl, ap, subst, arith, length-append}
+-- An account that is added, whose marks are set, or that gets another login, leaves a well-formed state so.
+use Rattle.std.proofs.Common.{◌≡◌, ◌≤◌, ℕ, suc, Bool, true, List, [], ◌∷◌, ◌++◌, Contains, Option, Some, None, inl, inr, length, map, refl, ap, sym, ◌∙◌, subst, arith, length-append, add-one}
+use Rattle.host_base.specs.declared.digest.Digest.{Digest}
 use Rattle.host_base.specs.declared.ids.AccountId.{AccountId}
 use Rattle.share_graph.specs.declared.event.Event.TheVariants as event
 use Rattle.share_graph.specs.declared.fault.Kind.TheVariants as kind
@@ -11,16 +12,17 @@ use Rattle.share_graph.specs.EventFits.{EventFits}
 use Rattle.share_graph.specs.Fresh.{is_handle}
 use Rattle.share_graph.specs.Kinds.{KnownDigest, IsUnused}
 use Rattle.share_graph.specs.Known.{HasAccount}
-use Rattle.share_graph.specs.Setting.{with_admin, with_enabled}
+use Rattle.share_graph.specs.Setting.{with_admin, with_enabled, with_login}
 use Rattle.share_graph.specs.WellFormed.{AreNumbered, IsWellFormed}
 use Rattle.share_graph.proofs.Apart.{logins, tokens, references, keys, run_tokens}
-use Rattle.state_step.specs.NewRows.{IsNewAccount}
+use Rattle.share_graph.proofs.Contained.{contains-map, contains_at, place_of}
+use Rattle.state_step.specs.NewRows.{IsNewAccount, IsNewLogin}
 use Rattle.state_step.proofs.Digests.{Adds, adds_none, adds_pushed, apart_after, one_unused, none_unused}
 use Rattle.state_step.proofs.Each.{Each, AreApartBy, push_old_row, each_pushed, numbered_pushed, apart_pushed}
 use Rattle.state_step.proofs.Extending.{Extends, fits_same, knows_of_grain}
 use Rattle.state_step.proofs.NextTables.{with_tables, still_sound_grant, still_sound_saved, next_tables, tables_numbered}
 use Rattle.state_step.proofs.Sound.{sound_of}
-use Rattle.state_step.proofs.Touched.{AreTouched, change_row_touches, touched_row, length_touched, each_touched, numbered_touched, apart_touched, map_touched}
+use Rattle.state_step.proofs.Touched.{AreTouched, change_row_touches, changed_row_at, mapped_from, touched_row, length_touched, each_touched, numbered_touched, apart_touched, map_touched}
 
 abbrev with_accounts : Tables → List Account → Tables
 with_accounts t accounts = record t { accounts = accounts }
@@ -90,40 +92,66 @@ account_added_fits s formed account new =
       });
     }
 
--- The change keeps an account's number, handle and login.
+-- The change keeps an account's number and handle.
 record KeepsAccount (f : Account → Account) : Type 0 where
   num : (x : Account) → (f x).num ≡ x.num
   handle : (x : Account) → (f x).handle ≡ x.handle
-  login : (x : Account) → (f x).login ≡ x.login
 
--- an account that is changed in its marks leaves the state well formed
-account_changed : (f : Account → Account) → KeepsAccount f → (s : State) → IsWellFormed s → (n : ℕ) → IsWellFormed (with_tables s (with_accounts s.tables (change_row f s.tables.accounts n)))
-account_changed f keeps s formed n =
+-- an account that is changed otherwise leaves the state well formed, where its login does
+account_changed : (f : Account → Account) → KeepsAccount f → (s : State) → IsWellFormed s → (n : ℕ) (added : Option KnownDigest)
+    → Adds added (logins s) (map login_of (change_row f s.tables.accounts n)) → ((e : KnownDigest) → added ≡ Some e → IsUnused s e.digest)
+    → IsWellFormed (with_tables s (with_accounts s.tables (change_row f s.tables.accounts n)))
+account_changed f keeps s formed n added adds unused =
     let sound = sound_of s.tables formed.tables in
     let xs = s.tables.accounts in
     let ys = change_row f s.tables.accounts n in
     let touched : AreTouched f xs ys = change_row_touches f xs n in
     let same_num = λ (x : Account). ap (λ (a : AccountId). a.0) (keeps.num x) in
-    next_accounts s formed ys None (record {
+    next_accounts s formed ys added (record {
       there = λ a (x, is). (let (y, again, same) = touched_row f xs ys touched a.0 x is in (y, again));
       few = subst (λ (len : ℕ). len ≤ 4096) (length_touched f xs ys touched) formed.limits.accounts;
       numbered = numbered_touched f (λ (x : Account). x.num.0) same_num xs ys touched formed.numbered.accounts;
       formed = each_touched f (λ k (x : Account). is_handle x.handle ≡ true) (λ k x is. rw (keeps.handle x) is) xs ys touched sound.formed;
       handles = apart_touched f (λ (x : Account). x.handle) keeps.handle xs ys touched sound.handles;
-      adds = adds_none None (logins s) _ (map_touched f login_of (λ x. (let nums = same_num x in let digests = keeps.login x in cc)) xs ys touched);
-      unused = none_unused s;
+      adds = adds;
+      unused = unused;
     })
+
+-- a mark that is set adds no login
+adds_no_login : (s : State) (f : Account → Account) (n : ℕ) → ((x : Account) → login_of (f x) ≡ login_of x) → Adds None (logins s) (map login_of (change_row f s.tables.accounts n))
+adds_no_login s f n same = adds_none None (logins s) _ (map_touched f login_of same s.tables.accounts _ (change_row_touches f s.tables.accounts n))
+
+-- a login that is set is the only one more
+adds_login : (s : State) → IsWellFormed s → (a : AccountId) (login : Digest)
+    → Adds (Some (record { kind = kind.Account; num = a.0; digest = login })) (logins s) (map login_of (change_row (with_login login) s.tables.accounts a.0))
+adds_login s formed a login known listed =
+    let (k, at) = place_of (map login_of (change_row (with_login login) s.tables.accounts a.0)) known listed in
+    let (y, there, its) = mapped_from login_of (change_row (with_login login) s.tables.accounts a.0) k known at in
+    elim (changed_row_at (with_login login) s.tables.accounts a.0 k y there) [
+      | inl as_before ↦ inl (subst (λ (e : KnownDigest). Contains (logins s) e) its (contains-map login_of s.tables.accounts y (contains_at s.tables.accounts k y as_before)))
+      | inr (here, x, was, changed) ↦
+          let number : x.num.0 ≡ a.0 = formed.numbered.accounts k x was ∙ (add-one k ∙ sym here) in
+          inr (ap (λ (n : ℕ). Some (record { kind = kind.Account; num = n; digest = login })) (sym number) ∙ ap (λ (z : Account). Some (login_of z)) changed ∙ ap Some its)
+    ]
 
 -- an account that is there may be made an admin, or not
 pub admin_set_fits : (s : State) → IsWellFormed s → (a : AccountId) (on : Bool) → HasAccount s.tables a → EventFits s (event.AdminSet a on)
 admin_set_fits s formed a on there = record {
   changed = there;
-  formed = account_changed (with_admin on) (record { num = λ x. refl; handle = λ x. refl; login = λ x. refl }) s formed a.0;
+  formed = account_changed (with_admin on) (record { num = λ x. refl; handle = λ x. refl }) s formed a.0 None (adds_no_login s (with_admin on) a.0 (λ x. refl)) (none_unused s);
 }
 
 -- and it may be enabled or disabled
 pub enabled_set_fits : (s : State) → IsWellFormed s → (a : AccountId) (on : Bool) → HasAccount s.tables a → EventFits s (event.EnabledSet a on)
 enabled_set_fits s formed a on there = record {
   changed = there;
-  formed = account_changed (with_enabled on) (record { num = λ x. refl; handle = λ x. refl; login = λ x. refl }) s formed a.0;
+  formed = account_changed (with_enabled on) (record { num = λ x. refl; handle = λ x. refl }) s formed a.0 None (adds_no_login s (with_enabled on) a.0 (λ x. refl)) (none_unused s);
+}
+
+-- and it may get a login that no row has
+pub login_set_fits : (s : State) → IsWellFormed s → (a : AccountId) (login : Digest) → IsNewLogin s a login → EventFits s (event.LoginSet a login)
+login_set_fits s formed a login new = record {
+  changed = new.changed;
+  formed = account_changed (with_login login) (record { num = λ x. refl; handle = λ x. refl }) s formed a.0 (Some (record { kind = kind.Account; num = a.0; digest = login }))
+      (adds_login s formed a login) (one_unused s _ new.unused);
 }

@@ -5,7 +5,7 @@ use Rattle.share_graph.specs.declared.state.State.{State}
 use Rattle.share_graph.specs.EventFits.{EventFits}
 use Rattle.share_graph.specs.WellFormed.{IsWellFormed}
 use Rattle.state_step.specs.Fits.{IsDue, DueFits}
-use Rattle.state_step.proofs.AccountLaws.{account_added_fits, admin_set_fits, enabled_set_fits}
+use Rattle.state_step.proofs.AccountLaws.{account_added_fits, admin_set_fits, enabled_set_fits, login_set_fits}
 use Rattle.state_step.proofs.AppLaws.{app_added_fits, app_upgraded_fits}
 use Rattle.state_step.proofs.GrainLaws.{grain_added_fits, trashed_set_fits}
 use Rattle.state_step.proofs.GrantLaws.{grant_added_fits, grant_revoked_fits}
@@ -25,6 +25,7 @@ fits_each s (event.GrantAdded grant) formed due = grant_added_fits s formed gran
 fits_each s (event.SavedAdded saved) formed due = saved_added_fits s formed saved due
 fits_each s (event.AdminSet a on) formed due = admin_set_fits s formed a on due
 fits_each s (event.EnabledSet a on) formed due = enabled_set_fits s formed a on due
+fits_each s (event.LoginSet a login) formed due = login_set_fits s formed a login due
 fits_each s (event.TrashedSet n on) formed due = trashed_set_fits s formed n on due
 fits_each s (event.GrantRevoked g) formed due = grant_revoked_fits s formed g due
 fits_each s (event.Claimed grant handle) formed due = claimed_fits s formed grant handle due

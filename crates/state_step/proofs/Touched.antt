@@ -30,6 +30,30 @@ pub change_row_touches : {X : Type 0} (f : X → X) (xs : List X) (n : ℕ) → 
 change_row_touches f xs zero = untouched f xs
 change_row_touches f xs (suc i) = change_touches f xs i
 
+changed_at : {X : Type 0} (f : X → X) (xs : List X) (i k : ℕ) (y : X) → slice_get (change f xs i) k ≡ Some y → (slice_get xs k ≡ Some y) ⊎ ((i ≡ k) × (x : X) × (slice_get xs k ≡ Some x) × (f x ≡ y))
+changed_at f [] i k y is = cc is
+changed_at f (x ∷ xs) zero zero y is = inr (refl, x, refl, cc)
+changed_at f (x ∷ xs) zero (suc k) y is = inl is
+changed_at f (x ∷ xs) (suc i) zero y is = inl is
+changed_at f (x ∷ xs) (suc i) (suc k) y is = elim (changed_at f xs i k y is) [
+  | inl same ↦ inl same
+  | inr (here, was, there, changed) ↦ inr (ap suc here, was, there, changed)
+]
+
+-- a row at a place is as it was, or it is the one that is changed
+pub changed_row_at : {X : Type 0} (f : X → X) (xs : List X) (n k : ℕ) (y : X) → slice_get (change_row f xs n) k ≡ Some y → (slice_get xs k ≡ Some y) ⊎ ((n ≡ suc k) × (x : X) × (slice_get xs k ≡ Some x) × (f x ≡ y))
+changed_row_at f xs zero k y is = inl is
+changed_row_at f xs (suc i) k y is = elim (changed_at f xs i k y is) [
+  | inl same ↦ inl same
+  | inr (here, was, there, changed) ↦ inr (ap suc here, was, there, changed)
+]
+
+-- what stands in a mapped list is of the row at its place
+pub mapped_from : {X Y : Type 0} (key : X → Y) (xs : List X) (k : ℕ) (y : Y) → slice_get (map key xs) k ≡ Some y → (x : X) × (slice_get xs k ≡ Some x) × (key x ≡ y)
+mapped_from key [] k y is = cc is
+mapped_from key (x ∷ xs) zero y is = (x, refl, cc)
+mapped_from key (x ∷ xs) (suc k) y is = mapped_from key xs k y is
+
 -- and so is a change of the first row that passes
 pub first_touches : {X : Type 0} (f : X → X) (test : Bool) (x : X) (xs rest : List X) → AreTouched f xs rest → AreTouched f (x ∷ xs) (if test then f x ∷ xs else x ∷ rest)
 first_touches f true x xs rest touched = (inr refl, untouched f xs)

@@ -4,7 +4,7 @@ use Rattle.share_graph.specs.declared.event.Event.TheVariants as event
 use Rattle.share_graph.specs.declared.state.State.{State}
 use Rattle.share_graph.specs.EventFits.{HasChanged, EventFits}
 use Rattle.share_graph.specs.WellFormed.{IsWellFormed}
-use Rattle.state_step.specs.NewRows.{IsNewAccount, IsNewApp, IsNewManifest, IsNewGrain, IsNewGrant, IsNewReference, IsNewSession, IsNewRun, IsNewHandle, IsNewClaim}
+use Rattle.state_step.specs.NewRows.{IsNewAccount, IsNewLogin, IsNewApp, IsNewManifest, IsNewGrain, IsNewGrant, IsNewReference, IsNewSession, IsNewRun, IsNewHandle, IsNewClaim}
 
 -- what is owed for an event: that its new row may be added, that the row which it changes is there, that its manifest may take the
 -- old one's place, or that its moment is above the last one
@@ -17,6 +17,7 @@ IsDue s (event.GrantAdded grant) = IsNewGrant s grant
 IsDue s (event.SavedAdded saved) = IsNewReference s saved
 IsDue s (event.AdminSet a on) = HasChanged s (event.AdminSet a on)
 IsDue s (event.EnabledSet a on) = HasChanged s (event.EnabledSet a on)
+IsDue s (event.LoginSet a login) = IsNewLogin s a login
 IsDue s (event.TrashedSet n on) = HasChanged s (event.TrashedSet n on)
 IsDue s (event.GrantRevoked g) = HasChanged s (event.GrantRevoked g)
 IsDue s (event.Claimed grant handle) = IsNewClaim s grant handle

@@ -2,6 +2,7 @@
 use Rattle.std.specs.Prelude.{◌≡◌, ◌≢◌, ◌<◌, ◌+◌, ◌==◌, ℕ, Contains, List, count_by, length, true, Option, Some, None}
 use Rattle.app_manifest.specs.declared.manifest.Manifest.{Manifest}
 use Rattle.host_base.specs.declared.digest.Digest.{Digest}
+use Rattle.host_base.specs.declared.ids.AccountId.{AccountId}
 use Rattle.host_base.specs.declared.ids.AppId.{AppId}
 use Rattle.share_graph.specs.declared.event.Event.TheVariants as event
 use Rattle.share_graph.specs.declared.grants.Grant.{Grant}
@@ -39,6 +40,11 @@ pub record IsNewAccount (s : State) (account : Account) : Type 0 where
   pub formed : is_handle account.handle ≡ true
   pub free : (other : Account) → Contains s.tables.accounts other → other.handle ≢ account.handle
   pub unused : IsUnused s account.login
+
+-- a new login of an account that is there: one that no row has
+pub record IsNewLogin (s : State) (a : AccountId) (login : Digest) : Type 0 where
+  pub changed : HasChanged s (event.LoginSet a login)
+  pub unused : IsUnused s login
 
 -- a new application: the next number, room, a sound manifest
 pub record IsNewApp (s : State) (app : App) : Type 0 where

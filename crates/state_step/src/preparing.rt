@@ -20,6 +20,7 @@ pub fn prepare(state: &State, event: Event) -> Result<Staged, Memory>
         Event::SavedAdded(row) => Staged::SavedAdded(row, tables.saved.room()?),
         Event::AdminSet(num, on) => Staged::AdminSet(num, on),
         Event::EnabledSet(num, on) => Staged::EnabledSet(num, on),
+        Event::LoginSet(num, login) => Staged::LoginSet(num, login),
         Event::TrashedSet(num, on) => Staged::TrashedSet(num, on),
         Event::GrantRevoked(num) => Staged::GrantRevoked(num),
         Event::Claimed(row, handle) => {

@@ -3,7 +3,7 @@ ghost use Rattle.share_graph.specs.History as history;
 ghost use Rattle.state_step.specs.Staging.{event_of, HasRoomFor};
 
 use app_manifest::Manifest;
-use host_base::{AccountId, AppId, GrainId, GrantId, RunId, SavedId, SessionId};
+use host_base::{AccountId, AppId, Digest, GrainId, GrantId, RunId, SavedId, SessionId};
 use share_graph::{Account, App, Grain, Grant, Handle, Room, Rows, Run, Saved, Session, State};
 
 /// How many open sessions a root may have.
@@ -19,6 +19,7 @@ pub enum Staged {
     SavedAdded(Saved, Room<Saved>),
     AdminSet(AccountId, bool),
     EnabledSet(AccountId, bool),
+    LoginSet(AccountId, Digest),
     TrashedSet(GrainId, bool),
     GrantRevoked(GrantId),
     Claimed(Grant, Room<Grant>, Handle, Room<Handle>),
@@ -43,6 +44,7 @@ impl Drop for Staged {
             Staged::SavedAdded(_, _) => (),
             Staged::AdminSet(_, _) => (),
             Staged::EnabledSet(_, _) => (),
+            Staged::LoginSet(_, _) => (),
             Staged::TrashedSet(_, _) => (),
             Staged::GrantRevoked(_) => (),
             Staged::Claimed(_, _, _, _) => (),
@@ -84,6 +86,7 @@ impl Staged {
             Staged::SavedAdded(row, room) => state.tables.saved.put(row, room),
             Staged::AdminSet(num, on) => state.tables.accounts.set_admin(num, on),
             Staged::EnabledSet(num, on) => state.tables.accounts.set_enabled(num, on),
+            Staged::LoginSet(num, login) => state.tables.accounts.set_login(num, login),
             Staged::TrashedSet(num, on) => state.tables.grains.set_trashed(num, on),
             Staged::GrantRevoked(num) => state.tables.grants.revoke(num),
             Staged::Claimed(row, room, handle, more) => {

@@ -12,6 +12,12 @@ returns-in-AccountAdmin c = states c.args.route (route.AccountAdmin c.in-Account
 pub returns-in-AccountEnabled : goal.returns-in-AccountEnabled
 returns-in-AccountEnabled c = states c.args.route (route.AccountEnabled c.in-AccountEnabled.num) c.args.who c.args.body.now _ c.enabled_mark.result c.in-AccountEnabled.is refl c.enabled_mark.ensures
 
+pub returns-in-AccountLogin : goal.returns-in-AccountLogin
+returns-in-AccountLogin c = states c.args.route (route.AccountLogin c.in-AccountLogin.num) c.args.who c.args.body.now _ c.plain.result c.in-AccountLogin.is refl c.plain.ensures
+
+pub returns-in-Login : goal.returns-in-Login
+returns-in-Login c = states c.args.route route.Login c.args.who c.args.body.now _ c.plain-in-Login.result c.in-Login.is refl c.plain-in-Login.ensures
+
 pub returns-in-Apps : goal.returns-in-Apps
 returns-in-Apps c = states c.args.route route.Apps c.args.who c.args.body.now _ c.new_app.result c.in-Apps.is refl c.new_app.ensures
 
@@ -22,7 +28,7 @@ pub returns-in-Grains : goal.returns-in-Grains
 returns-in-Grains c = states c.args.route route.Grains c.args.who c.args.body.now _ c.new_grain.result c.in-Grains.is refl c.new_grain.ensures
 
 pub returns-in-GrainTrash : goal.returns-in-GrainTrash
-returns-in-GrainTrash c = states c.args.route (route.GrainTrash c.in-GrainTrash.num) c.args.who c.args.body.now _ c.plain.result c.in-GrainTrash.is refl c.plain.ensures
+returns-in-GrainTrash c = states c.args.route (route.GrainTrash c.in-GrainTrash.num) c.args.who c.args.body.now _ c.plain-in-GrainTrash.result c.in-GrainTrash.is refl c.plain-in-GrainTrash.ensures
 
 pub returns-in-GrainUntrash : goal.returns-in-GrainUntrash
 returns-in-GrainUntrash c = states c.args.route (route.GrainUntrash c.in-GrainUntrash.num) c.args.who c.args.body.now _ c.plain-in-GrainUntrash.result c.in-GrainUntrash.is refl c.plain-in-GrainUntrash.ensures
