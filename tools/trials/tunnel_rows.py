@@ -187,7 +187,7 @@ ACCEPTS = "s3pPLMBiTxaQ9kYGzzhZRbK+xOo="
 # A WebSocket that is asked for at the port of connections: it is a request like others there.
 ASKING = ["Upgrade: websocket", "Connection: Upgrade", "Sec-WebSocket-Version: 13", "Sec-WebSocket-Key: dGhlIHNhbXBsZSBub25jZQ=="]
 AT_PORT = [
-    Ask("a WebSocket of the desk", "", "GET desk/", None, 404, '{"error":"NoRoute","of":[]}'),
+    Ask("a WebSocket of the desk", "", "GET desk/a", None, 404, '{"error":"NoRoute","of":[]}'),
     Ask("a WebSocket of a session", "", "GET ui-$key/", None, 200, asked("GET /", ADMIN, "view,edit", 1)),
 ]
 
