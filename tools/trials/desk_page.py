@@ -1,4 +1,4 @@
-"""The desk's page in two browsers, as nginx serves it by the configuration of docs/proxy, in front of a server."""
+"""The desk's page in two browsers, of a server by itself, and of one behind nginx by the configuration of docs/proxy."""
 import os
 import signal
 
@@ -16,9 +16,9 @@ FOUND_HERE = f"--host-resolver-rules=MAP *.{DOMAIN} 127.0.0.1"
 class DeskVisit(Visit):
     """Rows in a browser with the desk's page, and with the tabs that are opened there."""
 
-    def __init__(self, bench, walk, browser, folder, port):
+    def __init__(self, bench, walk, browser, folder, address):
         super().__init__(bench, walk, browser, folder)
-        self.address = f"https://desk.{DOMAIN}:{port}/"
+        self.address = address
 
     def play(self, part):
         for row in part:
@@ -62,23 +62,50 @@ class DeskVisit(Visit):
     }
 
 
-def desk_in(folder):
-    """The trial, with a folder for its pictures."""
+def started(bench, name, **how):
+    """A server with applications, and who has what at first, in a folder of this name."""
+    server = bench.serve(bench.place.make(name), Port(), 1000000, **how)
+    walk = Walk(bench.tally, server)
+    install(server)
+    walk.play(rows.BEGINNING)
+    return server, walk
+
+
+def visited(bench, walk, folder, address, *words):
+    """Who does what at an address, each in a browser of their own; pictures come into the folder."""
+    os.makedirs(folder, exist_ok=True)
+    name = bench.tally.title
+    with Browser(bench.place.make(f"{name}_ada"), *words) as ada, Browser(bench.place.make(f"{name}_ben"), *words) as ben:
+        browsers = {"ada": ada, "ben": ben}
+        for who, part, steps in rows.PARTS:
+            bench.tally.title = f"{name}: {part}"
+            DeskVisit(bench, walk, browsers[who], folder, address).play(steps)
+
+
+def is_lacking(bench):
+    """Whether there is no browser, which is a row that failed."""
+    if missing():
+        bench.same("what it needs (apt-get install chromium chromium-driver)", [], missing())
+    return bool(missing())
+
+
+def by_itself(bench):
+    """The page of a server that nothing stands in front of, at a name that browsers take for this machine."""
+    if is_lacking(bench):
+        return
+    server, walk = started(bench, "alone")
+    visited(bench, walk, bench.place.make("alone_pictures"), f"http://desk.localhost:{server.port}/")
+    kill(bench, server)
+
+
+def behind_nginx(folder):
+    """The trial of one behind nginx, with a folder for its pictures."""
     def desk(bench):
-        if missing():
-            bench.same("what it needs (apt-get install chromium chromium-driver)", [], missing())
+        if is_lacking(bench):
             return
-        os.makedirs(folder, exist_ok=True)
-        server = bench.serve(bench.place.make("desk"), Port(), 1000000, tunnels=(Port(), 1000000))
-        walk = Walk(bench.tally, server)
-        install(server)
-        walk.play(rows.BEGINNING)
+        server, walk = started(bench, "desk", tunnels=(Port(), 1000000))
         proxy = Nginx(bench.place.make("proxy"), Port(), server)
-        with Browser(bench.place.make("ada"), FOUND_HERE) as ada, Browser(bench.place.make("ben"), FOUND_HERE) as ben:
-            browsers = {"ada": ada, "ben": ben}
-            for who, part, steps in rows.PARTS:
-                bench.tally.title = f"the desk: {part}"
-                DeskVisit(bench, walk, browsers[who], folder, proxy.port).play(steps)
+        visited(bench, walk, folder, f"https://desk.{DOMAIN}:{proxy.port}/", FOUND_HERE)
         bench.same("the proxy ends in order", 0, proxy.stop(signal.SIGTERM))
         kill(bench, server)
 
