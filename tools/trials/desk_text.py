@@ -31,6 +31,8 @@ def parts_of(answer):
 def is_page(same, answer):
     """Compares an answer with what the desk's page is answered with, and gives its text."""
     status, lines, text = parts_of(answer)
+    names = [line.partition(":")[0].lower() for line in answer.decode().partition("\r\n\r\n")[0].split("\r\n")]
+    same("what stands twice in its head", [], sorted({name for name in names if names.count(name) > 1}))
     same("the page's status", "HTTP/1.1 200 OK", status)
     same("the lines of its head", LINES, {name: lines.get(name) for name in LINES})
     policy = f"default-src 'none'; {ALLOWED}; script-src {sum_in(text, 'script')}; style-src {sum_in(text, 'style')}"
@@ -41,7 +43,7 @@ def is_page(same, answer):
 
 
 def page(bench):
-    """The page of a server without accounts' doing: whole, its head alone, and where it isn't."""
+    """The page, for whoever asks: whole, its head alone, and where it isn't."""
     port = Port()
     talk = bench.talk(bench.place.make("page"), port, 7)
 
